@@ -1,0 +1,4 @@
+pub mod Canon
+pub mod Same
+pub mod Small
+pub mod Spelled

@@ -1,0 +1,32 @@
+//! Why a value has no canonical text.
+
+ghost use Rattle.std.specs.Prelude.{◌≡◌};
+ghost use Rattle.tough_base.specs.declared.cjson.error.CjsonError.TheVariants.{Memory};
+
+use std::alloc::{AllocError, AllocFailed};
+
+/// Why a value has no canonical text.
+#[derive(Clone, Copy, Debug, PartialEq, Eq, Drop)]
+pub enum CjsonError {
+    /// The value holds a number that is no whole number.
+    Float,
+    /// An object holds two names with one NFC.
+    SameName,
+    Memory,
+}
+
+impl From<AllocError> for CjsonError {
+    ghost from_gives = { λ _ e. e ≡ Memory };
+
+    fn from(_e: AllocError) -> CjsonError {
+        CjsonError::Memory
+    }
+}
+
+impl<T: Drop> From<AllocFailed<T>> for CjsonError {
+    ghost from_gives = { λ _ e. e ≡ Memory };
+
+    fn from(_e: AllocFailed<T>) -> CjsonError {
+        CjsonError::Memory
+    }
+}

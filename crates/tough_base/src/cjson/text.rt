@@ -1,0 +1,39 @@
+//! Texts, in quotes.
+
+ghost use Rattle.std.specs.Prelude.{◌≡◌, ◌++◌, [], ◌∷◌, OnOk, if◌then◌else◌};
+ghost use Rattle.tough_base.specs.Canon.{quoted, escaped_byte};
+
+use std::alloc::AllocError;
+
+/// Appends the bytes in quotes.
+pub(crate) fn append_quoted(out: &mut Vec<u8>, bytes: &[u8]) -> Result<(), AllocError>
+    ensures { OnOk result (out.new.items ≡ out.old.items ++ quoted bytes.now) }
+{
+    out.extend_from_slice(b"\"")?;
+    for byte in bytes {
+        append_escaped(out, *byte)?;
+    }
+    out.extend_from_slice(b"\"")
+}
+
+fn append_escaped(out: &mut Vec<u8>, byte: u8) -> Result<(), AllocError>
+    ensures { OnOk result (out.new.items ≡ out.old.items ++ escaped_byte byte) }
+{
+    if byte == b'"' || byte == b'\\' {
+        out.extend_from_slice(&[b'\\', byte])
+    } else {
+        out.extend_from_slice(&[byte])
+    }
+}
+
+/// Appends a comma, unless nothing stands before it.
+pub(crate) fn append_comma(out: &mut Vec<u8>, is_first: bool) -> Result<(), AllocError>
+    ensures { OnOk result
+        (out.new.items ≡ out.old.items ++ (if is_first then [] else 44 ∷ [])) }
+{
+    if is_first {
+        Ok(())
+    } else {
+        out.extend_from_slice(b",")
+    }
+}

@@ -1,0 +1,123 @@
+//! A value's text, level by level.
+
+ghost use Rattle.std.specs.Prelude.{◌≡◌, List, ◌++◌, ◌∷◌, [], map, string_bytes, OnOk, IfOk, IfErr};
+ghost use Rattle.serde_json.specs.Data as Data;
+ghost use Rattle.serde_json.specs.View.{view, number_view, items_view, members_view};
+ghost use Rattle.tough_base.specs.Canon.{Member, CanonMembers, IsInOrder, Appends, AppendsItems, AppendsMembers, Holds, AreItemsRefused, AreMembersRefused, nfc_text, joined, member_text, seen, quoted};
+
+use crate::cjson::error::CjsonError;
+use crate::cjson::text::{append_comma, append_quoted};
+use itoa::Buffer;
+use serde_json::{Map, Number, Value};
+use std::alloc::{AllocError, Global};
+use std::collections::BTreeMap;
+use unicode_normalization::to_nfc;
+
+/// Appends the value's text.
+#[cycle(write)]
+pub(crate) fn write(alloc: Global, out: &mut Vec<u8>, value: &Value) -> Result<(), CjsonError>
+    ensures ok { OnOk result (Appends (view value.now) out.old.items out.new.items) }
+    ensures err { IfErr result (λ e. Holds (view value.now) e) }
+{
+    match value {
+        Value::Null => Ok(out.extend_from_slice(b"null")?),
+        Value::Bool(true) => Ok(out.extend_from_slice(b"true")?),
+        Value::Bool(false) => Ok(out.extend_from_slice(b"false")?),
+        Value::Number(number) => write_number(out, number),
+        Value::String(text) => Ok(write_text(alloc, out, text.as_str())?),
+        Value::Array(items) => write_items(alloc, out, items),
+        Value::Object(members) => write_members(alloc, out, members),
+    }
+}
+
+#[cycle(write)]
+fn write_items(alloc: Global, out: &mut Vec<u8>, items: &Vec<Value>) -> Result<(), CjsonError>
+    ensures ok { OnOk result
+        (AppendsItems (items_view items.now.items) out.old.items out.new.items) }
+    ensures err { IfErr result (λ e. AreItemsRefused (items_view items.now.items) e) }
+{
+    out.extend_from_slice(b"[")?;
+    let mut is_first = true;
+    for item in items {
+        append_comma(out, is_first)?;
+        write(alloc, out, item)?;
+        is_first = false;
+    }
+    out.extend_from_slice(b"]")?;
+    Ok(())
+}
+
+#[cycle(write)]
+fn write_members(
+    alloc: Global,
+    out: &mut Vec<u8>,
+    members: &Map<String, Value>,
+) -> Result<(), CjsonError>
+    ensures ok { OnOk result
+        (AppendsMembers (members_view members.now.entries) out.old.items out.new.items) }
+    ensures err { IfErr result (λ e. AreMembersRefused (members_view members.now.entries) e) }
+{
+    let texts = member_texts(alloc, members)?;
+    write_texts(out, &texts)?;
+    Ok(())
+}
+
+/// The text of each member, under its name's NFC.
+#[cycle(write)]
+fn member_texts(
+    alloc: Global,
+    members: &Map<String, Value>,
+) -> Result<BTreeMap<String, Vec<u8>>, CjsonError>
+    ensures ok { IfOk result (λ m. (ps : List Member)
+        × CanonMembers (members_view members.now.entries) ps × IsInOrder ps (seen m.entries)) }
+    ensures err { IfErr result (λ e. AreMembersRefused (members_view members.now.entries) e) }
+{
+    let mut texts = BTreeMap::new(alloc);
+    for (key, member) in members.iter() {
+        let name = to_nfc(alloc, key.as_str())?;
+        let mut text = Vec::new(alloc);
+        write(alloc, &mut text, member)?;
+        if texts.insert(name, text)?.is_some() {
+            return Err(CjsonError::SameName);
+        }
+    }
+    Ok(texts)
+}
+
+/// Appends members in their order, in braces.
+fn write_texts(out: &mut Vec<u8>, texts: &BTreeMap<String, Vec<u8>>) -> Result<(), AllocError>
+    ensures { OnOk result (out.new.items ≡ out.old.items
+        ++ 123 ∷ (joined (map member_text (seen texts.now.entries)) ++ 125 ∷ [])) }
+{
+    out.extend_from_slice(b"{")?;
+    let mut is_first = true;
+    for (name, text) in texts.iter() {
+        append_comma(out, is_first)?;
+        append_quoted(out, name.as_bytes())?;
+        out.extend_from_slice(b":")?;
+        out.extend_from_slice(text)?;
+        is_first = false;
+    }
+    out.extend_from_slice(b"}")
+}
+
+fn write_text(alloc: Global, out: &mut Vec<u8>, text: &str) -> Result<(), AllocError>
+    ensures { OnOk result (out.new.items ≡ out.old.items ++ quoted (nfc_text text.now)) }
+{
+    let normal = to_nfc(alloc, text)?;
+    append_quoted(out, normal.as_bytes())
+}
+
+fn write_number(out: &mut Vec<u8>, number: &Number) -> Result<(), CjsonError>
+    ensures ok { OnOk result
+        (Appends (Data.number (number_view number.now)) out.old.items out.new.items) }
+    ensures err { IfErr result (λ e. Holds (Data.number (number_view number.now)) e) }
+{
+    match number.as_i128() {
+        Some(whole) => {
+            out.extend_from_slice(Buffer::new().format(whole).as_bytes())?;
+            Ok(())
+        }
+        None => Err(CjsonError::Float),
+    }
+}
