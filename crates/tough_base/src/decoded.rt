@@ -307,3 +307,6 @@ impl<T: Decode> Hash for Decoded<T> {
         self.bytes.hash(state);
     }
 }
+
+#[cfg(test)]
+mod tests;

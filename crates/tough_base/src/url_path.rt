@@ -21,3 +21,6 @@ impl SafeUrlPath for Url {
         self.path()
     }
 }
+
+#[cfg(test)]
+mod tests;
