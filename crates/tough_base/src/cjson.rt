@@ -12,9 +12,9 @@ pub mod laws;
 mod text;
 mod write;
 
-use crate::cjson::float::holds_float;
 use crate::cjson::write::write;
 pub use error::CjsonError;
+pub use float::holds_float;
 use serde_json::Value;
 use std::alloc::Global;
 

@@ -6,7 +6,7 @@ mod compat;
 mod decoded;
 mod url_path;
 
-pub use cjson::{CjsonError, canonical};
+pub use cjson::{CjsonError, canonical, holds_float};
 pub use compat::Compat;
 pub use decoded::{Decode, DecodeError, Decoded, EcdsaFlex, EcdsaPem, Encode, Hex, RsaPem};
 pub use url_path::SafeUrlPath;

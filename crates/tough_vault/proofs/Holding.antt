@@ -1,0 +1,103 @@
+-- What the files hold after a write.
+use Rattle.std.proofs.Common.{◌≡◌, ◌≢◌, ℕ, List, [], ◌∷◌, ◌++◌, Option, None, Some, Bool, false, slice_get, refl, sym, ap, ◌∙◌, inl, inr, nat_eq, length, arith}
+use Rattle.std.proofs.lemmas.Bool.Decides.{nat_tests}
+use Rattle.tough_vault.specs.Stored.{Files, SameElsewhere}
+use Rattle.tough_schema.specs.Signature.{SignedDoc}
+use Rattle.tough_schema.specs.Root.{RootDoc}
+use Rattle.tough_schema.specs.Timestamp.{TimestampDoc}
+use Rattle.tough_vault.specs.Files.{time_file, root_file, timestamp_file, snapshot_file, IsFree}
+use Rattle.tough_vault.specs.Documents.{root_text, timestamp_text}
+use Rattle.tough_vault.specs.Steps.{time_in, versions_in}
+use Rattle.tough_vault.specs.Journal.{Pair, Note, Noted, Root, Timestamp, Snapshot, Cleared, Document, Last, Roles, applied, last_root}
+use Rattle.tough_vault.specs.Parts.{Holds, NamesFree}
+use Rattle.tough_vault.proofs.Journals.{some_inj, last_root-append, get_append}
+
+not_eq : (a b : ℕ) → nat_eq a b ≡ false → a ≡ b → ⊥
+not_eq a b h x = absurd (grind (arith, nat_tests))
+
+-- two names of different lengths
+pub distinct : (a b : List ℕ) → nat_eq (length a) (length b) ≡ false → a ≢ b
+distinct a b h x = not_eq (length a) (length b) h (ap length x)
+
+module _ (files now : Files) (notes : List Note) (tip : Last)
+    (h : Holds files notes tip) (free : NamesFree notes) where
+  module _ (file : List ℕ) (same : SameElsewhere file files now) where
+    keep_time : time_file ≢ file → (t : ℤ) → tip.time ≡ Some t → (bytes : List ℕ) × (now time_file ≡ Some bytes) × (time_in bytes ≡ Some t)
+    keep_time ne t e = let p = h.time t e in (p.0, same time_file ne ∙ p.1, p.2)
+
+    keep_timestamp : timestamp_file ≢ file → (p : Pair) → tip.timestamp ≡ Some p → (d : SignedDoc TimestampDoc) × (now timestamp_file ≡ timestamp_text d) × (now timestamp_file ≢ None) × (versions_in d.role ≡ p)
+    keep_timestamp ne t e = let p = h.timestamp t e in (p.0, same timestamp_file ne ∙ p.1, λ x. p.2 (sym (same timestamp_file ne) ∙ x), p.3)
+
+    keep_root : root_file ≢ file → (v : ℕ) → last_root None notes ≡ Some v → (r : SignedDoc RootDoc) × (now root_file ≡ root_text r) × (now root_file ≢ None) × (r.role.head.version ≡ v)
+    keep_root ne v e = let p = h.root v e in (p.0, same root_file ne ∙ p.1, λ x. p.2 (sym (same root_file ne) ∙ x), p.3)
+
+    -- the documents' files stay there, where the written file is there or has no free name
+    keep_document : (k : ℕ) (name : List ℕ) → name ≢ file → slice_get notes k ≡ Some (Document name) → now name ≢ None
+    keep_document k name ne e x = h.documents k name e (sym (same name ne) ∙ x)
+
+  pub holds_noted : (t : ℤ) (bytes : List ℕ) → SameElsewhere time_file files now → now time_file ≡ Some bytes → time_in bytes ≡ Some t
+      → Holds now (notes ++ Noted t ∷ []) (applied tip (Noted t))
+  holds_noted t bytes same is reads = record {
+    time = λ u e. (bytes, is, reads ∙ e);
+    timestamp = keep_timestamp time_file same (distinct _ _ refl);
+    root = λ v e. keep_root time_file same (distinct _ _ refl) v (sym (last_root-append None notes (Noted t)) ∙ e);
+    documents = λ k name e. elim (get_append notes (Noted t) k (Document name) e) [ inl a ↦ keep_document time_file same k name (free k name a).time a | inr b ↦ absurd (cc (b)) ];
+  }
+
+  pub holds_timestamp : (d : SignedDoc TimestampDoc) (bytes : List ℕ) (had : Bool) → SameElsewhere timestamp_file files now → now timestamp_file ≡ Some bytes → timestamp_text d ≡ Some bytes
+      → Holds now (notes ++ Timestamp (versions_in d.role) had ∷ []) (applied tip (Timestamp (versions_in d.role) had))
+  holds_timestamp d bytes had same is t = record {
+    time = keep_time timestamp_file same (distinct _ _ refl);
+    timestamp = λ p e. (d, is ∙ sym t, λ x. cc (x, is), some_inj (versions_in d.role) p e);
+    root = λ v e. keep_root timestamp_file same (distinct _ _ refl) v (sym (last_root-append None notes (Timestamp (versions_in d.role) had)) ∙ e);
+    documents = λ k name e. elim (get_append notes (Timestamp (versions_in d.role) had) k (Document name) e) [ inl a ↦ keep_document timestamp_file same k name (free k name a).timestamp a | inr b ↦ absurd (cc (b)) ];
+  }
+
+  -- no file that is spoken of here is the snapshot's
+  pub holds_snapshot : (r : Roles) (had : Bool) → SameElsewhere snapshot_file files now
+      → Holds now (notes ++ Snapshot r had ∷ []) (applied tip (Snapshot r had))
+  holds_snapshot r had same = record {
+    time = keep_time snapshot_file same (distinct _ _ refl);
+    timestamp = keep_timestamp snapshot_file same (distinct _ _ refl);
+    root = λ v e. keep_root snapshot_file same (distinct _ _ refl) v (sym (last_root-append None notes (Snapshot r had)) ∙ e);
+    documents = λ k name e. elim (get_append notes (Snapshot r had) k (Document name) e) [ inl a ↦ keep_document snapshot_file same k name (free k name a).snapshot a | inr b ↦ absurd (cc (b)) ];
+  }
+
+  pub holds_root : (r : SignedDoc RootDoc) (bytes : List ℕ) → SameElsewhere root_file files now → now root_file ≡ Some bytes → root_text r ≡ Some bytes
+      → Holds now (notes ++ Root r.role.head.version ∷ []) (applied tip (Root r.role.head.version))
+  holds_root r bytes same is t = record {
+    time = keep_time root_file same (distinct _ _ refl);
+    timestamp = keep_timestamp root_file same (distinct _ _ refl);
+    root = λ v e. (r, is ∙ sym t, λ x. cc (x, is), some_inj r.role.head.version v (sym (last_root-append None notes (Root r.role.head.version)) ∙ e));
+    documents = λ k name e. elim (get_append notes (Root r.role.head.version) k (Document name) e) [ inl a ↦ keep_document root_file same k name (free k name a).root a | inr b ↦ absurd (cc (b)) ];
+  }
+
+  pub holds_document : (name bytes : List ℕ) → IsFree name → SameElsewhere name files now → now name ≡ Some bytes
+      → Holds now (notes ++ Document name ∷ []) (applied tip (Document name))
+  holds_document name bytes f same is = record {
+    time = keep_time name same (λ x. f.time (sym x));
+    timestamp = keep_timestamp name same (λ x. f.timestamp (sym x));
+    root = λ v e. keep_root name same (λ x. f.root (sym x)) v (sym (last_root-append None notes (Document name)) ∙ e);
+    documents = λ k other e gone.
+        let ne : other ≢ name = λ x. cc (gone, is, ap now x) in
+        elim (get_append notes (Document name) k (Document other) e) [ inl a ↦ keep_document name same k other ne a gone | inr b ↦ absurd (ne (cc (b))) ];
+  }
+
+  -- nothing was written
+  pub holds_same : ((name : List ℕ) → now name ≡ files name) → Holds now notes tip
+  holds_same same = record {
+    time = λ t e. let p = h.time t e in (p.0, same time_file ∙ p.1, p.2);
+    timestamp = λ t e. let p = h.timestamp t e in (p.0, same timestamp_file ∙ p.1, λ x. p.2 (sym (same timestamp_file) ∙ x), p.3);
+    root = λ v e. let p = h.root v e in (p.0, same root_file ∙ p.1, λ x. p.2 (sym (same root_file) ∙ x), p.3);
+    documents = λ k name e x. h.documents k name e (sym (same name) ∙ x);
+  }
+
+  pub holds_cleared : ((name : List ℕ) → name ≢ timestamp_file → name ≢ snapshot_file → now name ≡ files name)
+      → Holds now (notes ++ Cleared ∷ []) (applied tip Cleared)
+  holds_cleared same = record {
+    time = λ t e. let p = h.time t e in (p.0, same time_file (distinct _ _ refl) (distinct _ _ refl) ∙ p.1, p.2);
+    timestamp = λ p e. absurd (cc (e));
+    root = λ v e. let p = h.root v (sym (last_root-append None notes Cleared) ∙ e) in
+        let s = same root_file (distinct _ _ refl) (distinct _ _ refl) in (p.0, s ∙ p.1, λ x. p.2 (sym s ∙ x), p.3);
+    documents = λ k name e x. elim (get_append notes Cleared k (Document name) e) [ inl a ↦ h.documents k name a (sym (same name (free k name a).timestamp (free k name a).snapshot) ∙ x) | inr b ↦ absurd (cc (b)) ];
+  }

@@ -1,0 +1,88 @@
+-- What a legal journal says of any two of its entries.
+use Rattle.std.proofs.Common.{◌≡◌, ℕ, ℤ, ◌≤◌, ◌≤ℤ◌, List, [], ◌∷◌, ◌++◌, Option, None, Some, Bool, true, false, nat_le, refl, ap, ◌∙◌, subst, arith}
+use Rattle.std.proofs.lemmas.Bool.Decides.{nat_tests}
+use Rattle.std.specs.Int.Signed.{≤ℤ_refl}
+use Rattle.tough_vault.specs.Journal.{Pair, Item, version_in, Note, Noted, Root, Timestamp, Snapshot, Cleared, Document, Broken, Last, Roles, no_tip, applied, replay, Rises, Legal, NothingGoesBack, KeepsNames, PairAtMost, RolesAtMost, has_at_least, has_cleared}
+
+rises-behind : (tip : Last) (xs ys : List Note) → Rises tip (xs ++ ys) → Rises (replay tip xs) ys
+rises-behind tip [] ys h = h
+rises-behind tip (x ∷ xs) ys h = rises-behind (applied tip x) xs ys h.1
+
+pub legal : (notes : List Note) (tip : Last) → replay no_tip notes ≡ tip → Rises no_tip notes → Legal notes tip
+legal notes tip r h = record {
+  replays = r;
+  rises = λ before n after is. (rises-behind no_tip before (n ∷ after) (subst (λ (ns : List Note). Rises no_tip ns) is h)).0;
+}
+
+pair_trans : (p q r : Pair) → PairAtMost p q → PairAtMost q r → PairAtMost p r
+pair_trans p q r a b = (omega (arith, a.0, b.0), omega (arith, a.1, b.1))
+
+more : (v w : ℕ) (o : Option ℕ) → nat_le v w ≡ true → has_at_least w o ≡ true → has_at_least v o ≡ true
+more v w None h k = absurd (cc)
+more v w (Some u) h k = grind (arith, nat_tests)
+
+keeps_from : (v : ℕ) (name : List ℕ) (b c : List Item) (o : Option ℕ) → version_in b name ≡ o → has_at_least v o ≡ true → KeepsNames b c → has_at_least v (version_in c name) ≡ true
+keeps_from v name b c None e h k = absurd (cc)
+keeps_from v name b c (Some w) e h k = more v w (version_in c name) h (k name w e)
+
+names_trans : (a b c : List Item) → KeepsNames a b → KeepsNames b c → KeepsNames a c
+names_trans a b c h k name v e = keeps_from v name b c (version_in b name) refl (h name v e) k
+
+roles_trans : (p q r : Roles) → RolesAtMost p q → RolesAtMost q r → RolesAtMost p r
+roles_trans p q r a b = (omega (arith, a.0, b.0), names_trans p.items q.items r.items a.1 b.1)
+
+pair_refl : (p : Pair) → PairAtMost p p
+pair_refl p = (omega arith, omega arith)
+
+le_self : (v : ℕ) → nat_le v v ≡ true
+le_self v = grind (arith, nat_tests)
+
+at_least_self : (v : ℕ) (o : Option ℕ) → o ≡ Some v → has_at_least v o ≡ true
+at_least_self v o e = ap (has_at_least v) e ∙ le_self v
+
+roles_refl : (r : Roles) → RolesAtMost r r
+roles_refl r = (omega arith, λ name v e. at_least_self v (version_in r.items name) e)
+
+-- what the tip isn't below stays so up to the next clearing
+pair_stays : (p q : Pair) (tip : Last) (ys zs : List Note) (r : Pair) (b : Bool) → tip.timestamp ≡ Some q → PairAtMost p q → Rises tip (ys ++ Timestamp r b ∷ zs) → has_cleared ys ≡ false → PairAtMost p r
+pair_stays p q tip [] zs r b t a l n = pair_trans p q r a (l.0 q t)
+pair_stays p q tip (Noted u ∷ ys) zs r b t a l n = pair_stays p q (applied tip (Noted u)) ys zs r b t a l.1 n
+pair_stays p q tip (Root u ∷ ys) zs r b t a l n = pair_stays p q tip ys zs r b t a l.1 n
+pair_stays p q tip (Timestamp w o ∷ ys) zs r b t a l n = pair_stays p w (applied tip (Timestamp w o)) ys zs r b refl (pair_trans p q w a (l.0 q t)) l.1 n
+pair_stays p q tip (Snapshot w o ∷ ys) zs r b t a l n = pair_stays p q (applied tip (Snapshot w o)) ys zs r b t a l.1 n
+pair_stays p q tip (Cleared ∷ ys) zs r b t a l n = absurd (cc (n))
+pair_stays p q tip (Document d ∷ ys) zs r b t a l n = pair_stays p q tip ys zs r b t a l.1 n
+pair_stays p q tip (Broken ∷ ys) zs r b t a l n = pair_stays p q tip ys zs r b t a l.1 n
+
+roles_stay : (p q : Roles) (tip : Last) (ys zs : List Note) (r : Roles) (b : Bool) → tip.snapshot ≡ Some q → RolesAtMost p q → Rises tip (ys ++ Snapshot r b ∷ zs) → has_cleared ys ≡ false → RolesAtMost p r
+roles_stay p q tip [] zs r b t a l n = roles_trans p q r a (l.0 q t)
+roles_stay p q tip (Noted u ∷ ys) zs r b t a l n = roles_stay p q (applied tip (Noted u)) ys zs r b t a l.1 n
+roles_stay p q tip (Root u ∷ ys) zs r b t a l n = roles_stay p q tip ys zs r b t a l.1 n
+roles_stay p q tip (Timestamp w o ∷ ys) zs r b t a l n = roles_stay p q (applied tip (Timestamp w o)) ys zs r b t a l.1 n
+roles_stay p q tip (Snapshot w o ∷ ys) zs r b t a l n = roles_stay p w (applied tip (Snapshot w o)) ys zs r b refl (roles_trans p q w a (l.0 q t)) l.1 n
+roles_stay p q tip (Cleared ∷ ys) zs r b t a l n = absurd (cc (n))
+roles_stay p q tip (Document d ∷ ys) zs r b t a l n = roles_stay p q tip ys zs r b t a l.1 n
+roles_stay p q tip (Broken ∷ ys) zs r b t a l n = roles_stay p q tip ys zs r b t a l.1 n
+
+time_stays : (p q : ℤ) (tip : Last) (ys zs : List Note) (r : ℤ) → tip.time ≡ Some q → p ≤ℤ q → Rises tip (ys ++ Noted r ∷ zs) → p ≤ℤ r
+time_stays p q tip [] zs r t a l = omega (arith, a, l.0 q t)
+time_stays p q tip (Noted u ∷ ys) zs r t a l = time_stays p u (applied tip (Noted u)) ys zs r refl (omega (arith, a, l.0 q t)) l.1
+time_stays p q tip (Root u ∷ ys) zs r t a l = time_stays p q tip ys zs r t a l.1
+time_stays p q tip (Timestamp w o ∷ ys) zs r t a l = time_stays p q (applied tip (Timestamp w o)) ys zs r t a l.1
+time_stays p q tip (Snapshot w o ∷ ys) zs r t a l = time_stays p q (applied tip (Snapshot w o)) ys zs r t a l.1
+time_stays p q tip (Cleared ∷ ys) zs r t a l = time_stays p q (applied tip Cleared) ys zs r t a l.1
+time_stays p q tip (Document d ∷ ys) zs r t a l = time_stays p q tip ys zs r t a l.1
+time_stays p q tip (Broken ∷ ys) zs r t a l = time_stays p q tip ys zs r t a l.1
+
+pub nothing_goes_back : (notes : List Note) → Rises no_tip notes → NothingGoesBack notes
+nothing_goes_back notes h = record {
+  timestamps = λ xs ys zs p q a b is n.
+      let here = rises-behind no_tip xs (Timestamp p a ∷ (ys ++ Timestamp q b ∷ zs)) (subst (λ (ns : List Note). Rises no_tip ns) is h) in
+      pair_stays p p (applied (replay no_tip xs) (Timestamp p a)) ys zs q b refl (pair_refl p) here.1 n;
+  snapshots = λ xs ys zs p q a b is n.
+      let here = rises-behind no_tip xs (Snapshot p a ∷ (ys ++ Snapshot q b ∷ zs)) (subst (λ (ns : List Note). Rises no_tip ns) is h) in
+      roles_stay p p (applied (replay no_tip xs) (Snapshot p a)) ys zs q b refl (roles_refl p) here.1 n;
+  times = λ xs ys zs p q is.
+      let here = rises-behind no_tip xs (Noted p ∷ (ys ++ Noted q ∷ zs)) (subst (λ (ns : List Note). Rises no_tip ns) is h) in
+      time_stays p p (applied (replay no_tip xs) (Noted p)) ys zs q refl (≤ℤ_refl p) here.1;
+}

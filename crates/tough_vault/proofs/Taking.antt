@@ -1,0 +1,73 @@
+-- A step is its first part and its last part.
+use Rattle.std.proofs.Common.{ℕ, [], ◌∷◌, ◌++◌, Some, Result, Ok, Err, Bool, refl, sym, ap, ◌∙◌, subst}
+use Rattle.tough_vault.specs.Stored.{Files}
+use Rattle.tough_vault.specs.declared.entry.Receipt.{Receipt}
+use Rattle.tough_vault.specs.declared.parts.Prepared.{Prepared}
+use Rattle.tough_vault.specs.declared.checks.StepError.{StepError}
+use Rattle.tough_vault.specs.declared.checks.StepError.TheVariants.{Refused, DatastoreOpen, DatastoreCreate, DatastoreRemove, Memory}
+use Rattle.tough_vault.specs.Step.{Step, Parts, Takes}
+use Rattle.tough_vault.specs.Parts.{Prepares, Concludes}
+
+module _ {S : Type 0} (tells : Bool) (files : S → Files) (count : S → ℕ) (step : Step) (old new : Parts S) (mid : S) where
+  abbrev between : Parts S
+  between = record { store = mid; notes = old.notes; tip = old.tip }
+
+  refused : (e : StepError) → Prepares tells files count step old.store mid (Err e) → Takes tells files count step old between (Err e)
+  refused e p = record {
+    done = tt;
+    stored = tt;
+    why = p.why;
+    broken = λ x. absurd (p.early (cc (x)));
+    same = λ n. (refl, refl, p.same);
+    elsewhere = λ t name ne. p.same t name;
+  }
+
+  pub takes : (prepared : Result Prepared StepError) (result : Result Receipt StepError)
+      → Prepares tells files count step old.store mid prepared → Concludes tells files count step.file prepared between new result
+      → Takes tells files count step old new result
+  takes (Err e) result p c =
+      let r = c.refused in
+      subst (λ (n : Parts S). Takes tells files count step old n result) (sym r.1)
+      (subst (λ (x : Result Receipt StepError). Takes tells files count step old between x) (sym r.0) (refused e p))
+  takes (Ok q) (Ok r) p c =
+      let w = c.written in
+      let carries = p.ready.2 in
+      record {
+        done = (
+          p.ready.0,
+          record {
+            passes = p.ready.1;
+            noted = record { notes = w.done.0 ∙ ap (λ n. old.notes ++ n ∷ []) carries.entry; tip = w.done.1 ∙ carries.change old.tip };
+            receipt = record { number = w.done.2.number; entry = w.done.2.entry ∙ carries.receipt };
+          },
+        );
+        stored = λ t. w.stored t ∙ ap Some carries.bytes;
+        why = tt;
+        broken = λ x. absurd (cc);
+        same = tt;
+        elsewhere = λ t name ne. w.elsewhere t name ne ∙ p.same t name;
+      }
+  takes (Ok q) (Err DatastoreCreate) p c =
+      let w = c.written in
+      record {
+        done = tt;
+        stored = tt;
+        why = ((p.ready.0, p.ready.1), λ x. w.fault (x ∙ sym p.quiet));
+        broken = λ x. let b = w.broken refl in record { notes = b.notes; tip = b.tip };
+        same = λ n. absurd (n refl);
+        elsewhere = λ t name ne. w.elsewhere t name ne ∙ p.same t name;
+      }
+  takes (Ok q) (Err Memory) p c =
+      let w = c.written in
+      let s = w.same refl in
+      record {
+        done = tt;
+        stored = tt;
+        why = tt;
+        broken = λ x. absurd (cc);
+        same = λ n. (s.0, s.1, λ t name. s.2 t name ∙ p.same t name);
+        elsewhere = λ t name ne. w.elsewhere t name ne ∙ p.same t name;
+      }
+  takes (Ok q) (Err (Refused r)) p c = absurd c.written.fault
+  takes (Ok q) (Err DatastoreOpen) p c = absurd c.written.fault
+  takes (Ok q) (Err DatastoreRemove) p c = absurd c.written.fault

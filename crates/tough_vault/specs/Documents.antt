@@ -1,0 +1,39 @@
+-- Signed documents as the steps see them.
+use Rattle.std.specs.Prelude.{ℕ, List, [], ◌∷◌, Option, None, Some, option_and_then, Result, if◌then◌else◌}
+use Rattle.std.specs.Str.{bytes_eq}
+use Rattle.serde_json.specs.Data.{Data}
+use Rattle.serde_json.specs.Written.{has_float, compact_text}
+use Rattle.tough_base.specs.CanonicalText.{canonical_of}
+use Rattle.tough_json.specs.Results.{json_of}
+use Rattle.tough_schema.specs.Signature.{SignedDoc, signed_at, signed_json}
+use Rattle.tough_schema.specs.Root.{RootDoc, root_json}
+use Rattle.tough_schema.specs.Timestamp.{TimestampDoc, MetafileDoc, timestamp_at, timestamp_json}
+use Rattle.tough_keys.specs.Same.{Verifies}
+use Rattle.tough_schema.specs.Policy.{policy}
+use Rattle.tough_schema.specs.Verdict.{Refused, verdict}
+use Rattle.tough_schema.specs.declared.role_type.RoleType.TheVariants as role
+use Rattle.tough_vault.specs.Files.{snapshot_file}
+
+-- The text of a JSON value in a store: compact JSON (RFC 8259). A value that holds a float has none.
+abbrev pub stored_text : Data → Option (List ℕ)
+stored_text d = if has_float d then None else Some (compact_text d)
+
+-- the text of a signed document in a store, where it can be written
+abbrev pub root_text : SignedDoc RootDoc → Option (List ℕ)
+root_text d = option_and_then stored_text (signed_json root_json d)
+
+abbrev pub timestamp_text : SignedDoc TimestampDoc → Option (List ℕ)
+timestamp_text d = option_and_then stored_text (signed_json timestamp_json d)
+
+-- the signed timestamp that bytes are
+abbrev pub timestamp_in : List ℕ → Option (SignedDoc TimestampDoc)
+timestamp_in bytes = option_and_then (signed_at timestamp_at) (json_of bytes)
+
+-- what a root's verification of a signed timestamp answers
+abbrev pub timestamp_verdict : Verifies → RootDoc → SignedDoc TimestampDoc → Result Unit Refused
+timestamp_verdict verifies root d = verdict verifies (policy root role.Timestamp) (option_and_then canonical_of (timestamp_json d.role)) d.signatures
+
+-- what a document lists for a name: its first entry of the name
+abbrev pub metafile_in : List (List ℕ × MetafileDoc) → List ℕ → Option MetafileDoc
+metafile_in [] name = None
+metafile_in (e ∷ es) name = if bytes_eq e.0 name then Some e.1 else metafile_in es name

@@ -1,0 +1,11 @@
+pub mod Stored
+pub mod Memory
+pub mod Files
+pub mod Documents
+pub mod Journal
+pub mod Checks
+pub mod Step
+pub mod Steps
+pub mod Parts
+pub mod Props
+pub mod Vault

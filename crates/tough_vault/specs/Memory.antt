@@ -1,0 +1,6 @@
+use Rattle.std.specs.BTreeMap.{get_by_text}
+use Rattle.tough_vault.specs.Stored.{Files, content}
+use Rattle.tough_vault.specs.declared.memory.MemoryStore.{MemoryStore}
+
+abbrev pub memory_files : MemoryStore → Files
+memory_files m name = content (get_by_text m.files name)

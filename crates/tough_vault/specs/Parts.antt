@@ -1,0 +1,81 @@
+-- What a vault holds, and the parts of a step's work.
+use Rattle.std.specs.Prelude.{◌≡◌, ◌≢◌, ℕ, ℤ, List, [], ◌∷◌, ◌++◌, length, Option, None, Some, Result, Err, Bool, true, IfOk, IfErr, OnOk, IsErrOf, slice_get}
+use Rattle.tough_schema.specs.Signature.{SignedDoc}
+use Rattle.tough_schema.specs.Root.{RootDoc}
+use Rattle.tough_schema.specs.Timestamp.{TimestampDoc}
+use Rattle.tough_vault.specs.Stored.{Files, SameFiles, SameElsewhere}
+use Rattle.tough_vault.specs.declared.entry.Receipt.{Receipt}
+use Rattle.tough_vault.specs.declared.entry.Entry.{Entry}
+use Rattle.tough_vault.specs.declared.entry.Tip.{Tip}
+use Rattle.tough_vault.specs.declared.parts.Change.{Change}
+use Rattle.tough_vault.specs.declared.parts.Change.TheVariants as change
+use Rattle.tough_vault.specs.declared.parts.Prepared.{Prepared}
+use Rattle.tough_vault.specs.declared.checks.StepError.{StepError}
+use Rattle.tough_vault.specs.declared.checks.StepError.TheVariants.{DatastoreCreate, Memory}
+use Rattle.tough_vault.specs.Files.{time_file, root_file, timestamp_file, IsFree}
+use Rattle.tough_vault.specs.Documents.{root_text, timestamp_text}
+use Rattle.tough_vault.specs.Journal.{Pair, pair_of, Roles, roles_of, Note, Document, Broken, Last, applied, note_of, notes_of, tip_of, last_root}
+use Rattle.tough_vault.specs.Step.{Step, Parts, IsNoted, IsReceipt, Passes, Why}
+use Rattle.tough_vault.specs.Steps.{time_in, versions_in}
+
+abbrev pub parts : {S : Type 0} → S → List Entry → Tip → Parts S
+parts store journal tip = record { store = store; notes = notes_of journal; tip = tip_of tip }
+
+-- What the files of a vault hold, for each part of the tip and each entry that speaks of one.
+pub record Holds (files : Files) (notes : List Note) (tip : Last) : Type 0 where
+  -- `latest_known_time.json` reads as the tip's time
+  pub time : (t : ℤ) → tip.time ≡ Some t → (bytes : List ℕ) × (files time_file ≡ Some bytes) × (time_in bytes ≡ Some t)
+  -- `timestamp.json` is the text of a signed timestamp with the tip's versions
+  pub timestamp : (p : Pair) → tip.timestamp ≡ Some p → (d : SignedDoc TimestampDoc) × (files timestamp_file ≡ timestamp_text d) × (files timestamp_file ≢ None) × (versions_in d.role ≡ p)
+  -- `root.json` is the text of a signed root of the last Root entry's version
+  pub root : (v : ℕ) → last_root None notes ≡ Some v → (d : SignedDoc RootDoc) × (files root_file ≡ root_text d) × (files root_file ≢ None) × (d.role.head.version ≡ v)
+  -- each Document entry's file is there
+  pub documents : (k : ℕ) (name : List ℕ) → slice_get notes k ≡ Some (Document name) → files name ≢ None
+
+-- no Document entry has the name of one of the vault's own files
+abbrev pub NamesFree : List Note → Type 0
+NamesFree notes = (k : ℕ) (name : List ℕ) → slice_get notes k ≡ Some (Document name) → IsFree name
+
+-- the tip after a change
+abbrev pub changed : Change → Last → Last
+changed change.Nothing tip = tip
+changed (change.Time t) tip = record tip { time = Some t.nanosecond }
+changed (change.Timestamp p) tip = record tip { timestamp = Some (pair_of p) }
+changed (change.Snapshot v) tip = record tip { snapshot = Some (roles_of v) }
+changed change.Cleared tip = record tip { timestamp = None; snapshot = None }
+
+-- all that a write needs was made: the entry, its copies, and the bytes
+pub record Carries (note : Note) (text : List ℕ) (p : Prepared) : Type 0 where
+  pub entry : note_of p.entry ≡ note
+  pub receipt : note_of p.receipt ≡ note
+  pub change : (tip : Last) → changed p.change tip ≡ applied tip note
+  pub bytes : p.bytes.items ≡ text
+
+module _ {S : Type 0} (tells : Bool) (files : S → Files) (count : S → ℕ) where
+  -- The first part of a step: it reads and checks, and writes nothing.
+  pub record Prepares (step : Step) (old new : S) (result : Result Prepared StepError) : Type 0 where
+    pub ready : IfOk result (λ p. (found : Option (List ℕ)) × Passes tells files count step old found × Carries (step.entry found) step.bytes p)
+    pub why : IfErr result (Why tells files count step old new)
+    pub early : IfErr result (λ e. e ≢ DatastoreCreate)
+    pub quiet : OnOk result (count new ≡ count old)
+    pub same : tells ≡ true → SameFiles (files old) (files new)
+
+  -- a fault of a write
+  abbrev pub IsFault : S → S → StepError → Type 0
+  IsFault old new Memory = Unit {0}
+  IsFault old new DatastoreCreate = count new ≢ count old
+  IsFault old new _ = ⊥
+
+  -- The last part of a step: it writes what was prepared, and notes it.
+  pub record Writes (file : List ℕ) (p : Prepared) (old new : Parts S) (result : Result Receipt StepError) : Type 0 where
+    pub done : IfOk result (λ r. (new.notes ≡ old.notes ++ note_of p.entry ∷ []) × (new.tip ≡ changed p.change old.tip) × IsReceipt (length old.notes) (note_of p.receipt) r)
+    pub stored : OnOk result (tells ≡ true → files new.store file ≡ Some p.bytes.items)
+    pub fault : IfErr result (IsFault old.store new.store)
+    pub broken : IsErrOf result DatastoreCreate → IsNoted Broken old new
+    pub same : IsErrOf result Memory → (new.notes ≡ old.notes) × (new.tip ≡ old.tip) × (tells ≡ true → SameFiles (files old.store) (files new.store))
+    pub elsewhere : tells ≡ true → SameElsewhere file (files old.store) (files new.store)
+
+  -- The same where the first part may have refused: then nothing changes.
+  pub record Concludes (file : List ℕ) (prepared : Result Prepared StepError) (old new : Parts S) (result : Result Receipt StepError) : Type 0 where
+    pub refused : IfErr prepared (λ e. (result ≡ Err e) × (new ≡ old))
+    pub written : IfOk prepared (λ p. Writes file p old new result)

@@ -1,0 +1,82 @@
+-- The steps that write, each as the table of its refusals and what it writes and notes.
+use Rattle.std.specs.Prelude.{ℕ, ℤ, List, [], ◌∷◌, Option, None, Some, Bool, true, false, is_some, unwrap_or, option_map, option_and_then, Result, Ok, Err}
+use Rattle.tough_schema.specs.Signature.{SignedDoc}
+use Rattle.tough_schema.specs.Root.{RootDoc}
+use Rattle.tough_schema.specs.Timestamp.{TimestampDoc}
+use Rattle.tough_keys.specs.Same.{Verifies}
+use Rattle.tough_schema.specs.Verdict.{Refused}
+use Rattle.tough_json.specs.Results.{json_of}
+use Rattle.tough_json.specs.Reading.{instant, ◌>>=◌}
+use Rattle.tough_json.specs.Moment.{moment_text}
+use Rattle.serde_json.specs.Data as Data
+use Rattle.serde_json.specs.Written.{compact_text}
+use Rattle.tough_vault.specs.Files.{time_file, root_file, timestamp_file}
+use Rattle.tough_vault.specs.Documents.{root_text, timestamp_text, timestamp_in, timestamp_verdict}
+use Rattle.tough_vault.specs.Journal.{Pair, Noted, Root as RootNote, Timestamp, Document, Last}
+use Rattle.tough_vault.specs.Checks.{Reason, DatastoreSerialize, first_of, time_after, timestamp_first, timestamp_after, snapshot_version}
+use Rattle.tough_vault.specs.Step.{Step}
+
+abbrev pub versions_in : TimestampDoc → Pair
+versions_in t = record { version = t.head.version; snapshot = snapshot_version t }
+
+-- the text of an instant in a store: one JSON text
+abbrev pub time_text : ℤ → Option (List ℕ)
+time_text t = option_map (λ s. compact_text (Data.string s)) (moment_text t)
+
+-- the instant that bytes are
+abbrev pub time_in : List ℕ → Option ℤ
+time_in bytes = option_and_then instant (json_of bytes)
+
+abbrev pub stored_time : Option (List ℕ) → Option ℤ
+stored_time None = None
+stored_time (Some bytes) = time_in bytes
+
+-- what verification answered, on a document that reads
+abbrev pub if_verified : {A : Type 0} → Result Unit Refused → A → Option A
+if_verified (Ok u) a = Some a
+if_verified (Err r) a = None
+
+-- the stored document, where the file reads and the root verifies it
+abbrev pub stored_timestamp : Verifies → RootDoc → Option (List ℕ) → Option TimestampDoc
+stored_timestamp verifies root found = do
+  bytes ← found
+  d ← timestamp_in bytes
+  if_verified (timestamp_verdict verifies root d) d.role
+
+-- a document or an instant without a text is refused
+abbrev pub needs : Option (List ℕ) → Option Reason
+needs None = Some DatastoreSerialize
+needs (Some text) = None
+
+-- Notes the time, unless the stored one or the tip's is later.
+abbrev pub time_step : Last → ℤ → Step
+time_step tip now = record {
+  file = time_file;
+  reads = true;
+  before = None;
+  after = λ found. first_of (time_after (stored_time found) tip.time now ∷ needs (time_text now) ∷ []);
+  bytes = unwrap_or (time_text now) [];
+  entry = λ found. Noted now;
+}
+
+-- Stores a root.
+abbrev pub root_step : SignedDoc RootDoc → Step
+root_step root = record {
+  file = root_file;
+  reads = false;
+  before = needs (root_text root);
+  after = λ found. None;
+  bytes = unwrap_or (root_text root) [];
+  entry = λ found. RootNote root.role.head.version;
+}
+
+-- Accepts a timestamp (TUF specification 5.4).
+abbrev pub timestamp_step : Verifies → RootDoc → Last → SignedDoc TimestampDoc → ℤ → Bool → Step
+timestamp_step verifies root tip new start enforced = record {
+  file = timestamp_file;
+  reads = true;
+  before = timestamp_first (timestamp_verdict verifies root new) new.role;
+  after = λ found. timestamp_after (stored_timestamp verifies root found) tip.timestamp new.role start enforced;
+  bytes = unwrap_or (timestamp_text new) [];
+  entry = λ found. Timestamp (versions_in new.role) (is_some (stored_timestamp verifies root found));
+}

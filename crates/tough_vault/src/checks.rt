@@ -1,0 +1,299 @@
+//! The checks of the steps, in their order.
+
+ghost use Rattle.std.specs.Prelude.{◌≡◌, IsTrue, ◌↔◌};
+ghost use Rattle.tough_schema.specs.Signature.{signed_doc};
+ghost use Rattle.tough_schema.specs.Root.{root_doc};
+ghost use Rattle.tough_schema.specs.Timestamp.{timestamp_doc};
+ghost use Rattle.tough_vault.specs.Documents.{timestamp_verdict};
+ghost use Rattle.tough_vault.specs.Journal.{pair_of, pair_where, time_where};
+ghost use Rattle.tough_vault.specs.Checks.{Checked, expiry, later, time_after, snapshot_version, timestamp_form, timestamp_first, timestamp_older, timestamp_below, timestamp_against, timestamp_tip, timestamp_after, timestamp_where, enforces};
+
+use crate::entry::TimestampVersions;
+use jiff::Timestamp as Instant;
+use std::alloc::Global;
+use tough_schema::{Error, RoleType, Root, Signed, Timestamp, Verify};
+
+/// Whether a document that has expired is refused.
+#[derive(Clone, Copy, Debug, PartialEq, Eq, Drop)]
+pub enum ExpirationEnforcement {
+    /// It is refused.
+    Safe,
+    /// It is accepted.
+    Unsafe,
+}
+
+/// A check of a step that refused (TUF specification 5.3 to 5.6).
+#[derive(Debug, Drop)]
+pub enum Refusal {
+    /// A later time than this moment was noted before.
+    SystemTimeSteppedBackward {
+        /// This moment.
+        sys_time: Instant,
+        /// The later one.
+        latest_known_time: Instant,
+    },
+    /// What is to be stored has no JSON text.
+    DatastoreSerialize,
+    /// The document isn't signed as the root demands.
+    VerifyMetadata {
+        /// The document's role.
+        role: RoleType,
+        /// What was wrong.
+        source: Error,
+    },
+    /// The document hasn't the version under which it is listed.
+    VersionMismatch {
+        /// The document's role.
+        role: RoleType,
+        /// Its version.
+        fetched: u64,
+        /// The listed one.
+        expected: u64,
+    },
+    /// A timestamp doesn't list exactly one name.
+    TimestampMetaLength {
+        /// The timestamp's version.
+        version: u64,
+        /// How many names it lists.
+        meta_length: usize,
+    },
+    /// A timestamp doesn't list `snapshot.json`.
+    MissingSnapshotMeta {
+        /// The timestamp's version.
+        version: u64,
+    },
+    /// A snapshot doesn't list `targets.json`.
+    SnapshotTargetsMetaMissing {
+        /// The snapshot's version.
+        version: u64,
+    },
+    /// The document is older than one that was accepted before.
+    OlderMetadata {
+        /// The document's role.
+        role: RoleType,
+        /// The version that was accepted before.
+        current_version: u64,
+        /// The document's version.
+        new_version: u64,
+    },
+    /// The timestamp names an older snapshot than one that was accepted before.
+    OlderSnapshotInTimestamp {
+        /// The snapshot's version in the new timestamp.
+        snapshot_new: u64,
+        /// The new timestamp's version.
+        timestamp_new: u64,
+        /// The snapshot's version in the old timestamp.
+        snapshot_old: u64,
+        /// The old timestamp's version.
+        timestamp_old: u64,
+    },
+    /// A name that the old snapshot lists is missing from the new one.
+    SnapshotRoleMissing {
+        /// The name.
+        role: String,
+        /// The old snapshot's version.
+        old_version: u64,
+        /// The new snapshot's version.
+        new_version: u64,
+    },
+    /// The new snapshot lists a lower version for a name.
+    SnapshotRoleRollback {
+        /// The name.
+        role: String,
+        /// Its version in the old snapshot.
+        old_role_version: u64,
+        /// The old snapshot's version.
+        old_snapshot_version: u64,
+        /// Its version in the new snapshot.
+        new_role_version: u64,
+        /// The new snapshot's version.
+        new_snapshot_version: u64,
+    },
+    /// The document expired before the update began.
+    ExpiredMetadata {
+        /// The document's role.
+        role: RoleType,
+    },
+}
+
+/// Why a step was refused.
+#[derive(Debug, Drop)]
+pub enum StepError {
+    /// A check refused.
+    Refused(Refusal),
+    /// The store couldn't read the file.
+    DatastoreOpen,
+    /// The store couldn't write the file.
+    DatastoreCreate,
+    /// The store couldn't remove the file.
+    DatastoreRemove,
+    /// A request for memory was refused.
+    Memory,
+}
+
+/// The version of the snapshot that a timestamp names; 0 where it names none.
+pub(crate) fn snapshot_version(timestamp: &Timestamp) -> u64
+    ensures { result ≡ snapshot_version (timestamp_doc timestamp.now) }
+{
+    match timestamp.meta.get("snapshot.json") {
+        Some(snapshot) => snapshot.version.get(),
+        None => 0,
+    }
+}
+
+// A timestamp lists exactly `snapshot.json`.
+fn check_form(timestamp: &Timestamp) -> Result<(), StepError>
+    ensures { Checked (timestamp_form (timestamp_doc timestamp.now)) result }
+{
+    let version = timestamp.version.get();
+    let meta_length = timestamp.meta.len();
+    if meta_length != 1 {
+        return Err(StepError::Refused(Refusal::TimestampMetaLength {
+            version,
+            meta_length,
+        }));
+    }
+    if timestamp.meta.get("snapshot.json").is_none() {
+        return Err(StepError::Refused(Refusal::MissingSnapshotMeta { version }));
+    }
+    Ok(())
+}
+
+/// Before the stored timestamp is read.
+pub(crate) fn check_timestamp<V: Verify>(
+    alloc: Global,
+    verifier: &V,
+    root: &Root,
+    new: &Signed<Timestamp>,
+) -> Result<(), StepError>
+    ensures { Checked (timestamp_first (timestamp_verdict (V.verifies verifier.now) (root_doc root.now) (signed_doc timestamp_doc new.now)) (timestamp_doc new.now.signed)) result }
+{
+    match root.verify_role(alloc, new, verifier) {
+        Ok(()) => check_form(&new.signed),
+        Err(Error::Memory) => Err(StepError::Memory),
+        Err(source) => Err(StepError::Refused(Refusal::VerifyMetadata {
+            role: RoleType::Timestamp,
+            source,
+        })),
+    }
+}
+
+// The timestamp's version isn't lower than an older one's.
+fn check_not_older(old: u64, new: &Timestamp) -> Result<(), StepError>
+    ensures { Checked (timestamp_older old (timestamp_doc new.now)) result }
+{
+    let new_version = new.version.get();
+    if new_version < old {
+        return Err(StepError::Refused(Refusal::OlderMetadata {
+            role: RoleType::Timestamp,
+            current_version: old,
+            new_version,
+        }));
+    }
+    Ok(())
+}
+
+// The snapshot that the timestamp names isn't older than the one of an older timestamp.
+fn check_not_below(old: TimestampVersions, new: &Timestamp) -> Result<(), StepError>
+    ensures { Checked (timestamp_below (pair_of old) (timestamp_doc new.now)) result }
+{
+    let snapshot_new = snapshot_version(new);
+    if snapshot_new < old.snapshot {
+        return Err(StepError::Refused(Refusal::OlderSnapshotInTimestamp {
+            snapshot_new,
+            timestamp_new: new.version.get(),
+            snapshot_old: old.snapshot,
+            timestamp_old: old.version,
+        }));
+    }
+    Ok(())
+}
+
+// Against the stored timestamp.
+fn check_against(old: &Option<Timestamp>, new: &Timestamp) -> Result<(), StepError>
+    ensures { Checked (timestamp_against (timestamp_where old.now) (timestamp_doc new.now)) result }
+{
+    let Some(old) = old else {
+        return Ok(());
+    };
+    check_not_older(old.version.get(), new)?;
+    check_form(old)?;
+    let versions = TimestampVersions {
+        version: old.version.get(),
+        snapshot: snapshot_version(old),
+    };
+    check_not_below(versions, new)
+}
+
+// Against the tip.
+fn check_tip(tip: Option<TimestampVersions>, new: &Timestamp) -> Result<(), StepError>
+    ensures { Checked (timestamp_tip (pair_where tip) (timestamp_doc new.now)) result }
+{
+    let Some(tip) = tip else {
+        return Ok(());
+    };
+    check_not_older(tip.version, new)?;
+    check_not_below(tip, new)
+}
+
+/// The update began no later than the document expires, where that is enforced.
+pub(crate) fn check_expiry(
+    role: RoleType,
+    enforcement: ExpirationEnforcement,
+    start: Instant,
+    expires: Instant,
+) -> Result<(), StepError>
+    ensures { Checked (expiry role (enforces enforcement) start.nanosecond expires.nanosecond) result }
+{
+    match enforcement {
+        ExpirationEnforcement::Safe => {
+            if expires < start {
+                return Err(StepError::Refused(Refusal::ExpiredMetadata { role }));
+            }
+            Ok(())
+        }
+        ExpirationEnforcement::Unsafe => Ok(()),
+    }
+}
+
+/// After the stored timestamp was read: against it, against the tip, and expiry.
+pub(crate) fn check_timestamp_late(
+    old: &Option<Timestamp>,
+    tip: Option<TimestampVersions>,
+    new: &Timestamp,
+    start: Instant,
+    enforcement: ExpirationEnforcement,
+) -> Result<(), StepError>
+    ensures { Checked (timestamp_after (timestamp_where old.now) (pair_where tip) (timestamp_doc new.now) start.nanosecond (enforces enforcement)) result }
+{
+    check_against(old, new)?;
+    check_tip(tip, new)?;
+    check_expiry(RoleType::Timestamp, enforcement, start, new.expires)
+}
+
+// No later time was noted.
+fn check_not_later(known: Option<Instant>, now: Instant) -> Result<(), StepError>
+    ensures { Checked (later (time_where known) now.nanosecond) result }
+{
+    if let Some(latest_known_time) = known {
+        if now < latest_known_time {
+            return Err(StepError::Refused(Refusal::SystemTimeSteppedBackward {
+                sys_time: now,
+                latest_known_time,
+            }));
+        }
+    }
+    Ok(())
+}
+
+/// The stored time, then the tip's, isn't later.
+pub(crate) fn check_time(
+    stored: Option<Instant>,
+    tip: Option<Instant>,
+    now: Instant,
+) -> Result<(), StepError>
+    ensures { Checked (time_after (time_where stored) (time_where tip) now.nanosecond) result }
+{
+    check_not_later(stored, now)?;
+    check_not_later(tip, now)
+}

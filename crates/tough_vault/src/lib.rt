@@ -1,0 +1,18 @@
+//! Where a client keeps what it accepted, the steps by which that is replaced, and the journal of these.
+#![tactic(auto)]
+
+mod checks;
+mod document;
+mod entry;
+mod memory;
+mod parts;
+mod prepare;
+mod rotated;
+mod store;
+mod vault;
+
+pub use checks::{ExpirationEnforcement, Refusal, StepError};
+pub use entry::{Entry, ListedVersion, Receipt, SnapshotVersions, TimestampVersions, Tip};
+pub use memory::MemoryStore;
+pub use store::{Store, StoreError};
+pub use vault::Vault;

@@ -1,0 +1,69 @@
+//! A store in memory, which tells its files.
+
+ghost use Rattle.std.specs.Prelude.{◌≡◌, ℕ, List};
+ghost use Rattle.tough_vault.specs.Memory.{memory_files};
+
+use crate::store::{Store, StoreError};
+use std::alloc::Global;
+use std::collections::BTreeMap;
+
+/// Files in memory.
+#[derive(Drop)]
+pub struct MemoryStore {
+    alloc: Global,
+    files: BTreeMap<String, Vec<u8>>,
+}
+
+impl MemoryStore {
+    /// A store without files.
+    pub fn new(alloc: Global) -> MemoryStore
+        ensures { (name : List ℕ) → memory_files result name ≡ None }
+    {
+        MemoryStore {
+            alloc,
+            files: BTreeMap::new(alloc),
+        }
+    }
+}
+
+impl Store for MemoryStore {
+    ghost use Rattle.std.specs.Prelude.{true};
+
+    ghost tells = { true };
+
+    ghost files = { memory_files };
+
+    ghost count = { λ s. 0 };
+
+    fn read(&mut self, alloc: Global, name: &str) -> Result<Option<Vec<u8>>, StoreError> {
+        let Some(bytes) = self.files.get(name) else {
+            return Ok(None);
+        };
+        match bytes.to_vec(alloc) {
+            Ok(copy) => Ok(Some(copy)),
+            Err(_) => Err(StoreError::Memory),
+        }
+    }
+
+    fn write(&mut self, name: &str, bytes: &[u8]) -> Result<(), StoreError> {
+        let Ok(copy) = bytes.to_vec(self.alloc) else {
+            return Err(StoreError::Memory);
+        };
+        let Ok(key) = String::from_str(self.alloc, name) else {
+            return Err(StoreError::Memory);
+        };
+        match self.files.insert(key, copy) {
+            Ok(_) => Ok(()),
+            Err(_) => Err(StoreError::Memory),
+        }
+    }
+
+    fn remove(&mut self, name: &str) -> Result<(), StoreError> {
+        self.files.remove(name);
+        Ok(())
+    }
+
+    fn failures(&self) -> u64 {
+        0
+    }
+}

@@ -1,0 +1,114 @@
+//! The first part of each step: it reads and checks, and makes all that the write needs.
+
+ghost use Rattle.std.specs.Prelude.{◌≡◌, IfOk, Some};
+ghost use Rattle.tough_schema.specs.Signature.{signed_doc};
+ghost use Rattle.tough_schema.specs.Root.{root_doc};
+ghost use Rattle.tough_schema.specs.Timestamp.{timestamp_doc};
+ghost use Rattle.tough_vault.specs.Stored.{content};
+ghost use Rattle.tough_vault.specs.Journal.{tip_of, time_where};
+ghost use Rattle.tough_vault.specs.Checks.{timestamp_where, enforces};
+ghost use Rattle.tough_vault.specs.Steps.{time_step, root_step, timestamp_step, stored_timestamp, stored_time};
+ghost use Rattle.tough_vault.specs.Parts.{Prepares};
+
+use crate::checks::{
+    ExpirationEnforcement, Refusal, StepError, check_time, check_timestamp, check_timestamp_late,
+    snapshot_version,
+};
+use crate::document::document_bytes;
+use crate::entry::{Entry, TimestampVersions, Tip};
+use crate::parts::{Change, Prepared};
+use crate::store::{Store, StoreError};
+use jiff::Timestamp as Instant;
+use std::alloc::{AllocError, Global};
+use tough_schema::{Error, ReadError, Root, Signed, Timestamp, Verify, WriteError};
+
+pub(crate) const ROOT: &str = "root.json";
+
+pub(crate) const TIMESTAMP: &str = "timestamp.json";
+
+pub(crate) const SNAPSHOT: &str = "snapshot.json";
+
+// The stored timestamp, where the file reads and the root verifies it. The only refusal is want of memory.
+fn read_timestamp<V: Verify>(
+    alloc: Global,
+    verifier: &V,
+    root: &Root,
+    found: &Option<Vec<u8>>,
+) -> Result<Option<Timestamp>, AllocError>
+    ensures { IfOk result (λ old. timestamp_where old ≡ stored_timestamp (V.verifies verifier.now) (root_doc root.now) (content found.now)) }
+{
+    let Some(bytes) = found else {
+        return Ok(None);
+    };
+    let signed = match Signed::<Timestamp>::read(alloc, bytes.as_slice()) {
+        Ok(signed) => signed,
+        Err(ReadError::Memory) => return Err(AllocError),
+        Err(_) => return Ok(None),
+    };
+    match root.verify_role(alloc, &signed, verifier) {
+        Ok(()) => Ok(Some(signed.signed)),
+        Err(Error::Memory) => Err(AllocError),
+        Err(_) => Ok(None),
+    }
+}
+
+pub(crate) fn prepare_root(
+    alloc: Global,
+    root: &Signed<Root>,
+) -> Result<Prepared, StepError>
+{
+    let bytes = match document_bytes(alloc, root) {
+        Ok(bytes) => bytes,
+        Err(WriteError::Unwritable) => return Err(StepError::Refused(Refusal::DatastoreSerialize)),
+        Err(WriteError::Memory) => return Err(StepError::Memory),
+    };
+    let version = root.signed.version.get();
+    Ok(Prepared {
+        bytes,
+        entry: Entry::Root(version),
+        receipt: Entry::Root(version),
+        change: Change::Nothing,
+    })
+}
+
+pub(crate) fn prepare_timestamp<S: Store, V: Verify>(
+    alloc: Global,
+    store: &mut S,
+    tip: &Tip,
+    verifier: &V,
+    root: &Root,
+    new: &Signed<Timestamp>,
+    start: Instant,
+    enforcement: ExpirationEnforcement,
+) -> Result<Prepared, StepError>
+    ensures { Prepares S.tells S.files S.count (timestamp_step (V.verifies verifier.now) (root_doc root.now) (tip_of tip.now) (signed_doc timestamp_doc new.now) start.nanosecond (enforces enforcement)) store.old store.new result }
+{
+    if let Err(error) = check_timestamp(alloc, verifier, root, new) {
+        return Err(error);
+    }
+    let found = match store.read(alloc, TIMESTAMP) {
+        Ok(found) => found,
+        Err(StoreError::Failed) => return Err(StepError::DatastoreOpen),
+        Err(StoreError::Memory) => return Err(StepError::Memory),
+    };
+    let Ok(old) = read_timestamp(alloc, verifier, root, &found) else {
+        return Err(StepError::Memory);
+    };
+    if let Err(error) = check_timestamp_late(&old, tip.timestamp, &new.signed, start, enforcement) {
+        return Err(error);
+    }
+    let Ok(bytes) = document_bytes(alloc, new) else {
+        return Err(StepError::Memory);
+    };
+    let versions = TimestampVersions {
+        version: new.signed.version.get(),
+        snapshot: snapshot_version(&new.signed),
+    };
+    let had_stored = old.is_some();
+    Ok(Prepared {
+        bytes,
+        entry: Entry::Timestamp(versions, had_stored),
+        receipt: Entry::Timestamp(versions, had_stored),
+        change: Change::Timestamp(versions),
+    })
+}

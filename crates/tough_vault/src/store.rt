@@ -1,0 +1,50 @@
+//! Where documents are kept: files by name, as a device of the caller's.
+ghost use Rattle.std.specs.Prelude.{◌≡◌, ℕ, List, Option, Bool, true, IfOk, OnOk, IsErrOf};
+ghost use Rattle.tough_vault.specs.Stored.{Files, Is, content, SameFiles, SameElsewhere, HasCause};
+
+use std::alloc::Global;
+
+/// Why a store didn't do what it was asked.
+#[derive(Clone, Copy, Debug, PartialEq, Eq, Drop)]
+pub enum StoreError {
+    /// The device failed.
+    Failed,
+    /// A request for memory was refused.
+    Memory,
+}
+
+/// Files by name. A store that tells nothing promises nothing of them.
+pub trait Store {
+    /// Whether the store tells its files.
+    ghost tells: { Bool };
+
+    /// The files, where it tells them.
+    ghost files: { Self → Files };
+
+    /// How often the device failed, modulo 2^64.
+    ghost count: { Self → ℕ };
+
+    /// The file's bytes, if it is there.
+    fn read(&mut self, alloc: Global, name: &str) -> Result<Option<Vec<u8>>, StoreError>
+        ensures found { IfOk result (λ found. tells ≡ true → content found ≡ files self.old name.now) }
+        ensures same { tells ≡ true → SameFiles (files self.old) (files self.new) }
+        ensures cause { HasCause (count self.old) (count self.new) result };
+
+    /// Replaces the whole file. After `Failed` it may hold anything or be missing.
+    fn write(&mut self, name: &str, bytes: &[u8]) -> Result<(), StoreError>
+        ensures written { OnOk result (tells ≡ true → files self.new name.now ≡ Is bytes.now) }
+        ensures elsewhere { tells ≡ true → SameElsewhere name.now (files self.old) (files self.new) }
+        ensures memory { IsErrOf result StoreError.Memory → tells ≡ true → SameFiles (files self.old) (files self.new) }
+        ensures cause { HasCause (count self.old) (count self.new) result };
+
+    /// A file that is missing is removed already.
+    fn remove(&mut self, name: &str) -> Result<(), StoreError>
+        ensures removed { OnOk result (tells ≡ true → files self.new name.now ≡ None) }
+        ensures elsewhere { tells ≡ true → SameElsewhere name.now (files self.old) (files self.new) }
+        ensures memory { IsErrOf result StoreError.Memory → tells ≡ true → SameFiles (files self.old) (files self.new) }
+        ensures cause { HasCause (count self.old) (count self.new) result };
+
+    /// How often the device failed, modulo 2^64.
+    fn failures(&self) -> u64
+        ensures { result ≡ count self.now };
+}

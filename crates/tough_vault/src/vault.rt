@@ -1,0 +1,105 @@
+//! A store, with the journal of what was accepted from it.
+
+ghost use Rattle.std.specs.Prelude.{◌≡◌, List, [], true, false};
+ghost use Rattle.tough_schema.specs.Signature.{signed_doc};
+ghost use Rattle.tough_schema.specs.Root.{root_doc};
+ghost use Rattle.tough_schema.specs.Timestamp.{timestamp_doc};
+ghost use Rattle.tough_vault.specs.Checks.{enforces};
+ghost use Rattle.tough_vault.specs.Journal.{no_tip, replay, Rises, Legal, NothingGoesBack, has_broken, notes_of, tip_of};
+ghost use Rattle.tough_vault.specs.Step.{Takes, Clears};
+ghost use Rattle.tough_vault.specs.Steps.{time_step, root_step, timestamp_step};
+ghost use Rattle.tough_vault.specs.Parts.{Holds, NamesFree};
+ghost use Rattle.tough_vault.specs.Props.{Rises-prop, replays-prop};
+
+use crate::checks::{ExpirationEnforcement, StepError};
+use crate::entry::{Entry, Receipt, Tip};
+use crate::parts::conclude;
+use crate::prepare::{TIMESTAMP, prepare_timestamp};
+use crate::store::Store;
+use jiff::Timestamp as Instant;
+use std::alloc::Global;
+use tough_schema::{Root, Signed, Timestamp, Verify};
+
+/// A store, what was accepted from it, and the tip of that.
+#[derive(Drop)]
+pub struct Vault<S: Store> {
+    alloc: Global,
+    store: S,
+    journal: Vec<Entry>,
+    tip: Tip,
+    ghost replays: { replay no_tip (notes_of journal.items) ≡ tip_of tip } by { replays-prop _ _ },
+    ghost rises: { Rises no_tip (notes_of journal.items) } by { Rises-prop _ _ },
+    ghost free: { NamesFree (notes_of journal.items) },
+    ghost holds: { S.tells ≡ true → has_broken (notes_of journal.items) ≡ false → ∥ Holds (S.files store) (notes_of journal.items) (tip_of tip) ∥₁ },
+}
+
+impl<S: Store> Vault<S> {
+    ghost use Rattle.tough_vault.specs.Vault.{parts_of, store_of, journal_of, notes_in, tip_in, files_in};
+
+    /// A vault over a store. Nothing is known of what the store holds.
+    pub fn new(alloc: Global, store: S) -> Vault<S>
+        ensures store { store_of result ≡ store }
+        ensures journal { notes_in result ≡ [] }
+        ensures tip { tip_in result ≡ no_tip }
+    {
+        Vault {
+            alloc,
+            store,
+            journal: Vec::new(alloc),
+            tip: Tip::absent(),
+        }
+    }
+
+    /// All entries, the first one first. Replaying them gives the tip, no entry is below what those before it leave,
+    /// and of two accepted documents with no clearing between them the later isn't older.
+    pub fn journal(&self) -> &[Entry]
+        ensures entries { result.now ≡ journal_of self.now }
+        ensures legal { Legal (notes_in self.now) (tip_in self.now) }
+        ensures rising { NothingGoesBack (notes_in self.now) }
+    {
+        self.journal.as_slice()
+    }
+
+    /// What was accepted last. Where no write failed, the files of a store that tells them hold it.
+    pub fn tip(&self) -> &Tip
+        ensures tip { tip_of result.now ≡ tip_in self.now }
+        ensures holds { S.tells ≡ true → has_broken (notes_in self.now) ≡ false → ∥ Holds (files_in S.files self.now) (notes_in self.now) (tip_in self.now) ∥₁ }
+    {
+        &self.tip
+    }
+
+    /// Accepts a timestamp (TUF specification 5.4), and stores it as `timestamp.json`.
+    ///
+    /// It refuses, in this order: `VerifyMetadata`; `TimestampMetaLength` unless it lists one name;
+    /// `MissingSnapshotMeta`; `DatastoreOpen`; against a stored timestamp that the root verifies `OlderMetadata`, the
+    /// stored one's `TimestampMetaLength` and `MissingSnapshotMeta`, and `OlderSnapshotInTimestamp`; against the tip
+    /// `OlderMetadata` and `OlderSnapshotInTimestamp`; `ExpiredMetadata` where `start` is past its expiry and that is
+    /// enforced; `DatastoreCreate`.
+    pub fn advance_timestamp<V: Verify>(
+        &mut self,
+        root: &Root,
+        new: &Signed<Timestamp>,
+        start: Instant,
+        enforcement: ExpirationEnforcement,
+        verifier: &V,
+    ) -> Result<Receipt, StepError>
+        ensures { Takes S.tells S.files S.count (timestamp_step (V.verifies verifier.now) (root_doc root.now) (tip_in self.old) (signed_doc timestamp_doc new.now) start.nanosecond (enforces enforcement)) (parts_of self.old) (parts_of self.new) result }
+    {
+        let Vault {
+            alloc,
+            store,
+            journal,
+            tip,
+        } = self;
+        let prepared = prepare_timestamp(*alloc, store, tip, verifier, root, new, start, enforcement);
+        conclude(store, journal, tip, TIMESTAMP, prepared)
+    }
+
+    /// The store.
+    pub fn into_store(self) -> S
+        ensures { result ≡ store_of self }
+    {
+        let Vault { store, .. } = self;
+        store
+    }
+}
