@@ -1,0 +1,18 @@
+use Rattle.std.proofs.Common.{string_bytes, rules}
+use Rattle.jiff_fmt.specs.Text.{date_text, time_text}
+use Rattle.tough_json.specs.Moment.{decimals}
+use Rattle.tough_json.proofs.MomentLemmas.{is_shown, not_shown, civil_text-parts, parse_timestamp-moment}
+use Rattle.tough_json.proofs.moment.moment_text.Goals as goal
+
+pub returns-then-year-lt0-clause-err : goal.returns-then-year-lt0-clause-err
+returns-then-year-lt0-clause-err c = (c.to_datetime-civil.result, search rules, not_shown c.to_datetime-civil.result.date.year (search rules))
+
+pub returns-clause-ok : goal.returns-clause-ok
+returns-clause-ok c =
+    let d = c.to_datetime-civil.result in
+    let text = civil_text-parts (string_bytes c.new-out.result) (date_text d.date) (time_text (decimals d.time.subsec_nanosecond) d.time)
+        (string_bytes c.push_date.new.out) (string_bytes c.push.new.self) (string_bytes c.push_time.new.out) (string_bytes c.push-2.new.self) (search rules) (search rules) (search rules) (search rules) (search rules) in
+    (d, search rules, is_shown d.date.year (search rules), text)
+
+pub returns-clause-back : goal.returns-clause-back
+returns-clause-back c = parse_timestamp-moment c.args.instant.nanosecond (string_bytes c.push-2.new.self) c.args.instant.in_range (returns-clause-ok c)
