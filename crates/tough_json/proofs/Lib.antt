@@ -5,3 +5,4 @@ pub mod NamedLemmas
 pub mod ListLemmas
 pub mod MomentLemmas
 pub mod Fractions
+pub mod MomentText

@@ -10,8 +10,6 @@ use Rattle.jiff_core.specs.declared.error.Syntax.TheVariants as Syntax
 use Rattle.jiff_core.specs.declared.error.Bound.TheVariants as Bd
 use Rattle.jiff_core.specs.DateTime.{civil_nanos}
 use Rattle.jiff_core.specs.Timestamp.{IsTimestampNanos, nanos_of_seconds}
-use Rattle.jiff_core.proofs.DateLemmas.{epoch_day_injective}
-use Rattle.jiff_core.proofs.DateTimeLemmas.{civil_nanos_injective, time_nanos_injective}
 use Rattle.jiff_core.proofs.SignedLemmas.{signed_arith}
 use Rattle.jiff_fmt.specs.Reader.{temporal_fraction}
 use Rattle.jiff_fmt.specs.Text.{pad2, date_text, time_text, datetime_text, fraction_part}
@@ -19,7 +17,7 @@ use Rattle.jiff_fmt.specs.Temporal.{date_spec, date_parts, temporal_datetime, ti
 use Rattle.jiff_fmt.specs.Temporal as spec
 use Rattle.jiff_fmt.proofs.TemporalLemmas.{instant-ok}
 use Rattle.jiff_fmt.proofs.RoundTrip.{Stops, date_spec-text, field-pad2, offset-zulu, annotations-empty}
-use Rattle.tough_json.specs.Moment.{decimals, civil_text, IsShown, IsMoment, IsBeforeAll}
+use Rattle.tough_json.specs.Moment.{decimals, civil_text, IsShown, IsMoment}
 use Rattle.tough_json.proofs.Fractions.{nanoseconds-places}
 
 stops-digit : (rest : List ℕ) → Stops rest → prefix_len is_ascii_digit rest ≡ 0
@@ -100,21 +98,6 @@ parse_timestamp-civil_text dt z e range =
 
 pub parse_timestamp-moment : (z : ℤ) (text : List ℕ) → IsTimestampNanos z → IsMoment z text → parse_timestamp text ≡ Ok z
 parse_timestamp-moment z text range m = rw m.3 (parse_timestamp-civil_text m.0 z m.1 range)
-
--- one instant has one text
-pub one-moment : (z : ℤ) (s t : List ℕ) → IsMoment z s → IsMoment z t → s ≡ t
-one-moment z s t m n =
-    let parts = civil_nanos_injective m.0 n.0 (m.1 ∙ sym n.1) in
-    let date = epoch_day_injective m.0.date n.0.date parts.0 in
-    let time = time_nanos_injective m.0.time n.0.time parts.1 in
-    m.3 ∙ rw (date.0, date.1, date.2, time.0, time.1, time.2, time.3) refl ∙ sym n.3
-
--- an instant that has a text is not before them all
-pub moment-shown : (z : ℤ) (s : List ℕ) → IsMoment z s → IsBeforeAll z → ⊥
-moment-shown z s m b =
-    let parts = civil_nanos_injective m.0 b.0 (m.1 ∙ sym b.1) in
-    let date = epoch_day_injective m.0.date b.0.date parts.0 in
-    b.2 (subst IsShown date.0 m.2)
 
 pub is_shown : (y : ℤ) → pos 0 ≤ℤ y → IsShown y
 is_shown (pos n) h = tt

@@ -1,7 +1,8 @@
 //! Instants as text.
 
-ghost use Rattle.std.specs.Prelude.{◌≡◌, ◌<◌, ◌≤◌, ◌++◌, List, ℕ, ℤ, Ok, IfOk, IfErr, OnOk, string_bytes};
-ghost use Rattle.tough_json.specs.Moment.{IsMoment, IsBeforeAll, IsShown, IsRefused, decimals};
+ghost use Rattle.std.specs.Prelude.{◌≡◌, ◌<◌, ◌≤◌, ◌++◌, List, ℕ, ℤ, Ok, Some, None, IfOk, OnOk, string_bytes};
+ghost use Rattle.tough_json.specs.Moment.{IsMoment, IsBeforeAll, IsShown, WritesMoment, decimals, moment_text};
+ghost use Rattle.jiff_core.specs.Timestamp.{IsTimestampNanos};
 ghost use Rattle.jiff_fmt.specs.Text.{pad2, date_text, places, time_text};
 ghost use Rattle.jiff_fmt.specs.Temporal.{parse_timestamp};
 
@@ -83,9 +84,12 @@ fn push_time(out: &mut String, time: Time) -> Result<(), AllocError>
     }
 }
 
+/// Why an instant has no text.
 #[derive(Debug, Drop)]
 pub enum MomentError {
+    /// Its year is before 0.
     Year,
+    /// A request for memory was refused.
     Memory,
 }
 
@@ -99,11 +103,10 @@ impl From<AllocError> for MomentError {
     }
 }
 
-/// The instant as text, which is read as the same instant; none before the year 0000.
+/// The text of an instant: RFC 3339 in UTC, with 0, 3, 6 or 9 decimals; `Year` where four digits don't show the year.
 pub fn moment_text(alloc: Global, instant: Timestamp) -> Result<String, MomentError>
-    ensures ok { IfOk result (λ s. IsMoment instant.nanosecond (string_bytes s)) }
+    ensures text { WritesMoment result (moment_text instant.nanosecond) }
     ensures back { IfOk result (λ s. parse_timestamp (string_bytes s) ≡ Ok instant.nanosecond) }
-    ensures err { IfErr result (λ e. IsRefused instant.nanosecond e) }
 {
     let civil = Offset::UTC.to_datetime(instant);
     if civil.year() < 0 {
@@ -117,8 +120,9 @@ pub fn moment_text(alloc: Global, instant: Timestamp) -> Result<String, MomentEr
     Ok(out)
 }
 
-/// An instant has one text at most, and none where it is refused for its year.
-pub fn one_text()
-    ensures one { (z : ℤ) (s t : List ℕ) → IsMoment z s → IsMoment z t → s ≡ t }
-    ensures shown { (z : ℤ) (s : List ℕ) → IsMoment z s → IsBeforeAll z → ⊥ }
+/// The text of an instant is that of the date and time which a clock in UTC shows, and is read as that instant.
+pub fn moment_laws()
+    ensures shown { (z : ℤ) (text : List ℕ) → IsMoment z text → moment_text z ≡ Some text }
+    ensures before { (z : ℤ) → IsBeforeAll z → moment_text z ≡ None }
+    ensures back { (z : ℤ) (text : List ℕ) → IsTimestampNanos z → IsMoment z text → parse_timestamp text ≡ Ok z }
 {}
