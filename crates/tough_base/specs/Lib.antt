@@ -1,4 +1,5 @@
 pub mod Canon
+pub mod CanonicalText
 pub mod Same
 pub mod Small
 pub mod Spelled

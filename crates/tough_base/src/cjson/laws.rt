@@ -1,10 +1,11 @@
 //! What the definitions promise of every value.
 
-ghost use Rattle.std.specs.Prelude.{◌≡◌, ◌↔◌, ◌∷◌, [], ℕ, List, false, true};
+ghost use Rattle.std.specs.Prelude.{◌≡◌, ◌↔◌, ◌∷◌, [], ℕ, List, Some, false, true};
 ghost use Rattle.serde_json.specs.Data as Data;
 ghost use Rattle.serde_json.specs.Data.{object, member, no_members};
 ghost use Rattle.serde_json.specs.Written.{has_float};
 ghost use Rattle.tough_base.specs.Canon.{Canon, shares_name};
+ghost use Rattle.tough_base.specs.CanonicalText.{canonical_of};
 ghost use Rattle.tough_base.specs.Small.{IsSmall};
 ghost use Rattle.tough_base.specs.Same.{Same};
 
@@ -16,6 +17,11 @@ pub fn same_text()
 /// A value has one text at most.
 pub fn one_text()
     ensures { (v : Data.Data) (s t : List ℕ) → Canon v s → Canon v t → s ≡ t }
+{}
+
+/// The text is computed: `canonical_of` gives it, exactly where there is one.
+pub fn computed_text()
+    ensures { (v : Data.Data) (t : List ℕ) → (canonical_of v ≡ Some t) ↔ Canon v t }
 {}
 
 /// What has a text holds no float, and no object in it has two names with one NFC.
