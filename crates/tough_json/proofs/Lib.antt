@@ -6,3 +6,4 @@ pub mod ListLemmas
 pub mod MomentLemmas
 pub mod Fractions
 pub mod MomentText
+pub mod JsonLemmas

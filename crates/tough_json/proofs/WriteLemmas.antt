@@ -9,7 +9,7 @@ use Rattle.serde_json.specs.Data.{Data, string, Members, no_members, member, put
 use Rattle.serde_json.specs.Find.{get_member}
 use Rattle.serde_json.proofs.Views.{get_member-put}
 use Rattle.tough_json.specs.Reading.{◌>>=◌, without, required, optional, unless_null, hexadecimal, decoded, positive, whole, each, all_at}
-use Rattle.tough_json.specs.Writing.{if_free, with, with_optional, optional_json, version_json, length_json, stands_for, hexadecimal_json, decoded_json, named, all_json}
+use Rattle.tough_json.specs.Writing.{if_free, with, with_optional, optional_json, positive_json, length_json, stands_for, hexadecimal_json, decoded_json, named, all_json}
 
 pub is_none-map : {A B : Type 0} (f : A → B) (o : Option A) → is_none (option_map f o) ≡ not (is_some o)
 is_none-map f None = refl
@@ -96,9 +96,9 @@ decoded-back decodes s d e = decoded-back-at decodes s (stands_for (decodes s.sp
 pub hexadecimal-back : (s : Spelled) (d : Data) → hexadecimal_json s ≡ Some d → hexadecimal d ≡ Some s
 hexadecimal-back = decoded-back hex_bytes
 
-pub version-back : (n : ℕ) (d : Data) → version_json n ≡ Some d → positive d ≡ Some n
-version-back zero d e = cc
-version-back (suc n) d e = rw (← some-inj e) refl
+pub positive-back : (n : ℕ) (d : Data) → positive_json n ≡ Some d → positive d ≡ Some n
+positive-back zero d e = cc
+positive-back (suc n) d e = rw (← some-inj e) refl
 
 -- an optional member that is written, or left out, is read back
 pub optional-back : {A : Type 0} (k : List ℕ) (f : Data → Option A) (g : A → Option Data) (a : Option A) (o : Option Data) (ms new : Members) → ((x : A) (d : Data) → g x ≡ Some d → (unless_null d ≡ Some d) × (f d ≡ Some x))
@@ -121,7 +121,6 @@ named-back f g (e ∷ es) ms back w =
     let first = bind_ok (g e.1) (λ d. named g es >>= λ rest. Some (member e.0 d rest)) ms w in
     let others = bind_ok (named g es) (λ rest. Some (member e.0 first.0 rest)) ms first.2 in
     rw (← some-inj others.2, back e.1 first.0 first.1, named-back f g es others.0 back others.1) refl
-
 
 -- items and what f reads of what g wrote
 pub all-back : {A : Type 0} (f : Data → Option A) (g : A → Option Data) (xs : List A) (ds : Items) → ((x : A) (d : Data) → g x ≡ Some d → f d ≡ Some x) → all_json g xs ≡ Some ds → all_at f ds ≡ Some xs

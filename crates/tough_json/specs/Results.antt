@@ -1,6 +1,6 @@
 -- What a reader of the code answers, beside what reading gives.
-use Rattle.std.specs.Prelude.{◌≡◌, ℕ, List, Option, Some, None, Result, Ok, Err, ⊤}
-use Rattle.std.specs.Str.{IsUtf8}
+use Rattle.std.specs.Prelude.{◌≡◌, ℕ, List, Option, Some, None, Result, Ok, Err, ⊤, if◌then◌else◌}
+use Rattle.std.specs.Str.{is_utf8}
 use Rattle.serde_json.specs.Data.{Data, Members}
 use Rattle.serde_json.specs.Read.{read}
 use Rattle.tough_json.specs.declared.error.ReadError.{ReadError}
@@ -24,19 +24,29 @@ abbrev pub Takes : {X Y : Type 0} → (X → Y) → Result X ReadError → Membe
 Takes view (Ok x) left answer = answer ≡ Some (view x, left)
 Takes view (Err e) left answer = Refuses e answer
 
--- the bytes are JSON for this value
-abbrev pub IsJson : List ℕ → Data → Type 0
-IsJson bytes d = IsUtf8 bytes × (read bytes ≡ Some d)
+-- The JSON value that the bytes are: UTF-8, and JSON (RFC 8259) that nests no deeper than serde_json reads.
+unfoldable pub json_of : List ℕ → Option Data
+json_of bytes = if is_utf8 bytes then read bytes else None
 
 -- The same from bytes: the value is that of the bytes, or these are no JSON.
 abbrev pub RefusesBytes : {Y : Type 0} → ReadError → List ℕ → (Data → Option Y) → Type 0
-RefusesBytes errors.Json bytes f = (d : Data) → IsJson bytes d → ⊥
-RefusesBytes (errors.Shape s) bytes f = (d : Data) × IsJson bytes d × (f d ≡ None)
+RefusesBytes errors.Json bytes f = json_of bytes ≡ None
+RefusesBytes (errors.Shape s) bytes f = (d : Data) × (json_of bytes ≡ Some d) × (f d ≡ None)
 RefusesBytes errors.Memory bytes f = ⊤
 
 abbrev pub ReadsBytes : {X Y : Type 0} → (X → Y) → Result X ReadError → List ℕ → (Data → Option Y) → Type 0
-ReadsBytes view (Ok x) bytes f = (d : Data) × IsJson bytes d × (f d ≡ Some (view x))
+ReadsBytes view (Ok x) bytes f = (d : Data) × (json_of bytes ≡ Some d) × (f d ≡ Some (view x))
 ReadsBytes view (Err e) bytes f = RefusesBytes e bytes f
+
+-- bytes as a value: they are no JSON, or want of memory
+abbrev pub RefusesJson : ReadError → List ℕ → Type 0
+RefusesJson errors.Json bytes = json_of bytes ≡ None
+RefusesJson (errors.Shape s) bytes = ⊥
+RefusesJson errors.Memory bytes = ⊤
+
+abbrev pub ReadsJson : {X : Type 0} → (X → Data) → Result X ReadError → List ℕ → Type 0
+ReadsJson view (Ok x) bytes = json_of bytes ≡ Some (view x)
+ReadsJson view (Err e) bytes = RefusesJson e bytes
 
 -- no value is refused as no JSON
 abbrev pub IsRefusal : ReadError → Type 0

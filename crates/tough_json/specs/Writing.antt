@@ -27,9 +27,9 @@ named f (e ∷ es) = do
   ms ← named f es
   Some (member e.0 d ms)
 
-abbrev pub version_json : ℕ → Option Data
-version_json zero = None
-version_json (suc n) = Some (number (unsigned (suc n)))
+abbrev pub positive_json : ℕ → Option Data
+positive_json zero = None
+positive_json (suc n) = Some (number (unsigned (suc n)))
 
 abbrev pub optional_json : {A : Type 0} → (A → Option Data) → Option A → Option (Option Data)
 optional_json f None = Some None

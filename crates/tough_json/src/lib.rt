@@ -4,6 +4,7 @@
 pub mod error;
 pub mod member;
 pub mod moment;
+pub mod text;
 pub mod write;
 
 pub use error::{ReadError, WriteError};

@@ -1,13 +1,15 @@
 ghost use Rattle.std.specs.Prelude.{◌≡◌, option_map, Some, string_bytes};
+ghost use Rattle.std.specs.Int.NonZero.{non_zero_u64_get};
 ghost use Rattle.serde_json.specs.View.{view, items_view, members_view};
 ghost use Rattle.serde_json.specs.Find.{get_member, as_object};
 ghost use Rattle.tough_json.specs.Reading.{without, required, optional, text, whole, positive, hexadecimal, decoded, instant, present, as_items, truth};
 ghost use Rattle.tough_json.specs.Results.{Reads, Takes};
 
 use crate::error::{ReadError, shape};
-use tough_base::{Decode, DecodeError, Decoded, Hex};
 use serde_json::{Map, Value};
 use std::alloc::Global;
+use std::num::NonZeroU64;
+use tough_base::{Decode, DecodeError, Decoded, Hex};
 
 // Takes a member out.
 pub fn take(members: &mut Map<String, Value>, name: &str) -> Option<Value>
@@ -36,12 +38,15 @@ pub fn positive(
     alloc: Global,
     members: &mut Map<String, Value>,
     name: &str,
-) -> Result<u64, ReadError>
-    ensures { Takes (λ n. n) result (members_view members.new.entries) (required name.now positive (members_view members.old.entries)) }
+) -> Result<NonZeroU64, ReadError>
+    ensures { Takes non_zero_u64_get result (members_view members.new.entries) (required name.now positive (members_view members.old.entries)) }
 {
-    match take(members, name).and_then(|value| value.as_u64()) {
-        Some(number) if number > 0 => Ok(number),
-        _ => Err(shape(alloc, name)),
+    let Some(number) = take(members, name).and_then(|value| value.as_u64()) else {
+        return Err(shape(alloc, name));
+    };
+    match NonZeroU64::new(number) {
+        Some(number) => Ok(number),
+        None => Err(shape(alloc, name)),
     }
 }
 
@@ -162,11 +167,7 @@ pub fn list(
 }
 
 // A truth value that must be there.
-pub fn truth(
-    alloc: Global,
-    members: &mut Map<String, Value>,
-    name: &str,
-) -> Result<bool, ReadError>
+pub fn truth(alloc: Global, members: &mut Map<String, Value>, name: &str) -> Result<bool, ReadError>
     ensures { Takes (λ b. b) result (members_view members.new.entries) (required name.now truth (members_view members.old.entries)) }
 {
     match take(members, name) {

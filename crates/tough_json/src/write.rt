@@ -1,15 +1,16 @@
-ghost use Rattle.std.specs.Prelude.{◌≡◌, Some, IfOk, OnOk, option_map, is_none, string_bytes, ℕ, List, ◌≤◌};
+ghost use Rattle.std.specs.Prelude.{◌≡◌, Some, IfOk, OnOk, option_map, is_none, string_bytes};
+ghost use Rattle.std.specs.Int.NonZero.{non_zero_u64_get};
 ghost use Rattle.serde_json.specs.View.{view, members_view};
 ghost use Rattle.serde_json.specs.Data.{string, put};
-ghost use Rattle.serde_json.specs.Read.{read, max_depth};
 ghost use Rattle.serde_json.specs.Find.{get_member};
 ghost use Rattle.tough_json.specs.Results.{Writes};
-ghost use Rattle.tough_json.specs.Writing.{with, with_optional, version_json, decoded_json};
+ghost use Rattle.tough_json.specs.Writing.{with, with_optional, positive_json, decoded_json};
 
 use crate::error::WriteError;
-use tough_base::{Decode, Decoded};
 use serde_json::{Map, Value};
 use std::alloc::{AllocError, Global};
+use std::num::NonZeroU64;
+use tough_base::{Decode, Decoded};
 
 // Whether no member has the name.
 pub fn is_free(members: &Map<String, Value>, name: &str) -> bool
@@ -65,14 +66,11 @@ pub fn copy_members(
     Ok(copies)
 }
 
-// The JSON of a version.
-pub fn version_value(version: u64) -> Result<Value, WriteError>
-    ensures { Writes view result (version_json version) }
+// The JSON of a number from 1 on.
+pub fn positive_value(number: NonZeroU64) -> Value
+    ensures { positive_json (non_zero_u64_get number) ≡ Some (view result) }
 {
-    if version == 0 {
-        return Err(WriteError::Unwritable);
-    }
-    Ok(Value::from(version))
+    Value::from(number.get())
 }
 
 // One more member that is a text.
@@ -87,7 +85,6 @@ pub fn with_text(
     let value = Value::String(String::from_str(alloc, text)?);
     with(alloc, members, name, value)
 }
-
 
 // The members with one more, in the place of one of the name.
 pub fn put(
