@@ -130,3 +130,7 @@ all-back f g (x ∷ xs) ds back w =
     let first = bind_ok (g x) (λ d. all_json g xs >>= λ rest. Some (item d rest)) ds w in
     let others = bind_ok (all_json g xs) (λ rest. Some (item first.0 rest)) ds first.2 in
     rw (← some-inj others.2, back x first.0 first.1, all-back f g xs others.0 back others.1) refl
+
+pub some_apart : {A : Type 0} (o : Option A) (a : A) → o ≡ Some a → o ≡ None → ⊥
+some_apart None a e f = cc
+some_apart (Some b) a e f = cc

@@ -1,5 +1,5 @@
-use tough_base::{Decoded, EcdsaFlex, Hex, RsaPem};
 use serde_json::{Map, Value};
+use tough_base::{Decoded, EcdsaFlex, Hex, RsaPem};
 
 /// A key that signatures are verified by.
 #[derive(Drop)]

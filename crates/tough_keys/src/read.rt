@@ -6,17 +6,13 @@ ghost use Rattle.tough_keys.specs.Key.{KeyDoc, key_doc, key_at, keyval_at, kind_
 
 use crate::key::{EcdsaKey, EcdsaScheme, Ed25519Key, Ed25519Scheme, Key, RsaKey, RsaScheme};
 use crate::kind::Kind;
+use serde_json::{Map, Value};
+use std::alloc::Global;
 use tough_base::{Decode, Decoded};
 use tough_json::error::{ReadError, shape};
 use tough_json::member::{decoded, take};
-use serde_json::{Map, Value};
-use std::alloc::Global;
 
-fn keytype(
-    alloc: Global,
-    members: &mut Map<String, Value>,
-    name: &str,
-) -> Result<Kind, ReadError>
+fn keytype(alloc: Global, members: &mut Map<String, Value>, name: &str) -> Result<Kind, ReadError>
     ensures { Takes (λ k. k) result (members_view members.new.entries) (required name.now kind_at (members_view members.old.entries)) }
 {
     match take(members, name) {

@@ -5,11 +5,11 @@ ghost use Rattle.tough_keys.specs.Key.{key_doc, key_at, key_json, keyval_json, k
 
 use crate::key::Key;
 use crate::kind::Kind;
+use serde_json::{Map, Value};
+use std::alloc::Global;
 use tough_base::{Decode, Decoded};
 use tough_json::error::WriteError;
 use tough_json::write::{copy_members, digits, with, with_text};
-use serde_json::{Map, Value};
-use std::alloc::Global;
 
 #[tactic(auto, unfolding(crate::specs::Key::keyval_json))]
 fn keyval_value<T: Decode>(
