@@ -2,6 +2,7 @@
 #![tactic(auto)]
 
 mod error;
+mod read_signed;
 mod role;
 mod role_type;
 mod root;
@@ -9,6 +10,7 @@ mod signature;
 mod signed;
 mod timestamp;
 mod verify;
+mod write_signed;
 
 pub use error::Error;
 pub use role::Role;

@@ -7,11 +7,14 @@ ghost use Rattle.serde_json.specs.Written.{has_float, compact_text};
 ghost use Rattle.tough_json.specs.Results.{json_of, Writes};
 ghost use Rattle.tough_schema.specs.Document.{ReadsText, WritesBytes, IsSigned, IsNotSigned, document_json};
 
+use crate::read_signed::signed_of;
 use crate::role::Role;
 use crate::signature::Signature;
+use crate::write_signed::signed_value;
 use serde_json::Value;
 use std::alloc::Global;
 use tough_json::error::{ReadError, WriteError};
+use tough_json::text::{bytes_of, value_of};
 
 /// A role with its signatures.
 #[derive(Drop)]
@@ -25,7 +28,8 @@ impl<T: Role> Signed<T> {
     pub fn read(alloc: Global, bytes: &[u8]) -> Result<Signed<T>, ReadError>
         ensures { ReadsText (IsSigned T.is_read) (IsNotSigned T.is_refused) result bytes.now }
     {
-        Err(ReadError::Memory)
+        let value = value_of(alloc, bytes)?;
+        signed_of(alloc, value)
     }
 
     /// The document as JSON, which is read as it; `Unwritable` where its role has none.
@@ -33,13 +37,15 @@ impl<T: Role> Signed<T> {
         ensures written { Writes view result (document_json T.json self.now) }
         ensures back { T.is_kept self.now.signed → IfOk result (λ v. IsSigned T.is_read (view v) self.now) }
     {
-        Err(WriteError::Memory)
+        let role = self.signed.to_value(alloc)?;
+        Ok(signed_value(alloc, role, &self.signatures)?)
     }
 
     /// The document as compact JSON, with the members in the order of their names' bytes.
     pub fn to_bytes(&self, alloc: Global) -> Result<Vec<u8>, WriteError>
         ensures { WritesBytes result (document_json T.json self.now) }
     {
-        Err(WriteError::Memory)
+        let value = self.to_value(alloc)?;
+        Ok(bytes_of(alloc, &value)?)
     }
 }
