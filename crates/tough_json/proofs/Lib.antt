@@ -6,4 +6,5 @@ pub mod ListLemmas
 pub mod MomentLemmas
 pub mod Fractions
 pub mod MomentText
+pub mod MomentExists
 pub mod JsonLemmas

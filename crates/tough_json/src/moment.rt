@@ -1,6 +1,6 @@
 //! Instants as text.
 
-ghost use Rattle.std.specs.Prelude.{◌≡◌, ◌<◌, ◌≤◌, ◌++◌, List, ℕ, ℤ, Ok, Some, None, IfOk, OnOk, string_bytes};
+ghost use Rattle.std.specs.Prelude.{◌≡◌, ◌↔◌, ◌<◌, ◌≤◌, ◌++◌, List, ℕ, ℤ, Ok, Some, None, IfOk, OnOk, string_bytes};
 ghost use Rattle.tough_json.specs.Moment.{IsMoment, IsBeforeAll, IsShown, WritesMoment, decimals, moment_text};
 ghost use Rattle.jiff_core.specs.Timestamp.{IsTimestampNanos};
 ghost use Rattle.jiff_fmt.specs.Text.{pad2, date_text, places, time_text};
@@ -122,7 +122,7 @@ pub fn moment_text(alloc: Global, instant: Timestamp) -> Result<String, MomentEr
 
 /// The text of an instant is that of the date and time which a clock in UTC shows, and is read as that instant.
 pub fn moment_laws()
-    ensures shown { (z : ℤ) (text : List ℕ) → IsMoment z text → moment_text z ≡ Some text }
+    ensures shown { (z : ℤ) (text : List ℕ) → (moment_text z ≡ Some text) ↔ IsMoment z text }
     ensures before { (z : ℤ) → IsBeforeAll z → moment_text z ≡ None }
-    ensures back { (z : ℤ) (text : List ℕ) → IsTimestampNanos z → IsMoment z text → parse_timestamp text ≡ Ok z }
+    ensures back { (z : ℤ) (text : List ℕ) → IsTimestampNanos z → moment_text z ≡ Some text → parse_timestamp text ≡ Ok z }
 {}
