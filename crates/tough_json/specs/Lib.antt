@@ -1,0 +1,4 @@
+pub mod Reading
+pub mod Results
+pub mod Writing
+pub mod Moment

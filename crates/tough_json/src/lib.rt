@@ -1,0 +1,11 @@
+//! Members of JSON objects, taken out and put in, and the text of an instant: what documents are read and written by.
+#![tactic(auto)]
+
+pub mod error;
+pub mod member;
+pub mod moment;
+pub mod text;
+pub mod write;
+
+pub use error::{ReadError, WriteError};
+pub use moment::{MomentError, moment_text};

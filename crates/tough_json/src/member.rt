@@ -1,0 +1,177 @@
+ghost use Rattle.std.specs.Prelude.{◌≡◌, option_map, Some, string_bytes};
+ghost use Rattle.std.specs.Int.NonZero.{non_zero_u64_get};
+ghost use Rattle.serde_json.specs.View.{view, items_view, members_view};
+ghost use Rattle.serde_json.specs.Find.{get_member, as_object};
+ghost use Rattle.tough_json.specs.Reading.{without, required, optional, text, whole, positive, hexadecimal, decoded, instant, present, as_items, truth};
+ghost use Rattle.tough_json.specs.Results.{Reads, Takes};
+
+use crate::error::{ReadError, shape};
+use serde_json::{Map, Value};
+use std::alloc::Global;
+use std::num::NonZeroU64;
+use tough_base::{Decode, DecodeError, Decoded, Hex};
+
+// Takes a member out.
+pub fn take(members: &mut Map<String, Value>, name: &str) -> Option<Value>
+    ensures value { option_map view result ≡ get_member name.now (members_view members.old.entries) }
+    ensures left { members_view members.new.entries ≡ without name.now (members_view members.old.entries) }
+{
+    members.remove(name)
+}
+
+// A text that must be there.
+pub fn text(
+    alloc: Global,
+    members: &mut Map<String, Value>,
+    name: &str,
+) -> Result<String, ReadError>
+    ensures { Takes string_bytes result (members_view members.new.entries) (required name.now text (members_view members.old.entries)) }
+{
+    match take(members, name) {
+        Some(Value::String(text)) => Ok(text),
+        _ => Err(shape(alloc, name)),
+    }
+}
+
+// A number from 1 on that must be there.
+pub fn positive(
+    alloc: Global,
+    members: &mut Map<String, Value>,
+    name: &str,
+) -> Result<NonZeroU64, ReadError>
+    ensures { Takes non_zero_u64_get result (members_view members.new.entries) (required name.now positive (members_view members.old.entries)) }
+{
+    let Some(number) = take(members, name).and_then(|value| value.as_u64()) else {
+        return Err(shape(alloc, name));
+    };
+    match NonZeroU64::new(number) {
+        Some(number) => Ok(number),
+        None => Err(shape(alloc, name)),
+    }
+}
+
+// A member that is there and not null.
+pub fn present(members: &mut Map<String, Value>, name: &str) -> Option<Value>
+    ensures value { option_map view result ≡ present name.now (members_view members.old.entries) }
+    ensures left { members_view members.new.entries ≡ without name.now (members_view members.old.entries) }
+{
+    match take(members, name) {
+        Some(Value::Null) => None,
+        found => found,
+    }
+}
+
+// A number that may be absent.
+pub fn length(
+    alloc: Global,
+    members: &mut Map<String, Value>,
+    name: &str,
+) -> Result<Option<u64>, ReadError>
+    ensures { Takes (λ n. n) result (members_view members.new.entries) (optional name.now whole (members_view members.old.entries)) }
+{
+    match present(members, name) {
+        None => Ok(None),
+        Some(value) => match value.as_u64() {
+            Some(number) => Ok(Some(number)),
+            None => Err(shape(alloc, name)),
+        },
+    }
+}
+
+// A text that stands for bytes and must be there.
+pub fn decoded<T: Decode>(
+    alloc: Global,
+    members: &mut Map<String, Value>,
+    name: &str,
+) -> Result<Decoded<T>, ReadError>
+    ensures { Takes (λ d. d) result (members_view members.new.entries) (required name.now (decoded T.decodes) (members_view members.old.entries)) }
+{
+    match take(members, name) {
+        Some(Value::String(text)) => match Decoded::from_str(alloc, text.as_str()) {
+            Ok(decoded) => Ok(decoded),
+            Err(DecodeError::Memory) => Err(ReadError::Memory),
+            Err(_) => Err(shape(alloc, name)),
+        },
+        _ => Err(shape(alloc, name)),
+    }
+}
+
+// Hexadecimal digits that must be there.
+pub fn hexadecimal(
+    alloc: Global,
+    members: &mut Map<String, Value>,
+    name: &str,
+) -> Result<Decoded<Hex>, ReadError>
+    ensures { Takes (λ d. d) result (members_view members.new.entries) (required name.now hexadecimal (members_view members.old.entries)) }
+{
+    decoded(alloc, members, name)
+}
+
+// An instant that must be there.
+pub fn instant(
+    alloc: Global,
+    members: &mut Map<String, Value>,
+    name: &str,
+) -> Result<jiff::Timestamp, ReadError>
+    ensures { Takes (λ t. t.nanosecond) result (members_view members.new.entries) (required name.now instant (members_view members.old.entries)) }
+{
+    match take(members, name) {
+        Some(Value::String(text)) => match text.as_str().parse::<jiff::Timestamp>() {
+            Ok(instant) => Ok(instant),
+            Err(_) => Err(shape(alloc, name)),
+        },
+        _ => Err(shape(alloc, name)),
+    }
+}
+
+// A member that must be there.
+pub fn value(
+    alloc: Global,
+    members: &mut Map<String, Value>,
+    name: &str,
+) -> Result<Value, ReadError>
+    ensures { Takes view result (members_view members.new.entries) (required name.now Some (members_view members.old.entries)) }
+{
+    match take(members, name) {
+        Some(value) => Ok(value),
+        None => Err(shape(alloc, name)),
+    }
+}
+
+// An object that must be there.
+pub fn object(
+    alloc: Global,
+    members: &mut Map<String, Value>,
+    name: &str,
+) -> Result<Map<String, Value>, ReadError>
+    ensures { Takes (λ m. members_view m.entries) result (members_view members.new.entries) (required name.now as_object (members_view members.old.entries)) }
+{
+    match take(members, name) {
+        Some(Value::Object(inner)) => Ok(inner),
+        _ => Err(shape(alloc, name)),
+    }
+}
+
+// A list that must be there.
+pub fn list(
+    alloc: Global,
+    members: &mut Map<String, Value>,
+    name: &str,
+) -> Result<Vec<Value>, ReadError>
+    ensures { Takes (λ v. items_view v.items) result (members_view members.new.entries) (required name.now as_items (members_view members.old.entries)) }
+{
+    match take(members, name) {
+        Some(Value::Array(items)) => Ok(items),
+        _ => Err(shape(alloc, name)),
+    }
+}
+
+// A truth value that must be there.
+pub fn truth(alloc: Global, members: &mut Map<String, Value>, name: &str) -> Result<bool, ReadError>
+    ensures { Takes (λ b. b) result (members_view members.new.entries) (required name.now truth (members_view members.old.entries)) }
+{
+    match take(members, name) {
+        Some(Value::Bool(found)) => Ok(found),
+        _ => Err(shape(alloc, name)),
+    }
+}

@@ -1,0 +1,35 @@
+ghost use Rattle.std.specs.Prelude.{◌≡◌, option_and_then};
+ghost use Rattle.serde_json.specs.View.{view};
+ghost use Rattle.tough_base.specs.CanonicalText.{canonical_of};
+ghost use Rattle.tough_json.specs.Results.{Writes};
+ghost use Rattle.tough_keys.specs.Key.{key_doc, key_id_of};
+
+use crate::key::Key;
+use serde_json::Value;
+use sha2::{Digest, Sha256};
+use std::alloc::Global;
+use tough_base::{CjsonError, canonical};
+use tough_json::error::WriteError;
+
+/// The canonical text of a value; `Unwritable` where it has none.
+pub fn text_of(alloc: Global, value: &Value) -> Result<Vec<u8>, WriteError>
+    ensures { Writes (λ t. t.items) result (canonical_of (view value.now)) }
+{
+    match canonical(alloc, value) {
+        Ok(text) => Ok(text),
+        Err(CjsonError::Memory) => Err(WriteError::Memory),
+        Err(_) => Err(WriteError::Unwritable),
+    }
+}
+
+impl Key {
+    /// The key's identifier, 32 bytes: the SHA-256 of the canonical text of its JSON; `Unwritable` where it has none.
+    #[tactic(auto, unfolding(crate::specs::Key::key_id_of))]
+    pub fn digest(&self, alloc: Global) -> Result<[u8; 32], WriteError>
+        ensures { Writes (λ id. id) result (key_id_of (key_doc self.now)) }
+    {
+        let value = self.to_value(alloc)?;
+        let text = text_of(alloc, &value)?;
+        Ok(Sha256::digest(text.as_slice()))
+    }
+}

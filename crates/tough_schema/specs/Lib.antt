@@ -1,0 +1,10 @@
+pub mod Signature
+pub mod Document
+pub mod Head
+pub mod Roles
+pub mod Root
+pub mod Timestamp
+pub mod Policy
+pub mod Verdict
+pub mod Reaches
+pub mod Chain

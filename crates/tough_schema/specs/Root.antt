@@ -1,0 +1,177 @@
+-- Roots: their keys, their roles, and which JSON is one (TUF specification 1.0, section 4.3).
+use Rattle.std.specs.Prelude.{◌≡◌, ℕ, List, [], ◌∷◌, map, Bool, Option, Some, None, option_and_then, codes, if◌then◌else◌, string_bytes}
+use Rattle.std.specs.Int.NonZero.{non_zero_u64_get}
+use Rattle.std.specs.Str.{bytes_eq}
+use Rattle.std.specs.Ordering.{nat_cmp, on}
+use Rattle.std.specs.declared.cmp.Ordering.{Ordering}
+use Rattle.std.specs.Cmp.Lexicographic.{slice_cmp}
+use Rattle.std.specs.BTreeMap.{insert_entry, is_at}
+use Rattle.std.specs.Map.{lookup}
+use Rattle.tough_base.specs.Spelled.{Spelled, hex_bytes}
+use Rattle.serde_json.specs.Data.{Data, boolean, string, array, object, Members, no_members, member}
+use Rattle.serde_json.specs.Find.{as_object}
+use Rattle.serde_json.specs.View.{members_view}
+use Rattle.tough_json.specs.Reading.{◌>>=◌, required, positive, truth, hexadecimal, listing, spelled}
+use Rattle.tough_json.specs.Writing.{if_free, with, positive_json, hexadecimal_json, all_json}
+use Rattle.tough_keys.specs.declared.key.Key.{Key}
+use Rattle.tough_keys.specs.Key.{KeyDoc, key_doc, key_at, key_json, key_id_of}
+use Rattle.tough_schema.specs.Head.{Head, head_at, head_json}
+use Rattle.tough_schema.specs.Roles.{role_type, role_name, role_cmp}
+use Rattle.tough_schema.specs.declared.role_type.RoleType.{RoleType}
+use Rattle.tough_schema.specs.declared.root.RoleKeys.{RoleKeys}
+use Rattle.tough_schema.specs.declared.root.Root.{Root}
+
+-- ---- plain data
+
+-- the identifiers that a role lists, and how many of them must sign
+pub record RoleKeysDoc : Type 0 where
+  pub keyids : List Spelled
+  pub threshold : ℕ
+  pub extra : Members
+
+-- the keys are in the order of their identifiers' bytes, the roles in that of their type
+pub record RootDoc : Type 0 where
+  pub head : Head
+  pub consistent_snapshot : Bool
+  pub keys : List (Spelled × KeyDoc)
+  pub roles : List (RoleType × RoleKeysDoc)
+  pub extra : Members
+
+abbrev pub role_keys_doc : RoleKeys → RoleKeysDoc
+role_keys_doc r = record { keyids = r.keyids.items; threshold = non_zero_u64_get r.threshold; extra = members_view r._extra.entries }
+
+abbrev pub roles_doc : List (RoleType × RoleKeys) → List (RoleType × RoleKeysDoc)
+roles_doc es = map (λ e. (e.0, role_keys_doc e.1)) es
+
+abbrev pub keys_doc : List (Spelled × Key) → List (Spelled × KeyDoc)
+keys_doc es = map (λ e. (e.0, key_doc e.1)) es
+
+abbrev pub root_doc : Root → RootDoc
+root_doc r = record {
+  head = record { spec_version = string_bytes r.spec_version; version = non_zero_u64_get r.version; expires = r.expires.nanosecond };
+  consistent_snapshot = r.consistent_snapshot;
+  keys = keys_doc r.keys.entries;
+  roles = roles_doc r.roles.entries;
+  extra = members_view r._extra.entries;
+}
+
+-- ---- the keys
+
+-- the order of a map by identifiers: that of their bytes
+abbrev pub by_bytes : Spelled → Spelled → Ordering
+by_bytes = on (λ s. s.bytes) (slice_cmp nat_cmp)
+
+-- the key of an identifier
+abbrev pub key_under : List (Spelled × KeyDoc) → Spelled → Option KeyDoc
+key_under found id = lookup (is_at (by_bytes id)) found
+
+-- the value, where its identifier is that one
+abbrev pub if_own : {A : Type 0} → Option (List ℕ) → List ℕ → A → Option A
+if_own None id a = None
+if_own (Some own) id a = if bytes_eq own id then Some a else None
+
+-- a member as a key under its own identifier
+unfoldable pub key_entry_at : List ℕ → Data → Option (Spelled × KeyDoc)
+key_entry_at name d = do
+  id ← spelled hex_bytes name
+  key ← key_at d
+  if_own (key_id_of key) id.bytes (id, key)
+
+-- the map with one more key, whose identifier isn't there yet
+abbrev pub if_new : Option KeyDoc → List (Spelled × KeyDoc) → Option (List (Spelled × KeyDoc))
+if_new None es = Some es
+if_new (Some key) es = None
+
+abbrev pub with_key : List (Spelled × KeyDoc) → Spelled × KeyDoc → Option (List (Spelled × KeyDoc))
+with_key found e = if_new (key_under found e.0) (insert_entry by_bytes found e.0 e.1)
+
+-- the members are put into the map one after another
+unfoldable pub keys_from : List (Spelled × KeyDoc) → Members → Option (List (Spelled × KeyDoc))
+keys_from found no_members = Some found
+keys_from found (member name d ms) = do
+  entry ← key_entry_at name d
+  more ← with_key found entry
+  keys_from more ms
+
+abbrev pub keys_at : Data → Option (List (Spelled × KeyDoc))
+keys_at d = option_and_then (keys_from []) (as_object d)
+
+-- each key under its identifier as it was spelled, beside those that are there
+unfoldable pub keys_json : List (Spelled × KeyDoc) → Members → Option Members
+keys_json [] found = Some found
+keys_json (e ∷ es) found = do
+  value ← key_json e.1
+  more ← with e.0.spelling value found
+  keys_json es more
+
+-- ---- the roles
+
+unfoldable pub role_keys_at : Data → Option RoleKeysDoc
+role_keys_at d = do
+  members ← as_object d
+  keyids ← required (codes "keyids") (listing hexadecimal) members
+  threshold ← required (codes "threshold") positive keyids.1
+  Some (record { keyids = keyids.0; threshold = threshold.0; extra = threshold.1 })
+
+unfoldable pub role_keys_json : RoleKeysDoc → Option Data
+role_keys_json r = do
+  value ← positive_json r.threshold
+  threshold ← with (codes "threshold") value r.extra
+  items ← all_json hexadecimal_json r.keyids
+  members ← with (codes "keyids") (array items) threshold
+  Some (object members)
+
+-- a member is a role of that name, and its keys
+unfoldable pub role_entry_at : List ℕ → Data → Option (RoleType × RoleKeysDoc)
+role_entry_at name d = do
+  type ← role_type name
+  keys ← role_keys_at d
+  Some (type, keys)
+
+-- each member is put into the map of the roles, whose order is that of the type
+unfoldable pub roles_from : List (RoleType × RoleKeysDoc) → Members → Option (List (RoleType × RoleKeysDoc))
+roles_from found no_members = Some found
+roles_from found (member name d ms) = do
+  entry ← role_entry_at name d
+  roles_from (insert_entry role_cmp found entry.0 entry.1) ms
+
+abbrev pub roles_at : Data → Option (List (RoleType × RoleKeysDoc))
+roles_at d = option_and_then (roles_from []) (as_object d)
+
+-- each role under its name, beside those that are there
+unfoldable pub roles_json : List (RoleType × RoleKeysDoc) → Members → Option Members
+roles_json [] found = Some found
+roles_json (e ∷ es) found = do
+  value ← role_keys_json e.1
+  more ← with (role_name e.0) value found
+  roles_json es more
+
+-- ---- the root
+
+unfoldable pub root_at : Data → Option RootDoc
+root_at d = do
+  members ← as_object d
+  head ← head_at members
+  consistent ← required (codes "consistent_snapshot") truth head.1
+  keys ← required (codes "keys") keys_at consistent.1
+  roles ← required (codes "roles") roles_at keys.1
+  Some (record { head = head.0; consistent_snapshot = consistent.0; keys = keys.0; roles = roles.0; extra = roles.1 })
+
+unfoldable pub root_json : RootDoc → Option Data
+root_json r = do
+  listed ← roles_json r.roles no_members
+  roles ← with (codes "roles") (object listed) r.extra
+  known ← keys_json r.keys no_members
+  keys ← with (codes "keys") (object known) roles
+  consistent ← with (codes "consistent_snapshot") (boolean r.consistent_snapshot) keys
+  members ← head_json (codes "root") r.head consistent
+  Some (object members)
+
+-- each key stands under its own identifier, as in each root that was read
+abbrev pub AreOwn : List (Spelled × KeyDoc) → Type 0
+AreOwn [] = Unit {0}
+AreOwn (e ∷ es) = (key_id_of e.1 ≡ Some e.0.bytes) × AreOwn es
+
+-- what is written for it is read as it
+abbrev pub IsReadBack : Root → Type 0
+IsReadBack r = (d : Data) → root_json (root_doc r) ≡ Some d → root_at d ≡ Some (root_doc r)

@@ -1,0 +1,26 @@
+//! Roles, signed documents and their verification.
+#![tactic(auto)]
+
+mod error;
+mod read_signed;
+mod role;
+mod role_type;
+mod root;
+mod signature;
+mod signed;
+mod timestamp;
+mod verify;
+mod write_signed;
+
+pub use error::Error;
+pub use role::Role;
+pub use role_type::RoleType;
+pub use root::{RoleKeys, Root};
+pub use signature::Signature;
+pub use signed::Signed;
+pub use timestamp::{Hashes, Metafile, Timestamp};
+pub use tough_json::{ReadError, WriteError};
+pub use tough_keys::{
+    EcdsaKey, EcdsaScheme, Ed25519Key, Ed25519Scheme, Key, RsaKey, RsaScheme, Verify,
+};
+pub use verify::canonical_form;

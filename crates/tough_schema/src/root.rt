@@ -1,0 +1,70 @@
+ghost use Rattle.std.specs.Prelude.{◌≡◌, Some, None};
+ghost use Rattle.tough_json.proofs.WriteLemmas.{some_apart};
+ghost use Rattle.tough_schema.specs.Root.{root_doc, root_at, root_json, IsReadBack};
+ghost use Rattle.tough_schema.specs.declared.role_type.RoleType.TheVariants as types;
+
+use crate::role::Role;
+use crate::role_type::RoleType;
+use serde_json::{Map, Value};
+use std::alloc::Global;
+use std::collections::BTreeMap;
+use std::num::NonZeroU64;
+use tough_base::{Decoded, Hex};
+use tough_json::error::{ReadError, WriteError};
+use tough_keys::Key;
+
+/// The identifiers that a role lists, and how many of them must sign.
+#[derive(Drop)]
+pub struct RoleKeys {
+    pub keyids: Vec<Decoded<Hex>>,
+    pub threshold: NonZeroU64,
+    pub _extra: Map<String, Value>,
+}
+
+/// The keys of all roles (TUF specification 1.0, section 4.3).
+#[derive(Drop)]
+pub struct Root {
+    pub spec_version: String,
+    pub consistent_snapshot: bool,
+    pub version: NonZeroU64,
+    pub expires: jiff::Timestamp,
+    pub keys: BTreeMap<Decoded<Hex>, Key>,
+    pub roles: BTreeMap<RoleType, RoleKeys>,
+    pub _extra: Map<String, Value>,
+}
+
+impl Role for Root {
+    ghost TYPE = { types.Root };
+
+    const TYPE: RoleType = RoleType::Root;
+
+    ghost head = { λ x. (root_doc x).head };
+
+    ghost is_read = { λ d x. root_at d ≡ Some (root_doc x) };
+
+    ghost is_refused = { λ d. root_at d ≡ None };
+
+    ghost json = { λ x. root_json (root_doc x) };
+
+    ghost is_kept = { λ x. IsReadBack x };
+
+    fn from_value(alloc: Global, value: Value) -> Result<Root, ReadError> {
+        Err(ReadError::Memory)
+    }
+
+    fn to_value(&self, alloc: Global) -> Result<Value, WriteError> {
+        Err(WriteError::Memory)
+    }
+
+    fn version(&self) -> NonZeroU64 {
+        self.version
+    }
+
+    fn expires(&self) -> jiff::Timestamp {
+        self.expires
+    }
+
+    ghost back = { λ x d kept written. kept d written };
+
+    ghost apart = { λ x d read refused. some_apart (root_at d) (root_doc x) read refused };
+}

@@ -1,0 +1,8 @@
+use tough_base::{Decoded, Hex};
+
+/// A signature, and the identifier of the key that it is by.
+#[derive(Drop)]
+pub struct Signature {
+    pub keyid: Decoded<Hex>,
+    pub sig: Decoded<Hex>,
+}

@@ -1,0 +1,75 @@
+ghost use Rattle.std.specs.Prelude.{◌≡◌, Some, None};
+ghost use Rattle.tough_schema.specs.Timestamp.{timestamp_doc, timestamp_at, timestamp_json, IsReadBack};
+ghost use Rattle.tough_json.proofs.WriteLemmas.{some_apart};
+ghost use Rattle.tough_schema.specs.declared.role_type.RoleType.TheVariants as types;
+
+use crate::role::Role;
+use crate::role_type::RoleType;
+use serde_json::{Map, Value};
+use std::alloc::Global;
+use std::collections::BTreeMap;
+use std::num::NonZeroU64;
+use tough_base::{Decoded, Hex};
+use tough_json::error::{ReadError, WriteError};
+
+/// The digest of a file.
+#[derive(Drop)]
+pub struct Hashes {
+    pub sha256: Decoded<Hex>,
+    pub _extra: Map<String, Value>,
+}
+
+/// What is said of a metadata file: its version, and its length and digest where they are stated.
+#[derive(Drop)]
+pub struct Metafile {
+    pub length: Option<u64>,
+    pub hashes: Option<Hashes>,
+    pub version: NonZeroU64,
+    pub _extra: Map<String, Value>,
+}
+
+/// Which snapshot is current (TUF specification 1.0, section 4.6).
+#[derive(Drop)]
+pub struct Timestamp {
+    pub spec_version: String,
+    pub version: NonZeroU64,
+    pub expires: jiff::Timestamp,
+    pub meta: BTreeMap<String, Metafile>,
+    pub _extra: Map<String, Value>,
+}
+
+impl Role for Timestamp {
+    ghost TYPE = { types.Timestamp };
+
+    const TYPE: RoleType = RoleType::Timestamp;
+
+    ghost head = { λ x. (timestamp_doc x).head };
+
+    ghost is_read = { λ d x. timestamp_at d ≡ Some (timestamp_doc x) };
+
+    ghost is_refused = { λ d. timestamp_at d ≡ None };
+
+    ghost json = { λ x. timestamp_json (timestamp_doc x) };
+
+    ghost is_kept = { λ x. IsReadBack x };
+
+    fn from_value(alloc: Global, value: Value) -> Result<Timestamp, ReadError> {
+        Err(ReadError::Memory)
+    }
+
+    fn to_value(&self, alloc: Global) -> Result<Value, WriteError> {
+        Err(WriteError::Memory)
+    }
+
+    fn version(&self) -> NonZeroU64 {
+        self.version
+    }
+
+    fn expires(&self) -> jiff::Timestamp {
+        self.expires
+    }
+
+    ghost back = { λ x d kept written. kept d written };
+
+    ghost apart = { λ x d read refused. some_apart (timestamp_at d) (timestamp_doc x) read refused };
+}
