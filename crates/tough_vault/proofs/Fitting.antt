@@ -1,5 +1,5 @@
 -- What passed the checks of a step follows the tip, and its file then holds it.
-use Rattle.std.proofs.Common.{◌≡◌, ℕ, ℤ, ◌≤◌, ◌≤ℤ◌, List, [], ◌∷◌, Option, None, Some, Bool, true, false, nat_lt, int_lt, is_some, unwrap_or, Result, refl, sym, ap, ◌∙◌, subst, arith, rules}
+use Rattle.std.proofs.Common.{◌≡◌, ℕ, ℤ, ◌≤◌, ◌≤ℤ◌, List, [], ◌∷◌, Option, None, Some, Bool, true, false, nat_lt, int_lt, is_some, Result, refl, sym, ap, ◌∙◌, subst, arith, rules}
 use Rattle.std.proofs.lemmas.Bool.Decides.{nat_tests}
 use Rattle.tough_schema.specs.Signature.{SignedDoc}
 use Rattle.tough_schema.specs.Root.{RootDoc}
@@ -10,11 +10,10 @@ use Rattle.tough_vault.specs.declared.entry.Receipt.{Receipt}
 use Rattle.tough_vault.specs.declared.parts.Prepared.{Prepared}
 use Rattle.tough_vault.specs.declared.checks.StepError.{StepError}
 use Rattle.tough_vault.specs.Stored.{Files}
-use Rattle.tough_vault.specs.Documents.{timestamp_text}
 use Rattle.tough_vault.specs.Journal.{Pair, PairAtMost}
 use Rattle.tough_vault.specs.Checks.{Reason, OlderMetadata, OlderSnapshotInTimestamp, refuse, or_else, first_of, snapshot_version, expiry, timestamp_older, timestamp_below, timestamp_against, timestamp_tip, timestamp_after}
 use Rattle.tough_vault.specs.Step.{Step, Parts, Passes}
-use Rattle.tough_vault.specs.Steps.{versions_in, stored_timestamp, needs, timestamp_step}
+use Rattle.tough_vault.specs.Steps.{versions_in, stored_timestamp, timestamp_step}
 use Rattle.tough_vault.specs.Parts.{NamesFree, Prepares, Concludes}
 use Rattle.tough_vault.proofs.Holding.{holds_timestamp}
 use Rattle.tough_vault.proofs.Taking.{takes}
@@ -31,10 +30,6 @@ refuse_none false r h = refl
 pub not_lt : (a b : ℕ) → nat_lt a b ≡ false → b ≤ a
 not_lt a b h = grind (arith, nat_tests)
 
-pub needs_some : (text : Option (List ℕ)) → needs text ≡ None → text ≡ Some (unwrap_or text [])
-needs_some None h = absurd (cc)
-needs_some (Some b) h = refl
-
 pub timestamp_follows : (old : Option TimestampDoc) (tip : Option Pair) (t : TimestampDoc) (start : ℤ) (enforced : Bool) (q : Pair)
     → timestamp_after old tip t start enforced ≡ None → tip ≡ Some q → PairAtMost q (versions_in t)
 timestamp_follows old tip t start enforced q h e =
@@ -47,12 +42,12 @@ timestamp_follows old tip t start enforced q h e =
     )
 
 module _ {S : Type 0} (tells : Bool) (files : S → Files) (count : S → ℕ) (old : Parts S) (free : NamesFree old.notes) (now : Files) where
-  pub fits_timestamp : (verifies : Verifies) (root : RootDoc) (new : SignedDoc TimestampDoc) (start : ℤ) (enforced : Bool) (found : Option (List ℕ)) → timestamp_text new ≡ Some (unwrap_or (timestamp_text new) [])
+  pub fits_timestamp : (verifies : Verifies) (root : RootDoc) (new : SignedDoc TimestampDoc) (start : ℤ) (enforced : Bool) (found : Option (List ℕ))
       → Passes tells files count (timestamp_step verifies root old.tip new start enforced) old.store found → Fits tells files count (timestamp_step verifies root old.tip new start enforced) old now found
-  fits_timestamp verifies root new start enforced found text p = record {
+  fits_timestamp verifies root new start enforced found p = record {
     follows = λ q e. timestamp_follows (stored_timestamp verifies root found) old.tip.timestamp new.role start enforced q p.after e;
     free = λ name x. absurd (cc (x));
-    holds = λ h same is. holds_timestamp (files old.store) now old.notes old.tip h free new (unwrap_or (timestamp_text new) []) (is_some (stored_timestamp verifies root found)) same is text;
+    holds = λ h same is there. holds_timestamp (files old.store) now old.notes old.tip h free new (is_some (stored_timestamp verifies root found)) same is there;
   }
 
 module _ {S : Type 0} (tells : Bool) (files : S → Files) (count : S → ℕ) where

@@ -1,5 +1,5 @@
 -- What the files hold after a write.
-use Rattle.std.proofs.Common.{◌≡◌, ◌≢◌, ℕ, List, [], ◌∷◌, ◌++◌, Option, None, Some, Bool, false, slice_get, refl, sym, ap, ◌∙◌, inl, inr, nat_eq, length, arith}
+use Rattle.std.proofs.Common.{◌≡◌, ◌≢◌, ℕ, ℤ, List, [], ◌∷◌, ◌++◌, Option, None, Some, Bool, false, slice_get, refl, sym, ap, ◌∙◌, inl, inr, nat_eq, length, arith}
 use Rattle.std.proofs.lemmas.Bool.Decides.{nat_tests}
 use Rattle.tough_vault.specs.Stored.{Files, SameElsewhere}
 use Rattle.tough_schema.specs.Signature.{SignedDoc}
@@ -44,11 +44,11 @@ module _ (files now : Files) (notes : List Note) (tip : Last)
     documents = λ k name e. elim (get_append notes (Noted t) k (Document name) e) [ inl a ↦ keep_document time_file same k name (free k name a).time a | inr b ↦ absurd (cc (b)) ];
   }
 
-  pub holds_timestamp : (d : SignedDoc TimestampDoc) (bytes : List ℕ) (had : Bool) → SameElsewhere timestamp_file files now → now timestamp_file ≡ Some bytes → timestamp_text d ≡ Some bytes
+  pub holds_timestamp : (d : SignedDoc TimestampDoc) (had : Bool) → SameElsewhere timestamp_file files now → now timestamp_file ≡ timestamp_text d → timestamp_text d ≢ None
       → Holds now (notes ++ Timestamp (versions_in d.role) had ∷ []) (applied tip (Timestamp (versions_in d.role) had))
-  holds_timestamp d bytes had same is t = record {
+  holds_timestamp d had same is there = record {
     time = keep_time timestamp_file same (distinct _ _ refl);
-    timestamp = λ p e. (d, is ∙ sym t, λ x. cc (x, is), some_inj (versions_in d.role) p e);
+    timestamp = λ p e. (d, is, λ x. there (sym is ∙ x), some_inj (versions_in d.role) p e);
     root = λ v e. keep_root timestamp_file same (distinct _ _ refl) v (sym (last_root-append None notes (Timestamp (versions_in d.role) had)) ∙ e);
     documents = λ k name e. elim (get_append notes (Timestamp (versions_in d.role) had) k (Document name) e) [ inl a ↦ keep_document timestamp_file same k name (free k name a).timestamp a | inr b ↦ absurd (cc (b)) ];
   }
@@ -63,12 +63,12 @@ module _ (files now : Files) (notes : List Note) (tip : Last)
     documents = λ k name e. elim (get_append notes (Snapshot r had) k (Document name) e) [ inl a ↦ keep_document snapshot_file same k name (free k name a).snapshot a | inr b ↦ absurd (cc (b)) ];
   }
 
-  pub holds_root : (r : SignedDoc RootDoc) (bytes : List ℕ) → SameElsewhere root_file files now → now root_file ≡ Some bytes → root_text r ≡ Some bytes
+  pub holds_root : (r : SignedDoc RootDoc) → SameElsewhere root_file files now → now root_file ≡ root_text r → root_text r ≢ None
       → Holds now (notes ++ Root r.role.head.version ∷ []) (applied tip (Root r.role.head.version))
-  holds_root r bytes same is t = record {
+  holds_root r same is there = record {
     time = keep_time root_file same (distinct _ _ refl);
     timestamp = keep_timestamp root_file same (distinct _ _ refl);
-    root = λ v e. (r, is ∙ sym t, λ x. cc (x, is), some_inj r.role.head.version v (sym (last_root-append None notes (Root r.role.head.version)) ∙ e));
+    root = λ v e. (r, is, λ x. there (sym is ∙ x), some_inj r.role.head.version v (sym (last_root-append None notes (Root r.role.head.version)) ∙ e));
     documents = λ k name e. elim (get_append notes (Root r.role.head.version) k (Document name) e) [ inl a ↦ keep_document root_file same k name (free k name a).root a | inr b ↦ absurd (cc (b)) ];
   }
 

@@ -1,5 +1,5 @@
 -- What a vault keeps through a step.
-use Rattle.std.proofs.Common.{◌≡◌, ℕ, List, [], ◌∷◌, ◌++◌, Option, Some, Result, Ok, Err, Bool, true, false, refl, sym, ap, ◌∙◌, subst, inl, inr}
+use Rattle.std.proofs.Common.{◌≡◌, ◌≢◌, None, ℕ, List, [], ◌∷◌, ◌++◌, Option, Some, Result, Ok, Err, Bool, true, false, refl, sym, ap, ◌∙◌, subst, inl, inr}
 use Rattle.std.proofs.Math.Logic.{∥∥₁_map}
 use Rattle.tough_vault.specs.Stored.{Files, SameElsewhere}
 use Rattle.tough_vault.specs.declared.entry.Receipt.{Receipt}
@@ -26,7 +26,7 @@ module _ {S : Type 0} (tells : Bool) (files : S → Files) (count : S → ℕ) w
   pub record Fits (step : Step) (old : Parts S) (now : Files) (found : Option (List ℕ)) : Type 0 where
     pub follows : Follows old.tip (step.entry found)
     pub free : FreeNote (step.entry found)
-    pub holds : AllHold (files old.store) old.notes old.tip → SameElsewhere step.file (files old.store) now → now step.file ≡ Some step.bytes
+    pub holds : AllHold (files old.store) old.notes old.tip → SameElsewhere step.file (files old.store) now → now step.file ≡ step.bytes → step.bytes ≢ None
         → AllHold now (old.notes ++ step.entry found ∷ []) (applied old.tip (step.entry found))
 
   noted : (note : Note) (old new : Parts S) → Sound old → IsNoted note old new → Follows old.tip note → FreeNote note
@@ -61,7 +61,7 @@ module _ {S : Type 0} (tells : Bool) (files : S → Files) (count : S → ℕ) w
       let found = t.done.0 in
       let fits = f found t.done.1.passes in
       noted (step.entry found) old new s t.done.1.noted fits.follows fits.free
-      (λ told b. ∥∥₁_map (s.holds told (unbroken-before old.notes (step.entry found) b)) (λ h. fits.holds h (t.elsewhere told) (t.stored told)))
+      (λ told b. ∥∥₁_map (s.holds told (unbroken-before old.notes (step.entry found) b)) (λ h. fits.holds h (t.elsewhere told) (t.stored.1 told) t.stored.0))
   kept step old new (Err DatastoreCreate) s f t = broke old new s (t.broken refl)
   kept step old new (Err (Refused c)) s f t = let e = t.same (λ x. cc) in unchanged old new s e.0 e.1 e.2
   kept step old new (Err DatastoreOpen) s f t = let e = t.same (λ x. cc) in unchanged old new s e.0 e.1 e.2

@@ -1,5 +1,5 @@
 -- The first part of a step.
-use Rattle.std.proofs.Common.{◌≡◌, ℕ, List, [], Option, None, Some, Result, Ok, Err, Bool, true, sym, ap, ◌∙◌, inr, unwrap_or, subst, is_some}
+use Rattle.std.proofs.Common.{◌≡◌, ℕ, List, [], Option, None, Some, Result, Ok, Err, Bool, true, sym, ap, ◌∙◌, inr, subst, is_some}
 use Rattle.tough_vault.specs.Stored.{Files, SameFiles}
 use Rattle.tough_vault.specs.declared.parts.Prepared.{Prepared}
 use Rattle.tough_vault.specs.declared.checks.StepError.{StepError}
@@ -7,7 +7,7 @@ use Rattle.tough_vault.specs.declared.checks.StepError.TheVariants.{Refused, Dat
 use Rattle.tough_vault.specs.Checks.{Reason, Checked, or_else, timestamp_where}
 use Rattle.tough_schema.specs.declared.timestamp.Timestamp.{Timestamp as TimestampFile}
 use Rattle.tough_schema.specs.Timestamp.{TimestampDoc}
-use Rattle.tough_vault.specs.Journal.{Timestamp}
+use Rattle.tough_vault.specs.Journal.{Timestamp, Last}
 use Rattle.tough_vault.specs.Steps.{needs}
 use Rattle.tough_vault.specs.Step.{Step, Finds}
 use Rattle.tough_vault.specs.Parts.{Carries, Prepares}
@@ -24,9 +24,6 @@ or_none a b p q = ap (λ x. or_else x b) p ∙ q
 
 pub needs_none : (text : Option (List ℕ)) (bytes : List ℕ) → text ≡ Some bytes → needs text ≡ None
 needs_none text bytes h = ap needs h
-
-pub text_is : (text : Option (List ℕ)) (bytes : List ℕ) → text ≡ Some bytes → bytes ≡ unwrap_or text []
-text_is text bytes h = sym (ap (λ x. unwrap_or x []) h)
 
 module _ {S : Type 0} (tells : Bool) (files : S → Files) (count : S → ℕ) (step : Step) (old new : S) where
   -- a check after the read refused
@@ -56,8 +53,15 @@ pub had_old : (o : Option TimestampFile) (t : Option TimestampDoc) (b : Bool) �
 had_old None t b h e = h ∙ ap is_some e
 had_old (Some d) t b h e = h ∙ ap is_some e
 
-pub same_pair : (v s w : ℕ) (a b : Bool) → s ≡ w → a ≡ b → Timestamp (record { version = v; snapshot = s }) a ≡ Timestamp (record { version = v; snapshot = w }) b
-same_pair v s w a b p q = ap (λ x. Timestamp (record { version = v; snapshot = x }) a) p ∙ ap (λ x. Timestamp (record { version = v; snapshot = w }) x) q
+pub same_pair : (u v s w : ℕ) (a b : Bool) → u ≡ v → s ≡ w → a ≡ b → Timestamp (record { version = u; snapshot = s }) a ≡ Timestamp (record { version = v; snapshot = w }) b
+same_pair u v s w a b o p q =
+    ap (λ x. Timestamp (record { version = x; snapshot = s }) a) o
+    ∙ (ap (λ x. Timestamp (record { version = v; snapshot = x }) a) p ∙ ap (λ x. Timestamp (record { version = v; snapshot = w }) x) q)
+
+pub same_tip : (tip : Last) (u v s w : ℕ) → u ≡ v → s ≡ w → record tip { timestamp = Some (record { version = u; snapshot = s }) } ≡ record tip { timestamp = Some (record { version = v; snapshot = w }) }
+same_tip tip u v s w o p =
+    ap (λ x. record tip { timestamp = Some (record { version = x; snapshot = s }) }) o
+    ∙ ap (λ x. record tip { timestamp = Some (record { version = v; snapshot = x }) }) p
 
 pub or_second : (a b : Option Reason) (r : Reason) → a ≡ None → b ≡ Some r → or_else a b ≡ Some r
 or_second a b r p q = ap (λ x. or_else x b) p ∙ q

@@ -2,6 +2,7 @@
 use Rattle.std.proofs.Common.{◌≡◌, ℕ, ℤ, ◌≤◌, ◌≤ℤ◌, List, [], ◌∷◌, ◌++◌, Option, None, Some, Bool, true, false, nat_le, refl, ap, ◌∙◌, subst, arith}
 use Rattle.std.proofs.lemmas.Bool.Decides.{nat_tests}
 use Rattle.std.specs.Int.Signed.{≤ℤ_refl}
+use Rattle.tough_vault.proofs.Instants.{no_later}
 use Rattle.tough_vault.specs.Journal.{Pair, Item, version_in, Note, Noted, Root, Timestamp, Snapshot, Cleared, Document, Broken, Last, Roles, no_tip, applied, replay, Rises, Legal, NothingGoesBack, KeepsNames, PairAtMost, RolesAtMost, has_at_least, has_cleared}
 
 rises-behind : (tip : Last) (xs ys : List Note) → Rises tip (xs ++ ys) → Rises (replay tip xs) ys
@@ -65,8 +66,8 @@ roles_stay p q tip (Document d ∷ ys) zs r b t a l n = roles_stay p q tip ys zs
 roles_stay p q tip (Broken ∷ ys) zs r b t a l n = roles_stay p q tip ys zs r b t a l.1 n
 
 time_stays : (p q : ℤ) (tip : Last) (ys zs : List Note) (r : ℤ) → tip.time ≡ Some q → p ≤ℤ q → Rises tip (ys ++ Noted r ∷ zs) → p ≤ℤ r
-time_stays p q tip [] zs r t a l = omega (arith, a, l.0 q t)
-time_stays p q tip (Noted u ∷ ys) zs r t a l = time_stays p u (applied tip (Noted u)) ys zs r refl (omega (arith, a, l.0 q t)) l.1
+time_stays p q tip [] zs r t a l = no_later p q r a (l.0 q t)
+time_stays p q tip (Noted u ∷ ys) zs r t a l = time_stays p u (applied tip (Noted u)) ys zs r refl (no_later p q u a (l.0 q t)) l.1
 time_stays p q tip (Root u ∷ ys) zs r t a l = time_stays p q tip ys zs r t a l.1
 time_stays p q tip (Timestamp w o ∷ ys) zs r t a l = time_stays p q (applied tip (Timestamp w o)) ys zs r t a l.1
 time_stays p q tip (Snapshot w o ∷ ys) zs r t a l = time_stays p q (applied tip (Snapshot w o)) ys zs r t a l.1

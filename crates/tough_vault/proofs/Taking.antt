@@ -41,7 +41,7 @@ module _ {S : Type 0} (tells : Bool) (files : S → Files) (count : S → ℕ) (
             receipt = record { number = w.done.2.number; entry = w.done.2.entry ∙ carries.receipt };
           },
         );
-        stored = λ t. w.stored t ∙ ap Some carries.bytes;
+        stored = (λ x. cc (x, carries.bytes), λ t. w.stored t ∙ sym carries.bytes);
         why = tt;
         broken = λ x. absurd (cc);
         same = tt;

@@ -1,6 +1,7 @@
 -- Signed documents as the steps see them.
-use Rattle.std.specs.Prelude.{ℕ, List, [], ◌∷◌, Option, None, Some, option_and_then, Result, if◌then◌else◌}
+use Rattle.std.specs.Prelude.{ℕ, List, Option, None, Some, option_and_then, Result, if◌then◌else◌}
 use Rattle.std.specs.Str.{bytes_eq}
+use Rattle.std.specs.Map.{lookup}
 use Rattle.serde_json.specs.Data.{Data}
 use Rattle.serde_json.specs.Written.{has_float, compact_text}
 use Rattle.tough_base.specs.CanonicalText.{canonical_of}
@@ -33,7 +34,6 @@ timestamp_in bytes = option_and_then (signed_at timestamp_at) (json_of bytes)
 abbrev pub timestamp_verdict : Verifies → RootDoc → SignedDoc TimestampDoc → Result Unit Refused
 timestamp_verdict verifies root d = verdict verifies (policy root role.Timestamp) (option_and_then canonical_of (timestamp_json d.role)) d.signatures
 
--- what a document lists for a name: its first entry of the name
+-- what a document lists for a name
 abbrev pub metafile_in : List (List ℕ × MetafileDoc) → List ℕ → Option MetafileDoc
-metafile_in [] name = None
-metafile_in (e ∷ es) name = if bytes_eq e.0 name then Some e.1 else metafile_in es name
+metafile_in es name = lookup (bytes_eq name) es

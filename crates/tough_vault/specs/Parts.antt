@@ -45,11 +45,11 @@ changed (change.Snapshot v) tip = record tip { snapshot = Some (roles_of v) }
 changed change.Cleared tip = record tip { timestamp = None; snapshot = None }
 
 -- all that a write needs was made: the entry, its copies, and the bytes
-pub record Carries (note : Note) (text : List ℕ) (p : Prepared) : Type 0 where
+pub record Carries (note : Note) (text : Option (List ℕ)) (p : Prepared) : Type 0 where
   pub entry : note_of p.entry ≡ note
   pub receipt : note_of p.receipt ≡ note
   pub change : (tip : Last) → changed p.change tip ≡ applied tip note
-  pub bytes : p.bytes.items ≡ text
+  pub bytes : text ≡ Some p.bytes.items
 
 module _ {S : Type 0} (tells : Bool) (files : S → Files) (count : S → ℕ) where
   -- The first part of a step: it reads and checks, and writes nothing.

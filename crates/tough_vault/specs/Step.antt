@@ -14,7 +14,7 @@ pub record Step : Type 0 where
   pub reads : Bool  -- whether the file is read before it is written
   pub before : Option Reason  -- the first check that refuses before the file is read
   pub after : Option (List ℕ) → Option Reason  -- the first that refuses after, by what the file held
-  pub bytes : List ℕ  -- what is written
+  pub bytes : Option (List ℕ)  -- what is written, where there is a text
   pub entry : Option (List ℕ) → Note  -- what is noted, by what the file held
 
 -- the parts of a vault, as contracts see them
@@ -69,7 +69,7 @@ module _ {S : Type 0} (tells : Bool) (files : S → Files) (count : S → ℕ) w
     -- success: every check passed, exactly one entry is noted, and the receipt tells it
     pub done : IfOk result (λ r. (found : Option (List ℕ)) × Does step old new r found)
     -- success: the file has the bytes
-    pub stored : OnOk result (tells ≡ true → files new.store step.file ≡ Some step.bytes)
+    pub stored : OnOk result ((step.bytes ≢ None) × (tells ≡ true → files new.store step.file ≡ step.bytes))
     -- refusal: the first check that refuses, or a device's fault in its place, or want of memory
     pub why : IfErr result (Why step old.store new.store)
     -- a failed write notes Broken, and the tip stays

@@ -1,5 +1,5 @@
 -- The steps that write, each as the table of its refusals and what it writes and notes.
-use Rattle.std.specs.Prelude.{ℕ, ℤ, List, [], ◌∷◌, Option, None, Some, Bool, true, false, is_some, unwrap_or, option_map, option_and_then, Result, Ok, Err}
+use Rattle.std.specs.Prelude.{ℕ, ℤ, List, [], ◌∷◌, Option, None, Some, Bool, true, false, is_some, option_map, option_and_then, Result, Ok, Err}
 use Rattle.tough_schema.specs.Signature.{SignedDoc}
 use Rattle.tough_schema.specs.Root.{RootDoc}
 use Rattle.tough_schema.specs.Timestamp.{TimestampDoc}
@@ -55,7 +55,7 @@ time_step tip now = record {
   reads = true;
   before = None;
   after = λ found. first_of (time_after (stored_time found) tip.time now ∷ needs (time_text now) ∷ []);
-  bytes = unwrap_or (time_text now) [];
+  bytes = time_text now;
   entry = λ found. Noted now;
 }
 
@@ -66,7 +66,7 @@ root_step root = record {
   reads = false;
   before = needs (root_text root);
   after = λ found. None;
-  bytes = unwrap_or (root_text root) [];
+  bytes = root_text root;
   entry = λ found. RootNote root.role.head.version;
 }
 
@@ -77,6 +77,6 @@ timestamp_step verifies root tip new start enforced = record {
   reads = true;
   before = timestamp_first (timestamp_verdict verifies root new) new.role;
   after = λ found. timestamp_after (stored_timestamp verifies root found) tip.timestamp new.role start enforced;
-  bytes = unwrap_or (timestamp_text new) [];
+  bytes = timestamp_text new;
   entry = λ found. Timestamp (versions_in new.role) (is_some (stored_timestamp verifies root found));
 }

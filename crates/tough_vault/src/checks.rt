@@ -1,17 +1,18 @@
 //! The checks of the steps, in their order.
 
-ghost use Rattle.std.specs.Prelude.{◌≡◌, IsTrue, ◌↔◌};
+ghost use Rattle.std.specs.Prelude.{◌≡◌, option_map, option_copied};
 ghost use Rattle.tough_schema.specs.Signature.{signed_doc};
 ghost use Rattle.tough_schema.specs.Root.{root_doc};
-ghost use Rattle.tough_schema.specs.Timestamp.{timestamp_doc};
-ghost use Rattle.tough_vault.specs.Documents.{timestamp_verdict};
+ghost use Rattle.tough_schema.specs.Timestamp.{timestamp_doc, metafile_doc};
+ghost use Rattle.tough_vault.specs.Documents.{timestamp_verdict, metafile_in};
+ghost use Rattle.tough_vault.specs.Files.{snapshot_file};
 ghost use Rattle.tough_vault.specs.Journal.{pair_of, pair_where, time_where};
 ghost use Rattle.tough_vault.specs.Checks.{Checked, expiry, later, time_after, snapshot_version, timestamp_form, timestamp_first, timestamp_older, timestamp_below, timestamp_against, timestamp_tip, timestamp_after, timestamp_where, enforces};
 
 use crate::entry::TimestampVersions;
 use jiff::Timestamp as Instant;
 use std::alloc::Global;
-use tough_schema::{Error, RoleType, Root, Signed, Timestamp, Verify};
+use tough_schema::{Error, Metafile, RoleType, Root, Signed, Timestamp, Verify};
 
 /// Whether a document that has expired is refused.
 #[derive(Clone, Copy, Debug, PartialEq, Eq, Drop)]
@@ -131,11 +132,18 @@ pub enum StepError {
     Memory,
 }
 
+// What a timestamp says of the snapshot.
+fn snapshot_meta(timestamp: &Timestamp) -> Option<&Metafile>
+    ensures { option_map metafile_doc (option_copied result) ≡ metafile_in (timestamp_doc timestamp.now).meta snapshot_file }
+{
+    timestamp.meta.get("snapshot.json")
+}
+
 /// The version of the snapshot that a timestamp names; 0 where it names none.
 pub(crate) fn snapshot_version(timestamp: &Timestamp) -> u64
     ensures { result ≡ snapshot_version (timestamp_doc timestamp.now) }
 {
-    match timestamp.meta.get("snapshot.json") {
+    match snapshot_meta(timestamp) {
         Some(snapshot) => snapshot.version.get(),
         None => 0,
     }
@@ -153,7 +161,7 @@ fn check_form(timestamp: &Timestamp) -> Result<(), StepError>
             meta_length,
         }));
     }
-    if timestamp.meta.get("snapshot.json").is_none() {
+    if snapshot_meta(timestamp).is_none() {
         return Err(StepError::Refused(Refusal::MissingSnapshotMeta { version }));
     }
     Ok(())

@@ -52,11 +52,7 @@ fn read_timestamp<V: Verify>(
     }
 }
 
-pub(crate) fn prepare_root(
-    alloc: Global,
-    root: &Signed<Root>,
-) -> Result<Prepared, StepError>
-{
+pub(crate) fn prepare_root(alloc: Global, root: &Signed<Root>) -> Result<Prepared, StepError> {
     let bytes = match document_bytes(alloc, root) {
         Ok(bytes) => bytes,
         Err(WriteError::Unwritable) => return Err(StepError::Refused(Refusal::DatastoreSerialize)),

@@ -91,7 +91,16 @@ impl<S: Store> Vault<S> {
             journal,
             tip,
         } = self;
-        let prepared = prepare_timestamp(*alloc, store, tip, verifier, root, new, start, enforcement);
+        let prepared = prepare_timestamp(
+            *alloc,
+            store,
+            tip,
+            verifier,
+            root,
+            new,
+            start,
+            enforcement,
+        );
         conclude(store, journal, tip, TIMESTAMP, prepared)
     }
 

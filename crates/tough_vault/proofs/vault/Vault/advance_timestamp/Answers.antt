@@ -1,8 +1,10 @@
-use Rattle.tough_vault.specs.Documents.{told}
+use Rattle.tough_schema.specs.Signature.{signed_doc}
+use Rattle.tough_schema.specs.Root.{root_doc}
+use Rattle.tough_schema.specs.Timestamp.{timestamp_doc}
+use Rattle.tough_vault.specs.Checks.{enforces}
 use Rattle.tough_vault.specs.Journal.{tip_of}
 use Rattle.tough_vault.specs.Steps.{timestamp_step}
 use Rattle.tough_vault.specs.Parts.{parts}
-use Rattle.tough_vault.specs.declared.documents.Role.TheVariants.{Timestamp}
 use Rattle.tough_vault.proofs.Taking.{takes}
 use Rattle.tough_vault.proofs.Fitting.{after_step, fits_timestamp}
 use Rattle.tough_vault.proofs.vault.Vault.advance_timestamp.Goals as goal
@@ -13,11 +15,14 @@ returns g c = takes _ _ _ _ _ _ _ _ _ c.prepare_timestamp-prepared.ensures c.con
 pub invariant_of-self : goal.invariant_of-self
 invariant_of-self g c =
     let self = c.args.self.now in
-    let old = parts c.args.self.now.store c.args.self.now.journal.items c.args.self.now.tip in
-    let new = parts c.conclude.new.store c.conclude.new.journal.items c.conclude.new.tip in
-    let s = after_step g.S.Store.tells g.S.Store.files g.S.Store.count g.F.Formats.text g.F.Formats.root_text g.F.Formats.time_read
-    (timestamp_step (g.F.Formats.read Timestamp) (g.V.Verify.accepts c.args.verifier.now c.args.root.now Timestamp) (g.F.Formats.text (told c.args.doc.now)) (tip_of self.tip) (told c.args.doc.now) c.args.start) old new _ c.prepare_timestamp-prepared.result c.conclude.result
+    let verifies = g.V.Verify.verifies c.args.verifier.now in
+    let root = root_doc c.args.root.now in
+    let new = signed_doc timestamp_doc c.args.new.now in
+    let before = parts c.args.self.now.store c.args.self.now.journal.items c.args.self.now.tip in
+    let after = parts c.conclude.new.store c.conclude.new.journal.items c.conclude.new.tip in
+    let s = after_step g.S.Store.tells g.S.Store.files g.S.Store.count
+    (timestamp_step verifies root (tip_of self.tip) new c.args.start.nanosecond (enforces c.args.enforcement)) before after _ c.prepare_timestamp-prepared.result c.conclude.result
     (record { replays = self.replays; rises = self.rises; free = self.free; holds = self.holds })
     c.prepare_timestamp-prepared.ensures c.conclude.ensures
-    (fits_timestamp g.S.Store.tells g.S.Store.files g.S.Store.count g.F.Formats.text g.F.Formats.root_text g.F.Formats.time_read old self.free (g.S.Store.files c.conclude.new.store) (g.F.Formats.read Timestamp) (g.V.Verify.accepts c.args.verifier.now c.args.root.now Timestamp) (told c.args.doc.now) c.args.start) in
+    (fits_timestamp g.S.Store.tells g.S.Store.files g.S.Store.count before self.free (g.S.Store.files c.conclude.new.store) verifies root new c.args.start.nanosecond (enforces c.args.enforcement)) in
     record { replays = s.replays; rises = s.rises; free = s.free; holds = s.holds }
