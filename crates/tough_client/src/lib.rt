@@ -9,4 +9,3 @@ pub use tough_vault::{
     Entry, ExpirationEnforcement, ListedVersion, MemoryStore, Receipt, Refusal, SnapshotVersions,
     StepError, Store, StoreError, TimestampVersions, Tip, Vault,
 };
-pub use walk::RootChain;
