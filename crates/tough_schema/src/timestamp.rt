@@ -3,8 +3,10 @@ ghost use Rattle.tough_schema.specs.Timestamp.{timestamp_doc, timestamp_at, time
 ghost use Rattle.tough_json.proofs.WriteLemmas.{some_apart};
 ghost use Rattle.tough_schema.specs.declared.role_type.RoleType.TheVariants as types;
 
+use crate::read_timestamp::timestamp_of;
 use crate::role::Role;
 use crate::role_type::RoleType;
+use crate::write_timestamp::timestamp_value;
 use serde_json::{Map, Value};
 use std::alloc::Global;
 use std::collections::BTreeMap;
@@ -54,11 +56,11 @@ impl Role for Timestamp {
     ghost is_kept = { λ x. IsReadBack x };
 
     fn from_value(alloc: Global, value: Value) -> Result<Timestamp, ReadError> {
-        Err(ReadError::Memory)
+        timestamp_of(alloc, value)
     }
 
     fn to_value(&self, alloc: Global) -> Result<Value, WriteError> {
-        Err(WriteError::Memory)
+        timestamp_value(alloc, self)
     }
 
     fn version(&self) -> NonZeroU64 {
