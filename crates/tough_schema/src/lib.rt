@@ -3,6 +3,7 @@
 
 mod error;
 mod head;
+mod read_root;
 mod read_signed;
 mod read_timestamp;
 mod role;
