@@ -21,11 +21,7 @@ use tough_keys::Key;
 
 // A member as a key under its own identifier.
 #[tactic(auto, unfolding(crate::specs::Root::key_entry_at))]
-fn key_entry(
-    alloc: Global,
-    name: &str,
-    value: Value,
-) -> Result<(Decoded<Hex>, Key), ReadError>
+fn key_entry(alloc: Global, name: &str, value: Value) -> Result<(Decoded<Hex>, Key), ReadError>
     ensures { Reads (λ p. (p.0, key_doc p.1)) result (key_entry_at name.now (view value)) }
 {
     let id = match Decoded::from_str(alloc, name) {

@@ -36,9 +36,12 @@ loop-name-preserved c =
     let all = c.loop-name.invariant.2 ∙ ap (λ (xs : List Entry). keys_from docs (members_view xs)) c.in-Some.ensures.steps in
     let free = free-keys_doc c.loop-name.keys.entries c.in_ok-id.id (sym c.contains_key.ensures ∙ c.if-contains_key.false) in
     let read = subst (λ n. key_entry_at n (view c.in-Some.value) ≡ Some (c.in_ok-id.id, key_doc c.in_ok-id.key)) name c.in_ok-id.ensures in
-    let put = ap keys_doc c.in_ok-insert.ensures.entries ∙ insert-keys_doc c.loop-name.keys.entries c.in_ok-id.id c.in_ok-id.key in
-    (tt, tt, all ∙ keys-more docs (string_bytes c.in-Some.name) (view c.in-Some.value) (members_view c.next.new.self) c.in_ok-id.id (key_doc c.in_ok-id.key) read free
-    ∙ ap (λ found. keys_from found (members_view c.next.new.self)) (sym put))
+    let put = ap keys_doc c.in_ok-insert.ensures.entries ∙ insert-keys_doc c.loop-name.keys.entries c.in_ok-id.id c.in_ok-id.key in (
+      tt,
+      tt,
+      all ∙ keys-more docs (string_bytes c.in-Some.name) (view c.in-Some.value) (members_view c.next.new.self) c.in_ok-id.id (key_doc c.in_ok-id.key) read free
+          ∙ ap (λ found. keys_from found (members_view c.next.new.self)) (sym put),
+    )
 
 pub returns : goal.returns
 returns c =

@@ -22,9 +22,12 @@ loop-name-preserved c =
     let docs = roles_doc c.loop-name.roles.entries in
     let all = c.loop-name.invariant.2 ∙ ap (λ (xs : List Entry). roles_from docs (members_view xs)) c.in-Some.ensures.steps in
     let read = subst (λ n. role_entry_at n (view c.in-Some.value) ≡ Some (c.in_ok-role.role, role_keys_doc c.in_ok-role.keys)) name c.in_ok-role.ensures in
-    let put = ap roles_doc c.in_ok-insert.ensures.entries ∙ insert-roles_doc c.loop-name.roles.entries c.in_ok-role.role c.in_ok-role.keys in
-    (tt, tt, all ∙ roles-more docs (string_bytes c.in-Some.name) (view c.in-Some.value) (members_view c.next.new.self) (c.in_ok-role.role, role_keys_doc c.in_ok-role.keys) read
-    ∙ ap (λ found. roles_from found (members_view c.next.new.self)) (sym put))
+    let put = ap roles_doc c.in_ok-insert.ensures.entries ∙ insert-roles_doc c.loop-name.roles.entries c.in_ok-role.role c.in_ok-role.keys in (
+      tt,
+      tt,
+      all ∙ roles-more docs (string_bytes c.in-Some.name) (view c.in-Some.value) (members_view c.next.new.self) (c.in_ok-role.role, role_keys_doc c.in_ok-role.keys) read
+          ∙ ap (λ found. roles_from found (members_view c.next.new.self)) (sym put),
+    )
 
 pub returns : goal.returns
 returns c =
