@@ -20,12 +20,15 @@ head_at members = do
   expires ← required (codes "expires") instant version.1
   Some (record { spec_version = spec_version.0; version = version.0; expires = expires.0 }, without (codes "_type") expires.1)
 
+-- one more member that is an instant
+abbrev pub with_moment : List ℕ → ℤ → Members → Option Members
+with_moment name z members = moment_text z >>= λ text. with name (string text) members
+
 -- the members with those of a head, and the role's name as `_type`
 unfoldable pub head_json : List ℕ → Head → Members → Option Members
 head_json kind head members = do
   typed ← with (codes "_type") (string kind) members
-  written ← moment_text head.expires
-  expires ← with (codes "expires") (string written) typed
+  expires ← with_moment (codes "expires") head.expires typed
   value ← positive_json head.version
   version ← with (codes "version") value expires
   with (codes "spec_version") (string head.spec_version) version

@@ -8,3 +8,4 @@ pub mod Policy
 pub mod Verdict
 pub mod Reaches
 pub mod Chain
+pub mod Counting

@@ -1,5 +1,5 @@
 -- Timestamps, and what they say of a snapshot (TUF specification 1.0, sections 4.4 and 4.6).
-use Rattle.std.specs.Prelude.{◌≡◌, ℕ, List, map, Option, Some, option_map, option_and_then, codes, string_bytes, String}
+use Rattle.std.specs.Prelude.{ℕ, List, map, Option, Some, option_map, option_and_then, codes, string_bytes, String}
 use Rattle.std.specs.Int.NonZero.{non_zero_u64_get}
 use Rattle.std.specs.declared.alloc.Global.{Global}
 use Rattle.tough_base.specs.Spelled.{Spelled}
@@ -94,7 +94,3 @@ timestamp_json t = do
   meta ← with (codes "meta") (object inner) t.extra
   members ← head_json (codes "timestamp") t.head meta
   Some (object members)
-
--- what is written for it is read as it
-abbrev pub IsReadBack : Timestamp → Type 0
-IsReadBack t = (d : Data) → timestamp_json (timestamp_doc t) ≡ Some d → timestamp_at d ≡ Some (timestamp_doc t)

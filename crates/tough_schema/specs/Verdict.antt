@@ -1,12 +1,13 @@
 -- What verifying a role answers: the first refusal whose condition holds (TUF specification 1.0, section 5.3.4 and the
 -- like: a threshold of different keys must have signed).
-use Rattle.std.specs.Prelude.{◌≡◌, ℕ, List, [], ◌∷◌, map, filter, Bool, false, ◌&&◌, ◌||◌, nat_le, if◌then◌else◌, Option, Some, None, Result, Ok, Err, ⊤}
-use Rattle.std.specs.List.{list_any}
+use Rattle.std.specs.Prelude.{◌≡◌, ℕ, ◌<◌, length, string_bytes, List, [], ◌∷◌, map, filter, Bool, false, ◌&&◌, ◌||◌, nat_le, if◌then◌else◌, Option, Some, None, Result, Ok, Err, ⊤}
+use Rattle.std.specs.List.{list_any, HoldsAt}
 use Rattle.std.specs.Str.{bytes_eq}
 use Rattle.std.specs.Set.{distinct_count}
 use Rattle.tough_keys.specs.Same.{KeyData, Verifies}
 use Rattle.tough_schema.specs.Signature.{SignatureDoc}
 use Rattle.tough_schema.specs.Policy.{Policy}
+use Rattle.tough_schema.specs.declared.role_type.RoleType.{RoleType}
 use Rattle.tough_schema.specs.declared.error.Error.{Error}
 use Rattle.tough_schema.specs.declared.error.Error.TheVariants as errors
 
@@ -61,3 +62,11 @@ IsRefusal errors.Memory v = ⊤
 abbrev pub Answers : Result Unit Error → Result Unit Refused → Type 0
 Answers (Ok u) v = v ≡ Ok tt
 Answers (Err e) v = IsRefusal e v
+
+-- An error names the role, and an identifier that stands twice as the document spells it.
+abbrev pub Names : RoleType → List SignatureDoc → Error → Type 0
+Names asked signatures (errors.MissingRole role) = role ≡ asked
+Names asked signatures (errors.JsonSerialization role) = role ≡ asked
+Names asked signatures (errors.DuplicateKeyId keyid) = (i : ℕ) × (i < length signatures) × HoldsAt (λ s. s.keyid.spelling ≡ string_bytes keyid) signatures i
+Names asked signatures (errors.SignatureThreshold role threshold valid) = role ≡ asked
+Names asked signatures errors.Memory = ⊤

@@ -2,7 +2,10 @@
 #![tactic(auto)]
 
 mod error;
+mod head;
+mod read_root;
 mod read_signed;
+mod read_timestamp;
 mod role;
 mod role_type;
 mod root;
@@ -11,6 +14,7 @@ mod signed;
 mod timestamp;
 mod verify;
 mod write_signed;
+mod write_timestamp;
 
 pub use error::Error;
 pub use role::Role;

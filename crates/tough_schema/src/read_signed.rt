@@ -8,10 +8,10 @@ ghost use Rattle.tough_schema.specs.Document.{ReadsValue, IsSigned, IsNotSigned}
 use crate::role::Role;
 use crate::signature::Signature;
 use crate::signed::Signed;
-use tough_json::error::{ReadError, shape};
-use tough_json::member::{hexadecimal, take};
 use serde_json::{Map, Value};
 use std::alloc::Global;
+use tough_json::error::{ReadError, shape};
+use tough_json::member::{hexadecimal, take};
 
 #[tactic(auto, unfolding(crate::specs::Signature::signature_at))]
 fn signature_of(alloc: Global, value: Value) -> Result<Signature, ReadError>

@@ -1,4 +1,4 @@
-ghost use Rattle.std.specs.Prelude.{◌≡◌, Option, Some};
+ghost use Rattle.std.specs.Prelude.{◌≡◌, Option, IfOk};
 ghost use Rattle.std.specs.Int.NonZero.{non_zero_u64_get};
 ghost use Rattle.serde_json.specs.Data.{Data};
 ghost use Rattle.serde_json.specs.View.{view};
@@ -33,11 +33,13 @@ pub trait Role {
 
     /// The role that the value is; `Shape` where it is none.
     fn from_value(alloc: Global, value: Value) -> Result<Self, ReadError>
-        ensures { ReadsValue is_read is_refused result (view value) };
+        ensures read { ReadsValue is_read is_refused result (view value) }
+        ensures kept { IfOk result is_kept };
 
-    /// The role as JSON; `Unwritable` where it has none.
+    /// The role as JSON, which is read as it; `Unwritable` where it has none.
     fn to_value(&self, alloc: Global) -> Result<Value, WriteError>
-        ensures { Writes view result (json self.now) };
+        ensures written { Writes view result (json self.now) }
+        ensures back { is_kept self.now → IfOk result (λ v. is_read (view v) self.now) };
 
     /// The version of the document.
     fn version(&self) -> NonZeroU64
@@ -46,8 +48,6 @@ pub trait Role {
     /// When the document expires.
     fn expires(&self) -> jiff::Timestamp
         ensures { result.nanosecond ≡ (head self.now).expires };
-
-    ghost back: { (x : Self) (d : Data) → is_kept x → json x ≡ Some d → is_read d x };
 
     ghost apart: { (x : Self) (d : Data) → is_read d x → is_refused d → ⊥ };
 }

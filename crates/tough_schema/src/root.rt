@@ -1,5 +1,5 @@
 ghost use Rattle.std.specs.Prelude.{◌≡◌, Some, None};
-ghost use Rattle.tough_json.proofs.WriteLemmas.{some_apart};
+ghost use Rattle.std.proofs.Common.{rules};
 ghost use Rattle.tough_schema.specs.Root.{root_doc, root_at, root_json, IsReadBack};
 ghost use Rattle.tough_schema.specs.declared.role_type.RoleType.TheVariants as types;
 
@@ -64,7 +64,5 @@ impl Role for Root {
         self.expires
     }
 
-    ghost back = { λ x d kept written. kept d written };
-
-    ghost apart = { λ x d read refused. some_apart (root_at d) (root_doc x) read refused };
+    ghost apart = { Prim.search rules };
 }

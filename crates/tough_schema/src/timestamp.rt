@@ -1,10 +1,12 @@
-ghost use Rattle.std.specs.Prelude.{◌≡◌, Some, None};
-ghost use Rattle.tough_schema.specs.Timestamp.{timestamp_doc, timestamp_at, timestamp_json, IsReadBack};
-ghost use Rattle.tough_json.proofs.WriteLemmas.{some_apart};
+ghost use Rattle.std.specs.Prelude.{◌≡◌, Some, None, ⊤};
+ghost use Rattle.tough_schema.specs.Timestamp.{timestamp_doc, timestamp_at, timestamp_json};
+ghost use Rattle.std.proofs.Common.{rules};
 ghost use Rattle.tough_schema.specs.declared.role_type.RoleType.TheVariants as types;
 
+use crate::read_timestamp::timestamp_of;
 use crate::role::Role;
 use crate::role_type::RoleType;
+use crate::write_timestamp::timestamp_value;
 use serde_json::{Map, Value};
 use std::alloc::Global;
 use std::collections::BTreeMap;
@@ -51,14 +53,15 @@ impl Role for Timestamp {
 
     ghost json = { λ x. timestamp_json (timestamp_doc x) };
 
-    ghost is_kept = { λ x. IsReadBack x };
+    ghost is_kept = { λ x. ⊤ };
 
     fn from_value(alloc: Global, value: Value) -> Result<Timestamp, ReadError> {
-        Err(ReadError::Memory)
+        timestamp_of(alloc, value)
     }
 
     fn to_value(&self, alloc: Global) -> Result<Value, WriteError> {
-        Err(WriteError::Memory)
+        let value = timestamp_value(alloc, self)?;
+        Ok(value)
     }
 
     fn version(&self) -> NonZeroU64 {
@@ -69,7 +72,5 @@ impl Role for Timestamp {
         self.expires
     }
 
-    ghost back = { λ x d kept written. kept d written };
-
-    ghost apart = { λ x d read refused. some_apart (timestamp_at d) (timestamp_doc x) read refused };
+    ghost apart = { Prim.search rules };
 }

@@ -4,9 +4,9 @@ ghost use Rattle.tough_json.specs.Writing.{all_json};
 ghost use Rattle.tough_schema.specs.Signature.{signature_doc, signatures_doc, signature_json, signed_parts_json};
 
 use crate::signature::Signature;
-use tough_json::write::{digits, put};
 use serde_json::{Map, Value};
 use std::alloc::{AllocError, Global};
+use tough_json::write::{digits, put};
 
 #[tactic(auto, unfolding(crate::specs::Signature::signature_json))]
 fn signature_value(alloc: Global, signature: &Signature) -> Result<Value, AllocError>

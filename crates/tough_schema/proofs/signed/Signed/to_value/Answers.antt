@@ -8,5 +8,5 @@ pub returns-clause-back : goal.returns-clause-back
 returns-clause-back g c = λ kept. record {
   role = view c.in_ok-role.role;
   found = signed-back (view c.in_ok-role.role) (signatures_doc c.args.self.now.signatures.items) (view c.in_ok-signed_value.field-0) (ap (λ x. signed_parts_json (view c.in_ok-role.role) (signatures_doc x)) (sym c.deref.ensures.value) ∙ c.in_ok-signed_value.ensures);
-  read = g.met.T.Role.back c.args.self.now.signed (view c.in_ok-role.role) kept c.in_ok-role.ensures;
+  read = c.in_ok-role.ensures.back kept;
 }
