@@ -30,3 +30,6 @@ pub fn encode_filename(alloc: Global, name: &str) -> Result<String, AllocError>
 pub fn encodes_apart()
     ensures { EncodesApart }
 {}
+
+#[cfg(test)]
+mod tests;

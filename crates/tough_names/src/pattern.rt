@@ -99,3 +99,6 @@ impl PartialEq for PathPattern {
 impl Eq for PathPattern {
     ghost laws = { Prim.search (comparing, rules) };
 }
+
+#[cfg(test)]
+mod tests;
