@@ -16,7 +16,8 @@ pub const FILE_NAME: AsciiSet = ascii_set!(
         .remove(b'~')
 );
 
-/// The name of the file of a role or a target.
+/// The name of the file of a role: each byte of `FILE_NAME` becomes `%` and two upper-case digits (RFC 3986,
+/// section 2.1).
 pub fn encode_filename(alloc: Global, name: &str) -> Result<String, AllocError>
     ensures { IfOk result (λ text. string_bytes text ≡ percent_encode FILE_NAME name.now) }
 {
@@ -29,3 +30,6 @@ pub fn encode_filename(alloc: Global, name: &str) -> Result<String, AllocError>
 pub fn encodes_apart()
     ensures { EncodesApart }
 {}
+
+#[cfg(test)]
+mod tests;

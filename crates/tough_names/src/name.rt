@@ -16,13 +16,21 @@ use std::alloc::{AllocError, Global};
 use std::cmp::Ordering;
 use std::hash::{Hash, Hasher};
 use std::marker::Model;
+use thiserror::Error;
 
 /// Why a text is no target name.
-#[derive(Debug, Drop, PartialEq, Eq)]
+#[derive(Debug, Drop, PartialEq, Eq, Error)]
 pub enum NameError {
+    /// The text is `..`.
+    #[error("The target name '..' is unsafe. Interpreting it as a path could escape from the intended directory")]
     UnsafeTargetNameDotDot,
+    /// The text is empty, or resolves to nothing.
+    #[error("The target name is unsafe. Interpreting it as a path would lead to an empty filename")]
     UnsafeTargetNameEmpty,
+    /// The text resolves to `/`.
+    #[error("The target name is unsafe. Interpreting it as a path would lead to a filename of '/'")]
     UnsafeTargetNameSlash,
+    #[error("out of memory")]
     Memory,
 }
 
@@ -36,8 +44,9 @@ impl From<AllocError> for NameError {
     }
 }
 
-/// A target's name, with the text that it resolves to.
-#[derive(Drop)]
+/// A target's name (TUF specification 1.0, section 4.5, TARGETPATH), with the text that it resolves to. Names
+/// are equal, ordered and hashed by the raw text and then the resolved one.
+#[derive(Debug, Drop)]
 pub struct TargetName {
     raw: String,
     resolved: String,
@@ -57,7 +66,8 @@ impl Model for TargetName {
 impl TargetName {
     ghost use Rattle.tough_names.specs.Named.{clean};
 
-    /// The name that a text is, or the first refusal.
+    /// The name that a text is. `..` is refused first, then the empty text, then a text that resolves to
+    /// nothing or to `/`.
     pub fn new(alloc: Global, raw: String) -> Result<TargetName, NameError>
         ensures raw { IfOk result (λ name. name.raw ≡ string_bytes raw) }
         ensures resolved { IfOk result (λ name. clean (string_bytes raw) ≡ Ok name.resolved) }
@@ -79,6 +89,15 @@ impl TargetName {
         Ok(TargetName { raw, resolved })
     }
 
+    /// The name that a text is, or the first refusal, as `new` has it.
+    pub fn from_str(alloc: Global, text: &str) -> Result<TargetName, NameError>
+        ensures raw { IfOk result (λ name. name.raw ≡ text.now) }
+        ensures resolved { IfOk result (λ name. clean text.now ≡ Ok name.resolved) }
+        ensures err { IfErr result (λ e. e ≢ NameError.Memory → clean text.now ≡ Err e) }
+    {
+        TargetName::new(alloc, String::from_str(alloc, text)?)
+    }
+
     /// The text as it was given.
     pub fn raw(&self) -> &str
         ensures text { result.now ≡ self.now.raw }
@@ -96,6 +115,30 @@ impl TargetName {
         ensures again { resolve result.now ≡ result.now }
     {
         self.resolved.as_str()
+    }
+}
+
+impl TryFrom<String> for TargetName {
+    ghost use Rattle.tough_names.specs.Named.{GivesName};
+
+    type Error = NameError;
+
+    ghost try_from_gives = { λ raw r. GivesName (string_bytes raw) r };
+
+    fn try_from(raw: String) -> Result<TargetName, NameError> {
+        let alloc = *raw.allocator();
+        TargetName::new(alloc, raw)
+    }
+}
+
+impl Clone for TargetName {
+    ghost is_clone = { λ x y. y ≡ x };
+
+    fn clone(&self) -> Result<TargetName, AllocError> {
+        Ok(TargetName {
+            raw: self.raw.clone()?,
+            resolved: self.resolved.clone()?,
+        })
     }
 }
 
@@ -197,3 +240,6 @@ fn resolved_text(alloc: Global, text: &str) -> Result<String, AllocError>
 pub fn resolves_once()
     ensures { ResolvesOnce }
 {}
+
+#[cfg(test)]
+mod tests;

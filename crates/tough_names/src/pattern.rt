@@ -12,11 +12,13 @@ use crate::pattern::item::Item;
 use crate::pattern::matching::fits;
 pub use crate::pattern::reading::PatternError;
 use crate::pattern::reading::read;
-use std::alloc::Global;
+use std::alloc::{AllocError, Global};
 use std::marker::Model;
 
-/// A pattern over resolved names.
-#[derive(Drop)]
+/// A pattern over resolved names (TUF specification 1.0, section 4.5, PATHPATTERN): `*` is any run of
+/// characters, `?` any one, `[a-z_]` one of a class, `[!a-z]` one outside it, and `\\c` the character `c`. All of
+/// them take `/` too. Patterns are equal by their text.
+#[derive(Debug, Drop)]
 pub struct PathPattern {
     text: String,
     items: Vec<Item>,
@@ -47,6 +49,16 @@ impl PathPattern {
         Ok(PathPattern { text, items })
     }
 
+    /// The pattern that a text is.
+    pub fn from_str(alloc: Global, text: &str) -> Result<PathPattern, PatternError>
+        ensures value { IfOk result (λ pattern. pattern ≡ text.now) }
+        ensures accepts { IfOk result (λ _. IsPattern (chars text.now)) }
+        ensures refuses { IfErr result (λ e. e ≢ PatternError.Memory
+            → (e ≡ PatternError.Glob) × (IsPattern (chars text.now) → ⊥)) }
+    {
+        PathPattern::new(alloc, String::from_str(alloc, text)?)
+    }
+
     /// The text.
     pub fn value(&self) -> &str
         ensures { result.now ≡ self.now }
@@ -63,6 +75,17 @@ impl PathPattern {
     }
 }
 
+impl Clone for PathPattern {
+    ghost is_clone = { λ x y. y ≡ x };
+
+    fn clone(&self) -> Result<PathPattern, AllocError> {
+        Ok(PathPattern {
+            text: self.text.clone()?,
+            items: self.items.clone()?,
+        })
+    }
+}
+
 impl PartialEq for PathPattern {
     ghost eq = { bytes_eq };
 
@@ -76,3 +99,6 @@ impl PartialEq for PathPattern {
 impl Eq for PathPattern {
     ghost laws = { Prim.search (comparing, rules) };
 }
+
+#[cfg(test)]
+mod tests;

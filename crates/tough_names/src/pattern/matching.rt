@@ -76,7 +76,7 @@ fn next_step<'a>(items: &'a [Item], text: &'a str) -> Step<'a>
 }
 
 /// Whether the items fit the text. The time is at most the product of the two lengths.
-pub fn fits(items: &[Item], text: &str) -> bool
+pub(crate) fn fits(items: &[Item], text: &str) -> bool
     ensures { IsTrue result ↔ Fits (parts_of items.now) (chars text.now) }
 {
     let mut left = items;

@@ -8,11 +8,15 @@ use crate::pattern::item::{Item, Span};
 use crate::pattern::matching::split_first;
 use std::alloc::{AllocError, AllocFailed, Global};
 use std::mem;
+use thiserror::Error;
 
 /// Why a text is no pattern.
-#[derive(Debug, Drop, PartialEq, Eq)]
+#[derive(Debug, Drop, PartialEq, Eq, Error)]
 pub enum PatternError {
+    /// The text isn't of the grammar.
+    #[error("Failed to parse path pattern as a glob")]
     Glob,
+    #[error("out of memory")]
     Memory,
 }
 
