@@ -162,29 +162,75 @@ impl From<Refusal> for Error {
 
     fn from(refusal: Refusal) -> Error {
         match refusal {
-            Refusal::SystemTimeSteppedBackward { sys_time, latest_known_time } => {
-                Error::SystemTimeSteppedBackward { sys_time, latest_known_time }
+            Refusal::SystemTimeSteppedBackward {
+                sys_time,
+                latest_known_time,
+            } => {
+                Error::SystemTimeSteppedBackward {
+                    sys_time,
+                    latest_known_time,
+                }
             }
             Refusal::DatastoreSerialize => Error::DatastoreSerialize,
             Refusal::VerifyMetadata { role, source } => Error::VerifyMetadata { role, source },
-            Refusal::VersionMismatch { role, fetched, expected } => {
-                Error::VersionMismatch { role, fetched, expected }
+            Refusal::VersionMismatch {
+                role,
+                fetched,
+                expected,
+            } => {
+                Error::VersionMismatch {
+                    role,
+                    fetched,
+                    expected,
+                }
             }
-            Refusal::TimestampMetaLength { version, meta_length } => {
-                Error::TimestampMetaLength { version, meta_length }
+            Refusal::TimestampMetaLength {
+                version,
+                meta_length,
+            } => {
+                Error::TimestampMetaLength {
+                    version,
+                    meta_length,
+                }
             }
             Refusal::MissingSnapshotMeta { version } => Error::MissingSnapshotMeta { version },
             Refusal::SnapshotTargetsMetaMissing { version } => {
                 Error::SnapshotTargetsMetaMissing { version }
             }
-            Refusal::OlderMetadata { role, current_version, new_version } => {
-                Error::OlderMetadata { role, current_version, new_version }
+            Refusal::OlderMetadata {
+                role,
+                current_version,
+                new_version,
+            } => {
+                Error::OlderMetadata {
+                    role,
+                    current_version,
+                    new_version,
+                }
             }
-            Refusal::OlderSnapshotInTimestamp { snapshot_new, timestamp_new, snapshot_old, timestamp_old } => {
-                Error::OlderSnapshotInTimestamp { snapshot_new, timestamp_new, snapshot_old, timestamp_old }
+            Refusal::OlderSnapshotInTimestamp {
+                snapshot_new,
+                timestamp_new,
+                snapshot_old,
+                timestamp_old,
+            } => {
+                Error::OlderSnapshotInTimestamp {
+                    snapshot_new,
+                    timestamp_new,
+                    snapshot_old,
+                    timestamp_old,
+                }
             }
-            Refusal::SnapshotRoleMissing { role, old_version, new_version } => {
-                Error::SnapshotRoleMissing { role, old_version, new_version }
+            Refusal::SnapshotRoleMissing {
+                role,
+                old_version,
+                new_version,
+            } => {
+                Error::SnapshotRoleMissing {
+                    role,
+                    old_version,
+                    new_version,
+                }
             }
             Refusal::SnapshotRoleRollback {
                 role,

@@ -1,2 +1,4 @@
 pub mod Key
 pub mod Same
+pub mod Demo
+pub mod DemoKey
