@@ -25,6 +25,7 @@ pub use signed::Signed;
 pub use timestamp::{Hashes, Metafile, Timestamp};
 pub use tough_json::{ReadError, WriteError};
 pub use tough_keys::{
-    EcdsaKey, EcdsaScheme, Ed25519Key, Ed25519Scheme, Key, RsaKey, RsaScheme, Verify,
+    DemoSign, DemoVerify, EcdsaKey, EcdsaScheme, Ed25519Key, Ed25519Scheme, Key, RsaKey, RsaScheme,
+    Sign, SignError, Verify,
 };
 pub use verify::canonical_form;

@@ -1,0 +1,3 @@
+//! Why a call failed.
+
+pub use tough_client::Error;
