@@ -157,12 +157,17 @@ root_at d = do
   roles ← required (codes "roles") roles_at keys.1
   Some (record { head = head.0; consistent_snapshot = consistent.0; keys = keys.0; roles = roles.0; extra = roles.1 })
 
+-- the members with the keys and the roles
+unfoldable pub tables_json : RootDoc → Members → Option Members
+tables_json r members = do
+  listed ← roles_json r.roles no_members
+  roles ← with (codes "roles") (object listed) members
+  known ← keys_json r.keys no_members
+  with (codes "keys") (object known) roles
+
 unfoldable pub root_json : RootDoc → Option Data
 root_json r = do
-  listed ← roles_json r.roles no_members
-  roles ← with (codes "roles") (object listed) r.extra
-  known ← keys_json r.keys no_members
-  keys ← with (codes "keys") (object known) roles
+  keys ← tables_json r r.extra
   consistent ← with (codes "consistent_snapshot") (boolean r.consistent_snapshot) keys
   members ← head_json (codes "root") r.head consistent
   Some (object members)

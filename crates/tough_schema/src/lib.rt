@@ -13,6 +13,7 @@ mod signature;
 mod signed;
 mod timestamp;
 mod verify;
+mod write_root;
 mod write_signed;
 mod write_timestamp;
 
