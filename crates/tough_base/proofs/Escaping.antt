@@ -1,5 +1,5 @@
 -- A text escaped piece by piece.
-use Rattle.std.proofs.Common.{◌≡◌, ◌<◌, ◌≤◌, ◌+◌, ◌-◌, ℕ, Bool, false, true, cond, ◌||◌, ◌==◌, List, [], ◌∷◌, ◌++◌, flat_map, length, take, drop, get_or, refl, sym, ap, ap₂, ◌∙◌, subst, append_assoc, append-nil, arith, eq-eqb}
+use Rattle.std.proofs.Common.{◌≡◌, ◌<◌, ◌≤◌, ◌+◌, ◌-◌, ℕ, Bool, false, true, cond, ◌||◌, ◌==◌, List, [], ◌∷◌, ◌++◌, flat_map, length, take, drop, get_or, refl, sym, ap, ap₂, ◌∙◌, append_assoc, arith, eq-eqb}
 use Rattle.std.proofs.lemmas.Bool.{ne_eqb}
 use Rattle.std.proofs.lemmas.List.{take_more, flat_map_more, get_or-drop, length-drop}
 use Rattle.std.specs.List.{slice_range}

@@ -1,19 +1,19 @@
 -- ASCII is its own NFC, and members of ASCII names stand in order.
-use Rattle.std.proofs.Common.{◌≡◌, ◌<◌, ℕ, zero, suc, Bool, true, false, List, [], ◌∷◌, ◌++◌, map, length, get_or, string_bytes, string_cmp, nat_cmp, Less, refl, sym, ap, ap₂, ◌∙◌, subst, append_assoc, append-nil, All}
+use Rattle.std.proofs.Common.{◌≡◌, ◌<◌, ℕ, Bool, List, [], ◌∷◌, ◌++◌, map, string_bytes, string_cmp, nat_cmp, Less, refl, sym, ap, ap₂, ◌∙◌, subst, append_assoc, All}
 use Rattle.std.proofs.lemmas.List.Elements.{All-from_get_or}
 use Rattle.std.proofs.lemmas.List.Sorted.{IsPermutation-refl}
 use Rattle.std.proofs.lemmas.Str.{chars-IsAscii, encodes-IsAscii}
-use Rattle.std.specs.Prelude.{IsAscii, chars, encode_utf8_all}
+use Rattle.std.specs.Prelude.{IsAscii, encode_utf8_all}
 use Rattle.std.specs.Cmp.Lexicographic.{slice_cmp}
 use Rattle.std.specs.List.{AllByRecursion}
 use Rattle.std.specs.List.Sorted.{IsStrictlySortedBy}
 use Rattle.std.specs.Map.{keys_of}
-use Rattle.serde_json.specs.View.{view, members_view}
+use Rattle.serde_json.specs.View.{members_view}
 use Rattle.serde_json.proofs.Views.{Entry}
 use Rattle.unicode_normalization.specs.Forms.{nfc, Nfc}
 use Rattle.unicode_normalization.proofs.FormsLemmas.{normalize-ascii}
 use Rattle.tough_base.specs.Ascii.{HaveAsciiNames}
-use Rattle.tough_base.specs.Canon.{Canon, CanonMembers, Member, IsInOrder, nfc_text, quoted, joined, member_text}
+use Rattle.tough_base.specs.Canon.{CanonMembers, Member, IsInOrder, nfc_text, quoted, joined, member_text}
 use Rattle.tough_base.proofs.Joining.{comma_unless, is_nil, piece_more}
 use Rattle.tough_base.proofs.Ordered.{Rising}
 

@@ -1,4 +1,4 @@
-use Rattle.std.proofs.Common.{◌≡◌, ◌≤◌, ◌++◌, ◌∷◌, ◌==◌, [], refl, ap, sym, ◌∙◌, arith, rules, get_or, true, false, append-nil}
+use Rattle.std.proofs.Common.{◌≡◌, ◌++◌, ◌∷◌, [], refl, arith, rules, get_or}
 use Rattle.std.specs.List.{slice_range}
 use Rattle.tough_base.specs.Canon.{escaped, escaped_byte}
 use Rattle.tough_base.proofs.Escaping.{plain_more, backslash_more, quote-byte, slash-byte, plain-byte}

@@ -1,4 +1,4 @@
-use Rattle.std.proofs.Common.{◌≡◌, Some, List, chars, string_bytes, ap, ◌∙◌, sym}
+use Rattle.std.proofs.Common.{Some, chars, ap, ◌∙◌, sym}
 use Rattle.tough_names.specs.Grammar.{parts_in}
 use Rattle.tough_names.proofs.Patterns.{parts_of-AllZip}
 use Rattle.tough_names.proofs.pattern.PathPatternClone.clone.Goals as goal
