@@ -2,36 +2,40 @@
 //! other, which then offers version 3, is refused.
 #![tactic(auto)]
 
-use std::num::NonZeroU64;
-use tough::schema::{DemoSign, DemoVerify, Root, Signed, Timestamp};
-use tough::{ExpirationEnforcement, MemoryStore, Refusal, StepError, Vault};
+mod load;
 
-/// One load: it verifies its root, then puts its timestamp on the vault.
-fn load(
+use crate::load::{Load, tell};
+use std::num::NonZeroU64;
+use tough::schema::{DemoSign, Signed, Timestamp};
+use tough::{MemoryStore, Vault};
+
+// A timestamp that names a snapshot, signed.
+fn timestamp(
     rt: &HostRuntime,
-    vault: &mut Vault<MemoryStore>,
-    root: &Signed<Root>,
-    timestamp: &Signed<Timestamp>,
-) -> Result<Result<u64, StepError>, tough::schema::Error> {
-    let alloc = rt.alloc();
-    root.signed.verify_role(alloc, root, &DemoVerify)?;
-    let taken = vault.advance_timestamp(
-        &root.signed,
-        timestamp,
-        jiff::Timestamp::UNIX_EPOCH,
-        ExpirationEnforcement::Safe,
-        &DemoVerify,
-    );
-    Ok(taken.map(|_| timestamp.signed.version.get()))
+    signer: &DemoSign,
+    version: u64,
+    snapshot: u64,
+) -> anyhow::Result<Signed<Timestamp>> {
+    let version = NonZeroU64::new(version).unwrap_or(NonZeroU64::MIN);
+    let snapshot = NonZeroU64::new(snapshot).unwrap_or(NonZeroU64::MIN);
+    let made = tough_demo::timestamp(rt.alloc(), version, snapshot)?;
+    Ok(tough_demo::sign(rt.alloc(), made, signer)?)
 }
 
 fn main(rt: HostRuntime) -> anyhow::Result<()> {
     let alloc = rt.alloc();
-    let one = NonZeroU64::MIN;
     let public = "3b6a27bcceb6a42d62a3a8d02a6f0d73653215771de243a63ac048a18b59da29";
     let signer = DemoSign::new(alloc, tough_demo::ed25519(alloc, public)?);
-    let root = tough_demo::root(alloc, one, tough_demo::ed25519(alloc, public)?)?;
+    let root = tough_demo::root(alloc, NonZeroU64::MIN, tough_demo::ed25519(alloc, public)?)?;
     let root = tough_demo::sign(alloc, root, &signer)?;
+    let newer = timestamp(&rt, &signer, 4, 8)?;
+    let older = timestamp(&rt, &signer, 3, 7)?;
+
     let mut vault = Vault::new(alloc, MemoryStore::new(alloc));
+    let a = Load::begin(&rt, &root)?;
+    let b = Load::begin(&rt, &root)?;
+    tell(&rt, "A", a.take(&mut vault, &newer))?;
+    tell(&rt, "B", b.take(&mut vault, &older))?;
+    println!(rt; "journal: {}", vault.journal().len())?;
     Ok(())
 }

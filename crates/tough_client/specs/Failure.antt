@@ -45,14 +45,14 @@ failure_of error.DatastoreRemove = DatastoreRemove
 failure_of error.Memory = Memory
 
 -- a refusal is this failure; want of memory may come in its place
-abbrev pub Refuses : {A : Type 0} → Error → Result A Failure → Type 0
-Refuses error.Memory answer = ⊤
-Refuses e answer = answer ≡ Err (failure_of e)
+abbrev pub IsRefused : {A : Type 0} → Failure → Result A Failure → Type 0
+IsRefused Memory answer = ⊤
+IsRefused failure answer = answer ≡ Err failure
 
 -- what a call gives, seen by view, is the answer
 abbrev pub Gives : {X A : Type 0} → (X → A) → Result A Failure → Result X Error → Type 0
 Gives view answer (Ok x) = answer ≡ Ok (view x)
-Gives view answer (Err e) = Refuses e answer
+Gives view answer (Err e) = IsRefused (failure_of e) answer
 
 -- the failure that a refused step is
 abbrev pub step_failure : StepError → Failure

@@ -1,5 +1,5 @@
 -- The walk from root to root (TUF specification 5.3).
-use Rattle.std.specs.Prelude.{ℕ, ◌+◌, ◌==◌, List, Option, Some, None, Result, Ok, Err, option_and_then, if◌then◌else◌}
+use Rattle.std.specs.Prelude.{◌≡◌, ◌⊎◌, ℕ, ◌+◌, ◌==◌, List, Option, Some, None, Result, Ok, Err, option_and_then, if◌then◌else◌}
 use Rattle.tough_json.specs.Results.{json_of}
 use Rattle.tough_keys.specs.Same.{Verifies}
 use Rattle.tough_schema.specs.Signature.{SignedDoc, signed_at}
@@ -9,7 +9,8 @@ use Rattle.tough_schema.specs.Verdict.{Refused, verdict}
 use Rattle.tough_schema.specs.Chain.{text_by}
 use Rattle.tough_schema.specs.declared.role_type.RoleType.TheVariants as role
 use Rattle.tough_vault.specs.Checks.{VerifyMetadata, OlderMetadata}
-use Rattle.tough_client.specs.Failure.{Failure, ParseTrustedMetadata, VerifyTrustedMetadata, ParseMetadata, Checked}
+use Rattle.tough_client.specs.declared.error.Error.{Error}
+use Rattle.tough_client.specs.Failure.{Failure, Memory, failure_of, ParseTrustedMetadata, VerifyTrustedMetadata, ParseMetadata, Checked}
 
 -- the signed root that bytes are
 abbrev pub root_in : List ℕ → Option (SignedDoc RootDoc)
@@ -43,3 +44,7 @@ next_root verifies old bytes = if_read (ParseMetadata role.Root) (root_in bytes)
     if_verified (λ r. Checked (VerifyMetadata role.Root (Some r))) (root_verdict verifies old d)
     (if_verified (λ r. Checked (VerifyMetadata role.Root (Some r))) (root_verdict verifies d.role d)
     (if_next old d)))
+
+-- for private clauses: verification refused so, or memory was wanting
+abbrev pub IsUnverified : Result Unit Refused → Error → Type 0
+IsUnverified v e = (failure_of e ≡ Memory) ⊎ ((r : Refused) × (v ≡ Err r) × (failure_of e ≡ Checked (VerifyMetadata role.Root (Some r))))

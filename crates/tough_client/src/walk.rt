@@ -1,14 +1,11 @@
 //! The walk from root to root (TUF specification 5.3).
 
-ghost use Rattle.std.specs.Prelude.{◌≡◌, ◌++◌, ◌∷◌, [], List, IfOk};
+ghost use Rattle.std.specs.Prelude.{◌≡◌, [], List, IfOk, IfErr, OnOk};
 ghost use Rattle.tough_schema.specs.Signature.{SignedDoc, signed_doc};
 ghost use Rattle.tough_schema.specs.Root.{RootDoc, root_doc};
 ghost use Rattle.tough_schema.specs.Chain.{IsChain, IsNext};
 ghost use Rattle.tough_client.specs.Failure.{Gives};
-ghost use Rattle.tough_client.specs.Failure.{Checked};
-ghost use Rattle.tough_schema.specs.declared.role_type.RoleType.TheVariants as role;
-ghost use Rattle.tough_vault.specs.Checks.{VerifyMetadata};
-ghost use Rattle.tough_client.specs.Walk.{first_root, next_root, root_verdict, if_verified};
+ghost use Rattle.tough_client.specs.Walk.{first_root, next_root, root_verdict, IsUnverified};
 
 use crate::error::Error;
 use std::alloc::Global;
@@ -43,7 +40,8 @@ fn verify_under<V: Verify>(
     new: &Signed<Root>,
     verifier: &V,
 ) -> Result<(), Error>
-    ensures { Gives (λ u. tt {0}) (if_verified (λ r. Checked (VerifyMetadata role.Root (Some r))) (root_verdict (V.verifies verifier.now) (root_doc root.now) (signed_doc root_doc new.now)) (Ok (tt {0}))) result }
+    ensures passed { OnOk result (root_verdict (V.verifies verifier.now) (root_doc root.now) (signed_doc root_doc new.now) ≡ Ok (tt {0})) }
+    ensures refused { IfErr result (λ e. IsUnverified (root_verdict (V.verifies verifier.now) (root_doc root.now) (signed_doc root_doc new.now)) e) }
 {
     match root.verify_role(alloc, new, verifier) {
         Ok(()) => Ok(()),
@@ -76,8 +74,12 @@ pub(crate) fn next_root<V: Verify>(
             });
         }
     };
-    verify_under(alloc, old, &new, verifier)?;
-    verify_under(alloc, &new.signed, &new, verifier)?;
+    if let Err(error) = verify_under(alloc, old, &new, verifier) {
+        return Err(error);
+    }
+    if let Err(error) = verify_under(alloc, &new.signed, &new, verifier) {
+        return Err(error);
+    }
     let new_version = new.signed.version.get();
     let current_version = old.version.get();
     if current_version == u64::MAX || new_version != current_version + 1 {
@@ -89,3 +91,9 @@ pub(crate) fn next_root<V: Verify>(
     }
     Ok(new)
 }
+
+#[cfg(test)]
+mod documents;
+
+#[cfg(test)]
+mod tests;

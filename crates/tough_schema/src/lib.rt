@@ -3,6 +3,7 @@
 
 mod error;
 mod head;
+pub mod laws;
 mod read_root;
 mod read_signed;
 mod read_timestamp;

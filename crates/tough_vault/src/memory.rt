@@ -1,6 +1,6 @@
 //! A store in memory, which tells its files.
 
-ghost use Rattle.std.specs.Prelude.{◌≡◌, ℕ, List};
+ghost use Rattle.std.specs.Prelude.{◌≡◌, ℕ, List, None, is_some};
 ghost use Rattle.tough_vault.specs.Memory.{memory_files};
 
 use crate::store::{Store, StoreError};
@@ -23,6 +23,13 @@ impl MemoryStore {
             alloc,
             files: BTreeMap::new(alloc),
         }
+    }
+
+    /// Whether the file is there.
+    pub fn holds(&self, name: &str) -> bool
+        ensures { result ≡ is_some (memory_files self.now name.now) }
+    {
+        self.files.contains_key(name)
     }
 }
 

@@ -112,3 +112,10 @@ impl<S: Store> Vault<S> {
         store
     }
 }
+
+#[cfg(test)]
+mod documents;
+#[cfg(test)]
+mod faulty;
+#[cfg(test)]
+mod tests;
