@@ -2,7 +2,14 @@
 #![tactic(auto)]
 
 pub mod cjson;
+mod compat;
 mod decoded;
+mod url_path;
 
 pub use cjson::{CjsonError, canonical};
-pub use decoded::{Decode, DecodeError, Decoded, EcdsaFlex, Hex, RsaPem};
+pub use compat::Compat;
+pub use decoded::{Decode, DecodeError, Decoded, EcdsaFlex, EcdsaPem, Encode, Hex, RsaPem};
+pub use tough_names::{
+    FILE_NAME, NameError, PathHashPrefix, PathPattern, PatternError, TargetName, encode_filename,
+};
+pub use url_path::SafeUrlPath;

@@ -1,7 +1,7 @@
 //! Texts, in quotes.
 
 ghost use Rattle.std.specs.Prelude.{◌≡◌, ◌++◌, [], ◌∷◌, OnOk, if◌then◌else◌};
-ghost use Rattle.tough_base.specs.Canon.{quoted, escaped_byte};
+ghost use Rattle.tough_base.specs.Canon.{quoted, escaped};
 
 use std::alloc::AllocError;
 
@@ -10,20 +10,23 @@ pub(crate) fn append_quoted(out: &mut Vec<u8>, bytes: &[u8]) -> Result<(), Alloc
     ensures { OnOk result (out.new.items ≡ out.old.items ++ quoted bytes.now) }
 {
     out.extend_from_slice(b"\"")?;
-    for byte in bytes {
-        append_escaped(out, *byte)?;
-    }
+    append_escaped(out, bytes)?;
     out.extend_from_slice(b"\"")
 }
 
-fn append_escaped(out: &mut Vec<u8>, byte: u8) -> Result<(), AllocError>
-    ensures { OnOk result (out.new.items ≡ out.old.items ++ escaped_byte byte) }
+/// Appends the bytes, with a backslash before each quote and backslash.
+fn append_escaped(out: &mut Vec<u8>, bytes: &[u8]) -> Result<(), AllocError>
+    ensures { OnOk result (out.new.items ≡ out.old.items ++ escaped bytes.now) }
 {
-    if byte == b'"' || byte == b'\\' {
-        out.extend_from_slice(&[b'\\', byte])
-    } else {
-        out.extend_from_slice(&[byte])
+    let mut start = 0;
+    for (index, byte) in bytes.iter().enumerate() {
+        if *byte == b'"' || *byte == b'\\' {
+            out.extend_from_slice(&bytes[start..index])?;
+            out.extend_from_slice(b"\\")?;
+            start = index;
+        }
     }
+    out.extend_from_slice(&bytes[start..])
 }
 
 /// Appends a comma, unless nothing stands before it.

@@ -1,8 +1,9 @@
 //! A value's text, level by level.
 
-ghost use Rattle.std.specs.Prelude.{◌≡◌, List, ◌++◌, ◌∷◌, [], map, string_bytes, OnOk, IfOk, IfErr};
+ghost use Rattle.std.specs.Prelude.{◌≡◌, List, ◌++◌, ◌∷◌, [], map, string_bytes, OnOk, IfOk, IfErr, IsTrue};
 ghost use Rattle.serde_json.specs.Data as Data;
 ghost use Rattle.serde_json.specs.View.{view, number_view, items_view, members_view};
+ghost use Rattle.tough_base.specs.Ascii.{HaveAsciiNames};
 ghost use Rattle.tough_base.specs.Canon.{Member, CanonMembers, IsInOrder, Appends, AppendsItems, AppendsMembers, Holds, AreItemsRefused, AreMembersRefused, nfc_text, joined, member_text, seen, quoted};
 
 use crate::cjson::error::CjsonError;
@@ -57,8 +58,49 @@ fn write_members(
         (AppendsMembers (members_view members.now.entries) out.old.items out.new.items) }
     ensures err { IfErr result (λ e. AreMembersRefused (members_view members.now.entries) e) }
 {
-    let texts = member_texts(alloc, members)?;
-    write_texts(out, &texts)?;
+    if have_ascii_names(members) {
+        write_in_place(alloc, out, members)
+    } else {
+        let texts = member_texts(alloc, members)?;
+        write_texts(out, &texts)?;
+        Ok(())
+    }
+}
+
+/// Whether each name is ASCII, so that it is its own NFC.
+fn have_ascii_names(members: &Map<String, Value>) -> bool
+    ensures { IsTrue result → HaveAsciiNames (members_view members.now.entries) }
+{
+    for (name, _) in members.iter() {
+        if !name.is_ascii() {
+            return false;
+        }
+    }
+    true
+}
+
+/// Appends members of ASCII names, which stand in order already, in braces.
+#[cycle(write)]
+fn write_in_place(
+    alloc: Global,
+    out: &mut Vec<u8>,
+    members: &Map<String, Value>,
+) -> Result<(), CjsonError>
+    requires { HaveAsciiNames (members_view members.now.entries) }
+    ensures ok { OnOk result
+        (AppendsMembers (members_view members.now.entries) out.old.items out.new.items) }
+    ensures err { IfErr result (λ e. AreMembersRefused (members_view members.now.entries) e) }
+{
+    out.extend_from_slice(b"{")?;
+    let mut is_first = true;
+    for (name, member) in members.iter() {
+        append_comma(out, is_first)?;
+        append_quoted(out, name.as_bytes())?;
+        out.extend_from_slice(b":")?;
+        write(alloc, out, member)?;
+        is_first = false;
+    }
+    out.extend_from_slice(b"}")?;
     Ok(())
 }
 
@@ -104,6 +146,9 @@ fn write_texts(out: &mut Vec<u8>, texts: &BTreeMap<String, Vec<u8>>) -> Result<(
 fn write_text(alloc: Global, out: &mut Vec<u8>, text: &str) -> Result<(), AllocError>
     ensures { OnOk result (out.new.items ≡ out.old.items ++ quoted (nfc_text text.now)) }
 {
+    if text.is_ascii() {
+        return append_quoted(out, text.as_bytes());
+    }
     let normal = to_nfc(alloc, text)?;
     append_quoted(out, normal.as_bytes())
 }

@@ -1,0 +1,10 @@
+pub mod Keeping
+pub mod Joining
+pub mod Safe
+pub mod Cleaned
+pub mod Greedy
+pub mod Retry
+pub mod Texts
+pub mod Spelled
+pub mod Read
+pub mod Patterns

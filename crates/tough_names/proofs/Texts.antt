@@ -1,0 +1,42 @@
+-- The characters of a text, taken from the front.
+use Rattle.std.proofs.Common.{◌≡◌, ℕ, List, [], ◌∷◌, ◌++◌, length, chars, encode_utf8, encode_utf8_all, IsUtf8, arith, ap, sym, ◌∙◌, length-append, ◌+◌, ◌≤◌, true, Bool, false, refl}
+use Rattle.std.proofs.lemmas.Str.{chars_past_char, chars-nil, length-encode, len_utf8_bounds, encodes-chars}
+use Rattle.std.specs.Char.{len_utf8}
+use Rattle.tough_names.specs.declared.pattern.item.Span.{Span}
+use Rattle.tough_names.specs.declared.pattern.item.Item.{Item}
+use Rattle.tough_names.specs.Glob.{Part, run, one, Fits, accepts}
+use Rattle.tough_names.specs.Items.{parts_of}
+use Rattle.tough_names.specs.Steps.{IsTail, part_takes}
+
+pub tail_from_char : (text tail : List ℕ) (c : ℕ) → IsUtf8 text → IsUtf8 tail → text ≡ encode_utf8 c ++ tail → IsTail text tail c
+tail_from_char text tail c valid after e =
+    let n : length text ≡ length (encode_utf8 c) + length tail = ap length e ∙ length-append (encode_utf8 c) tail in
+    let m : length (encode_utf8 c) ≡ len_utf8 c = length-encode c in
+    let b : (1 ≤ len_utf8 c) × (len_utf8 c ≤ 4) = len_utf8_bounds c in
+    record { chars = chars_past_char text tail c valid e; shorter = omega arith; valid = after }
+
+pub no_chars : (text : List ℕ) → length text ≡ 0 → chars text ≡ []
+no_chars [] e = chars-nil
+no_chars (b ∷ bs) e = absurd (omega (arith, e))
+
+pub no_bytes : (text : List ℕ) → IsUtf8 text → chars text ≡ [] → length text ≡ 0
+no_bytes text valid e = ap length (sym (encodes-chars text valid) ∙ ap encode_utf8_all e)
+
+pub no_parts : (items : List Item) → length items ≡ 0 → parts_of items ≡ []
+no_parts [] e = refl
+no_parts (x ∷ xs) e = absurd (omega (arith, e))
+
+-- a part that takes a character is one of a class
+pub takes_one : (part : Part) (c : ℕ) → part_takes part c ≡ true → (negated : Bool) × (spans : List Span) × (part ≡ one negated spans) × (accepts negated spans c ≡ true)
+takes_one run c e = cc
+takes_one (one negated spans) c e = (negated, spans, refl, e)
+
+pub nothing_fits : (items : List Item) (text : List ℕ) → IsUtf8 text → length items ≡ 0 → (length text ≡ 0 → ⊥) → Fits (parts_of items) (chars text) → ⊥
+nothing_fits [] text valid none some f = some (no_bytes text valid f)
+nothing_fits (x ∷ xs) text valid none some f = absurd (omega (arith, none))
+
+pub first_is_some : (part : Part) (parts : List Part) (c : ℕ) (rest : List ℕ) → part_takes part c ≡ false → (part ≡ run → ⊥) → Fits (part ∷ parts) (c ∷ rest) → ⊥
+first_is_some run parts c rest refused some f = some refl
+first_is_some (one negated spans) parts c rest refused some (piece, tail, whole, (d, single, good), f) =
+    let e : c ∷ rest ≡ (d ∷ []) ++ tail = whole ∙ ap (λ p. p ++ tail) single in
+    cc

@@ -1,0 +1,9 @@
+pub mod Clean
+pub mod Named
+pub mod Apart
+pub mod Glob
+pub mod Items
+pub mod Steps
+pub mod Grammar
+pub mod Reader
+pub mod Spelling
