@@ -1,4 +1,5 @@
--- The canonical text of a JSON value.
+-- The canonical text of a JSON value: OLPC canonical JSON (wiki.laptop.org/go/Canonical_JSON), with texts and names in
+-- NFC, and names in the order of their UTF-8 bytes. Numbers are whole, and control characters stand as they are.
 use Rattle.std.specs.declared.alloc.Global.{Global}
 use Rattle.std.specs.Prelude.{String, Vec, string_bytes, Result, Ok, Err, ◌≡◌, ◌<◌, ◌^◌, ℕ, ℤ, Bool, true, false, ◌||◌, ◌==◌, if◌then◌else◌, List, [], ◌∷◌, ◌++◌, map, flat_map, Some, bytes_eq, codes, chars, encode_utf8_all}
 use Rattle.std.specs.Cmp.Lexicographic.{slice_cmp}

@@ -1,4 +1,4 @@
--- The canonical text of a JSON value, computed (OLPC canonical JSON, with NFC texts and names): `Canon` as a function.
+-- The canonical text of a JSON value (OLPC canonical JSON, with texts and names in NFC), computed: what `Canon` says, as a function.
 use Rattle.std.specs.Prelude.{◌^◌, ℕ, ℤ, nat_lt, if◌then◌else◌, List, [], ◌∷◌, ◌++◌, map, Option, Some, None, option_map, option_and_then, codes}
 use Rattle.std.specs.Cmp.Lexicographic.{slice_cmp}
 use Rattle.std.specs.Fmt.{signed_decimal}

@@ -1,4 +1,4 @@
--- Different names have different escapes.
+-- Different names have different escapes (percent-encoding, RFC 3986, section 2.1).
 use Rattle.std.specs.Prelude.{◌≡◌, ◌<◌, ◌^◌, ℕ, List, All}
 use Rattle.percent_encoding.specs.Percent.{percent_encode}
 use Rattle.tough_names.specs.declared.filename.TheConstants.{FILE_NAME}

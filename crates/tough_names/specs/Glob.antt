@@ -1,4 +1,5 @@
--- What a pattern is made of, and which texts it fits.
+-- What a pattern is made of, and which texts it fits (TUF specification 1.0, section 4.5, PATHPATTERN: shell-style
+-- wildcards; `*` and `?` take `/` too, as in the original).
 use Rattle.std.specs.Prelude.{◌≡◌, ℕ, Bool, true, cond, not, ◌&&◌, nat_le, List, [], ◌∷◌, ◌++◌}
 use Rattle.std.specs.List.{list_any}
 use Rattle.tough_names.specs.declared.pattern.item.Span.{Span}

@@ -1,4 +1,5 @@
--- The grammar of patterns: what stands in them, and how it is spelled.
+-- The grammar of patterns (POSIX.1-2017, Shell and Utilities, section 2.13.1, less `[^..]` and named classes): what
+-- stands in them, and how it is spelled.
 use Rattle.std.specs.Prelude.{◌≡◌, ◌≢◌, ℕ, ◌≤◌, Bool, true, false, List, [], ◌∷◌, ◌++◌, map, flat_map, codes}
 use Rattle.std.specs.List.{AllByRecursion}
 use Rattle.tough_names.specs.declared.pattern.item.Span.{Span}

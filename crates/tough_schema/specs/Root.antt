@@ -1,20 +1,22 @@
 -- Roots: their keys, their roles, and which JSON is one (TUF specification 1.0, section 4.3).
-use Rattle.std.specs.Prelude.{◌≡◌, ℕ, List, [], ◌∷◌, map, Bool, Option, Some, None, option_and_then, codes, if◌then◌else◌, string_bytes}
+use Rattle.std.specs.Prelude.{◌≡◌, ℕ, List, [], ◌∷◌, map, Bool, true, is_none, Option, Some, None, option_and_then, codes, if◌then◌else◌, string_bytes}
 use Rattle.std.specs.Int.NonZero.{non_zero_u64_get}
 use Rattle.std.specs.Str.{bytes_eq}
 use Rattle.std.specs.Ordering.{nat_cmp, on}
 use Rattle.std.specs.declared.cmp.Ordering.{Ordering}
 use Rattle.std.specs.Cmp.Lexicographic.{slice_cmp}
-use Rattle.std.specs.BTreeMap.{insert_entry, is_at}
-use Rattle.std.specs.Map.{lookup}
+use Rattle.std.specs.BTreeMap.{is_at}
+use Rattle.std.specs.List.Sorted.{IsStrictlySortedBy}
+use Rattle.std.specs.Map.{lookup, keys_of}
 use Rattle.tough_base.specs.Spelled.{Spelled, hex_bytes}
-use Rattle.serde_json.specs.Data.{Data, boolean, string, array, object, Members, no_members, member}
+use Rattle.serde_json.specs.Data.{Data, boolean, array, object, Members, no_members}
 use Rattle.serde_json.specs.Find.{as_object}
 use Rattle.serde_json.specs.View.{members_view}
 use Rattle.tough_json.specs.Reading.{◌>>=◌, required, positive, truth, hexadecimal, listing, spelled}
-use Rattle.tough_json.specs.Writing.{if_free, with, positive_json, hexadecimal_json, all_json}
+use Rattle.tough_json.specs.Writing.{with, stands_for, positive_json, hexadecimal_json, all_json}
 use Rattle.tough_keys.specs.declared.key.Key.{Key}
 use Rattle.tough_keys.specs.Key.{KeyDoc, key_doc, key_at, key_json, key_id_of}
+use Rattle.tough_schema.specs.Table.{table_from, table_json}
 use Rattle.tough_schema.specs.Head.{Head, head_at, head_json}
 use Rattle.tough_schema.specs.Roles.{role_type, role_name, role_cmp}
 use Rattle.tough_schema.specs.declared.role_type.RoleType.{RoleType}
@@ -77,32 +79,20 @@ key_entry_at name d = do
   key ← key_at d
   if_own (key_id_of key) id.bytes (id, key)
 
--- the map with one more key, whose identifier isn't there yet
-abbrev pub if_new : Option KeyDoc → List (Spelled × KeyDoc) → Option (List (Spelled × KeyDoc))
-if_new None es = Some es
-if_new (Some key) es = None
-
-abbrev pub with_key : List (Spelled × KeyDoc) → Spelled × KeyDoc → Option (List (Spelled × KeyDoc))
-with_key found e = if_new (key_under found e.0) (insert_entry by_bytes found e.0 e.1)
-
--- the members are put into the map one after another
-unfoldable pub keys_from : List (Spelled × KeyDoc) → Members → Option (List (Spelled × KeyDoc))
-keys_from found no_members = Some found
-keys_from found (member name d ms) = do
-  entry ← key_entry_at name d
-  more ← with_key found entry
-  keys_from more ms
+-- the members as keys, each under an identifier that isn't there yet
+abbrev pub keys_from : List (Spelled × KeyDoc) → Members → Option (List (Spelled × KeyDoc))
+keys_from = table_from is_none by_bytes key_entry_at
 
 abbrev pub keys_at : Data → Option (List (Spelled × KeyDoc))
 keys_at d = option_and_then (keys_from []) (as_object d)
 
--- each key under its identifier as it was spelled, beside those that are there
-unfoldable pub keys_json : List (Spelled × KeyDoc) → Members → Option Members
-keys_json [] found = Some found
-keys_json (e ∷ es) found = do
-  value ← key_json e.1
-  more ← with e.0.spelling value found
-  keys_json es more
+-- an identifier as it was spelled, which stands for its bytes, as that of each value of the program does
+abbrev pub id_name : Spelled → Option (List ℕ)
+id_name id = if stands_for (hex_bytes id.spelling) id.bytes then Some id.spelling else None
+
+-- each key under its identifier
+abbrev pub keys_json : List (Spelled × KeyDoc) → Members → Option Members
+keys_json = table_json id_name key_json
 
 -- ---- the roles
 
@@ -128,23 +118,16 @@ role_entry_at name d = do
   keys ← role_keys_at d
   Some (type, keys)
 
--- each member is put into the map of the roles, whose order is that of the type
-unfoldable pub roles_from : List (RoleType × RoleKeysDoc) → Members → Option (List (RoleType × RoleKeysDoc))
-roles_from found no_members = Some found
-roles_from found (member name d ms) = do
-  entry ← role_entry_at name d
-  roles_from (insert_entry role_cmp found entry.0 entry.1) ms
+-- the members as roles; no role stands twice, since no name does
+abbrev pub roles_from : List (RoleType × RoleKeysDoc) → Members → Option (List (RoleType × RoleKeysDoc))
+roles_from = table_from (λ there. true) role_cmp role_entry_at
 
 abbrev pub roles_at : Data → Option (List (RoleType × RoleKeysDoc))
 roles_at d = option_and_then (roles_from []) (as_object d)
 
--- each role under its name, beside those that are there
-unfoldable pub roles_json : List (RoleType × RoleKeysDoc) → Members → Option Members
-roles_json [] found = Some found
-roles_json (e ∷ es) found = do
-  value ← role_keys_json e.1
-  more ← with (role_name e.0) value found
-  roles_json es more
+-- each role under its name
+abbrev pub roles_json : List (RoleType × RoleKeysDoc) → Members → Option Members
+roles_json = table_json (λ role. Some (role_name role)) role_keys_json
 
 -- ---- the root
 
@@ -177,6 +160,7 @@ abbrev pub AreOwn : List (Spelled × KeyDoc) → Type 0
 AreOwn [] = Unit {0}
 AreOwn (e ∷ es) = (key_id_of e.1 ≡ Some e.0.bytes) × AreOwn es
 
--- what is written for it is read as it
-abbrev pub IsReadBack : Root → Type 0
-IsReadBack r = (d : Data) → root_json (root_doc r) ≡ Some d → root_at d ≡ Some (root_doc r)
+-- the keys are in the order of their identifiers' bytes, the roles in that of their type, as in each root of the program
+pub record AreOrdered (r : RootDoc) : Type 0 where
+  pub keys_rise : IsStrictlySortedBy by_bytes (keys_of r.keys)
+  pub roles_rise : IsStrictlySortedBy role_cmp (keys_of r.roles)

@@ -1,10 +1,12 @@
 ghost use Rattle.std.specs.Prelude.{◌≡◌, Some, None};
 ghost use Rattle.std.proofs.Common.{rules};
-ghost use Rattle.tough_schema.specs.Root.{root_doc, root_at, root_json, IsReadBack};
+ghost use Rattle.tough_schema.specs.Root.{root_doc, root_at, root_json, keys_doc, AreOwn};
 ghost use Rattle.tough_schema.specs.declared.role_type.RoleType.TheVariants as types;
 
+use crate::read_root::root_of;
 use crate::role::Role;
 use crate::role_type::RoleType;
+use crate::write_root::root_value;
 use serde_json::{Map, Value};
 use std::alloc::Global;
 use std::collections::BTreeMap;
@@ -46,14 +48,16 @@ impl Role for Root {
 
     ghost json = { λ x. root_json (root_doc x) };
 
-    ghost is_kept = { λ x. IsReadBack x };
+    ghost is_kept = { λ x. AreOwn (keys_doc x.keys.entries) };
 
     fn from_value(alloc: Global, value: Value) -> Result<Root, ReadError> {
-        Err(ReadError::Memory)
+        let root = root_of(alloc, value)?;
+        Ok(root)
     }
 
     fn to_value(&self, alloc: Global) -> Result<Value, WriteError> {
-        Err(WriteError::Memory)
+        let value = root_value(alloc, self)?;
+        Ok(value)
     }
 
     fn version(&self) -> NonZeroU64 {

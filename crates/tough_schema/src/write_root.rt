@@ -5,7 +5,10 @@ ghost use Rattle.serde_json.specs.Data.{boolean, no_members};
 ghost use Rattle.serde_json.specs.View.{view, items_view, members_view};
 ghost use Rattle.tough_json.specs.Results.{Writes};
 ghost use Rattle.tough_json.specs.Writing.{all_json, hexadecimal_json};
-ghost use Rattle.tough_schema.specs.Root.{role_keys_doc, roles_doc, keys_doc, root_doc, role_keys_json, roles_json, keys_json, tables_json, root_json};
+ghost use Rattle.tough_schema.specs.Root.{role_keys_doc, roles_doc, keys_doc, root_doc, role_keys_json, roles_json, keys_json, tables_json, root_json, by_bytes, AreOrdered};
+ghost use Rattle.tough_schema.specs.Roles.{role_cmp};
+ghost use Rattle.std.specs.List.Sorted.{IsStrictlySortedBy};
+ghost use Rattle.std.specs.Map.{keys_of};
 
 use crate::head::with_head;
 use crate::role_type::RoleType;
@@ -47,7 +50,8 @@ fn roles_value(
     alloc: Global,
     roles: &BTreeMap<RoleType, RoleKeys>,
 ) -> Result<Map<String, Value>, WriteError>
-    ensures { Writes (λ m. members_view m.entries) result (roles_json (roles_doc roles.now.entries) no_members) }
+    ensures written { Writes (λ m. members_view m.entries) result (roles_json (roles_doc roles.now.entries) no_members) }
+    ensures ordered { IfOk result (λ m. IsStrictlySortedBy role_cmp (keys_of (roles_doc roles.now.entries))) }
 {
     let mut members = Map::new(alloc);
     for (role, keys) in roles.iter() {
@@ -62,7 +66,8 @@ fn keys_value(
     alloc: Global,
     keys: &BTreeMap<Decoded<Hex>, Key>,
 ) -> Result<Map<String, Value>, WriteError>
-    ensures { Writes (λ m. members_view m.entries) result (keys_json (keys_doc keys.now.entries) no_members) }
+    ensures written { Writes (λ m. members_view m.entries) result (keys_json (keys_doc keys.now.entries) no_members) }
+    ensures ordered { IfOk result (λ m. IsStrictlySortedBy by_bytes (keys_of (keys_doc keys.now.entries))) }
 {
     let mut members = Map::new(alloc);
     for (id, key) in keys.iter() {
@@ -79,12 +84,14 @@ fn with_tables(
     members: Map<String, Value>,
     root: &Root,
 ) -> Result<Map<String, Value>, WriteError>
-    ensures { Writes (λ m. members_view m.entries) result (tables_json (root_doc root.now) (members_view members.entries)) }
+    ensures written { Writes (λ m. members_view m.entries) result (tables_json (root_doc root.now) (members_view members.entries)) }
+    ensures ordered { IfOk result (λ m. AreOrdered (root_doc root.now)) }
 {
     let listed = roles_value(alloc, &root.roles)?;
     let roles = with(alloc, members, "roles", Value::Object(listed))?;
     let known = keys_value(alloc, &root.keys)?;
-    with(alloc, roles, "keys", Value::Object(known))
+    let keys = with(alloc, roles, "keys", Value::Object(known))?;
+    Ok(keys)
 }
 
 // The JSON of a truth value.
@@ -96,20 +103,14 @@ fn truth_value(found: bool) -> Value
 
 #[tactic(auto, unfolding(crate::specs::Root::root_json))]
 pub(crate) fn root_value(alloc: Global, root: &Root) -> Result<Value, WriteError>
-    ensures { Writes view result (root_json (root_doc root.now)) }
+    ensures written { Writes view result (root_json (root_doc root.now)) }
+    ensures ordered { IfOk result (λ v. AreOrdered (root_doc root.now)) }
 {
     let extra = copy_members(alloc, &root._extra)?;
     let keys = with_tables(alloc, extra, root)?;
     let found = truth_value(root.consistent_snapshot);
     let consistent = with(alloc, keys, "consistent_snapshot", found)?;
     let name = root.spec_version.as_str();
-    let members = with_head(
-        alloc,
-        consistent,
-        "root",
-        name,
-        root.version,
-        root.expires,
-    )?;
+    let members = with_head(alloc, consistent, "root", name, root.version, root.expires)?;
     Ok(Value::Object(members))
 }

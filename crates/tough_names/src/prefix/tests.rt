@@ -90,7 +90,7 @@ fn matches_digests(rt: HostRuntime) -> Result<(), Fail> {
         let prefix = PathHashPrefix::from_str(rt.alloc(), text)?;
         let name = TargetName::from_str(rt.alloc(), name)?;
         assert_eq!(rt;
-            prefix.matches(rt.alloc(), &name)?,
+            prefix.matches(&name),
             wanted,
             "at {text} and {}",
             name.raw()
