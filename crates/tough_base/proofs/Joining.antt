@@ -1,12 +1,11 @@
 -- Texts one after another.
-use Rattle.std.proofs.Common.{◌≡◌, ℕ, Bool, true, false, cond, List, [], ◌∷◌, ◌++◌, flat_map, map, refl, sym, ap, ap₂, ◌∙◌, append_assoc, append-nil}
+use Rattle.std.proofs.Common.{◌≡◌, ℕ, Bool, true, false, cond, List, [], ◌∷◌, ◌++◌, flat_map, refl, sym, ap, ap₂, ◌∙◌, append_assoc, append-nil}
 use Rattle.std.proofs.lemmas.List.Concat.{flat_map-append}
 use Rattle.serde_json.specs.View.{view, items_view, members_view}
 use Rattle.serde_json.specs.declared.value.Value.{Value}
 use Rattle.serde_json.proofs.Views.{Entry}
 use Rattle.std.specs.Prelude.{string_bytes}
-use Rattle.tough_base.specs.Canon.{Canon, CanonItems, CanonMembers, Member, joined, nfc_text, quoted, member_text, seen}
-use Rattle.tough_base.proofs.Sorting.{Held}
+use Rattle.tough_base.specs.Canon.{Canon, CanonItems, CanonMembers, Member, joined, nfc_text}
 
 abbrev pub is_nil : {A : Type 0} → List A → Bool
 is_nil [] = true
@@ -40,19 +39,3 @@ piece_more args head ts t = append_assoc args (head ∷ joined ts) _ ∙ ap (λ 
 
 pub item_more : (args : List ℕ) (ts : List (List ℕ)) (t : List ℕ) (first : Bool) (o p q : List ℕ) → o ≡ args ++ 91 ∷ joined ts → first ≡ is_nil ts → p ≡ o ++ comma_unless first → q ≡ p ++ t → q ≡ args ++ 91 ∷ joined (ts ++ t ∷ [])
 item_more args ts t first o p q e f g h = h ∙ ap (λ s. s ++ t) (g ∙ ap₂ (λ a b. a ++ comma_unless b) e f) ∙ append_assoc _ _ t ∙ piece_more args 91 ts t
-
-pub texts_more : (done : List Held) (e : Held) → map member_text (seen (done ++ e ∷ [])) ≡ map member_text (seen done) ++ member_text (string_bytes e.0, e.1.items) ∷ []
-texts_more [] e = refl
-texts_more (f ∷ fs) e = ap (λ s. member_text (string_bytes f.0, f.1.items) ∷ s) (texts_more fs e)
-
-pub member_more : (args : List ℕ) (done : List Held) (e : Held) (first : Bool) (o0 o1 o2 o3 o4 : List ℕ) → o0 ≡ args ++ 123 ∷ joined (map member_text (seen done)) → first ≡ is_nil (map member_text (seen done)) → o1 ≡ o0 ++ comma_unless first → o2 ≡ o1 ++ quoted (string_bytes e.0) → o3 ≡ o2 ++ 58 ∷ [] → o4 ≡ o3 ++ e.1.items
-    → o4 ≡ args ++ 123 ∷ joined (map member_text (seen (done ++ e ∷ [])))
-member_more args done e first o0 o1 o2 o3 o4 e0 f e1 e2 e3 e4 =
-    let q = quoted (string_bytes e.0) in
-    let v = e.1.items in
-    let ts = map member_text (seen done) in
-    e4 ∙ ap (λ s. s ++ v) (e3 ∙ ap (λ s. s ++ 58 ∷ []) e2)
-    ∙ append_assoc (o1 ++ q) (58 ∷ []) v ∙ append_assoc o1 q (58 ∷ v)
-    ∙ ap (λ s. s ++ (q ++ 58 ∷ v)) (e1 ∙ ap₂ (λ a b. a ++ comma_unless b) e0 f)
-    ∙ append_assoc _ _ (q ++ 58 ∷ v) ∙ piece_more args 123 ts (q ++ 58 ∷ v)
-    ∙ ap (λ us. args ++ 123 ∷ joined us) (sym (texts_more done e))

@@ -1,7 +1,7 @@
 -- The canonical text of a JSON value: OLPC canonical JSON (wiki.laptop.org/go/Canonical_JSON), with texts and names in
 -- NFC, and names in the order of their UTF-8 bytes. Numbers are whole, and control characters stand as they are.
 use Rattle.std.specs.declared.alloc.Global.{Global}
-use Rattle.std.specs.Prelude.{String, Vec, string_bytes, Result, Ok, Err, ◌≡◌, ◌<◌, ◌^◌, ℕ, ℤ, Bool, true, false, ◌||◌, ◌==◌, if◌then◌else◌, List, [], ◌∷◌, ◌++◌, map, flat_map, Some, bytes_eq, codes, chars, encode_utf8_all}
+use Rattle.std.specs.Prelude.{Vec, Result, Ok, Err, ◌≡◌, ◌<◌, ◌^◌, ℕ, ℤ, Bool, true, false, ◌||◌, ◌==◌, if◌then◌else◌, List, [], ◌∷◌, ◌++◌, map, flat_map, Some, bytes_eq, codes, chars, encode_utf8_all}
 use Rattle.std.specs.Cmp.Lexicographic.{slice_cmp}
 use Rattle.std.specs.Fmt.{signed_decimal}
 use Rattle.std.specs.Ordering.{nat_cmp}
@@ -126,10 +126,6 @@ AppendsItems ds old new = (ts : List (List ℕ)) × CanonItems ds ts × (new ≡
 
 abbrev pub AppendsMembers : Members → List ℕ → List ℕ → Type 0
 AppendsMembers ms old new = (ps : List Member) × (es : List Member) × CanonMembers ms ps × IsInOrder ps es × (new ≡ old ++ 123 ∷ (joined (map member_text es) ++ 125 ∷ []))
-
--- for private clauses: names and texts as they lie in memory
-abbrev pub seen : List (String Global × Vec ℕ Global) → List Member
-seen es = map (λ e. (string_bytes e.0, e.1.items)) es
 
 -- the call gave this text, or found no memory
 abbrev pub IsTextOrMemory : List ℕ → Result (Vec ℕ Global) CjsonError → Type 0

@@ -1,3 +1,4 @@
+pub mod ByName
 pub mod Ascii
 pub mod Canon
 pub mod CanonicalText

@@ -4,7 +4,8 @@ ghost use Rattle.std.specs.Prelude.{◌≡◌, List, ◌++◌, ◌∷◌, [], ma
 ghost use Rattle.serde_json.specs.Data as Data;
 ghost use Rattle.serde_json.specs.View.{view, number_view, items_view, members_view};
 ghost use Rattle.tough_base.specs.Ascii.{HaveAsciiNames};
-ghost use Rattle.tough_base.specs.Canon.{Member, CanonMembers, IsInOrder, Appends, AppendsItems, AppendsMembers, Holds, AreItemsRefused, AreMembersRefused, nfc_text, joined, member_text, seen, quoted};
+ghost use Rattle.tough_base.specs.ByName.{AreByName};
+ghost use Rattle.tough_base.specs.Canon.{Appends, AppendsItems, AppendsMembers, Holds, AreItemsRefused, AreMembersRefused, nfc_text, quoted};
 
 use crate::cjson::error::CjsonError;
 use crate::cjson::text::{append_comma, append_quoted};
@@ -61,9 +62,8 @@ fn write_members(
     if have_ascii_names(members) {
         write_in_place(alloc, out, members)
     } else {
-        let texts = member_texts(alloc, members)?;
-        write_texts(out, &texts)?;
-        Ok(())
+        let sorted = by_normal_name(alloc, members)?;
+        write_sorted(alloc, out, members, &sorted)
     }
 }
 
@@ -104,43 +104,48 @@ fn write_in_place(
     Ok(())
 }
 
-/// The text of each member, under its name's NFC.
-#[cycle(write)]
-fn member_texts(
+/// The members under their names' NFC.
+fn by_normal_name<'a>(
     alloc: Global,
-    members: &Map<String, Value>,
-) -> Result<BTreeMap<String, Vec<u8>>, CjsonError>
-    ensures ok { IfOk result (λ m. (ps : List Member)
-        × CanonMembers (members_view members.now.entries) ps × IsInOrder ps (seen m.entries)) }
+    members: &'a Map<String, Value>,
+) -> Result<BTreeMap<String, &'a Value>, CjsonError>
+    ensures ok { IfOk result (λ m. AreByName members.now.entries m.entries) }
     ensures err { IfErr result (λ e. AreMembersRefused (members_view members.now.entries) e) }
 {
-    let mut texts = BTreeMap::new(alloc);
+    let mut sorted = BTreeMap::new(alloc);
     for (key, member) in members.iter() {
         let name = to_nfc(alloc, key.as_str())?;
-        let mut text = Vec::new(alloc);
-        write(alloc, &mut text, member)?;
-        if texts.insert(name, text)?.is_some() {
+        if sorted.insert(name, member)?.is_some() {
             return Err(CjsonError::SameName);
         }
     }
-    Ok(texts)
+    Ok(sorted)
 }
 
-/// Appends members in their order, in braces.
-fn write_texts(out: &mut Vec<u8>, texts: &BTreeMap<String, Vec<u8>>) -> Result<(), AllocError>
-    ensures { OnOk result (out.new.items ≡ out.old.items
-        ++ 123 ∷ (joined (map member_text (seen texts.now.entries)) ++ 125 ∷ [])) }
+/// Appends the members, which stand in order, in braces.
+#[cycle(write)]
+fn write_sorted(
+    alloc: Global,
+    out: &mut Vec<u8>,
+    members: &Map<String, Value>,
+    sorted: &BTreeMap<String, &Value>,
+) -> Result<(), CjsonError>
+    requires { AreByName members.now.entries sorted.now.entries }
+    ensures ok { OnOk result
+        (AppendsMembers (members_view members.now.entries) out.old.items out.new.items) }
+    ensures err { IfErr result (λ e. AreMembersRefused (members_view members.now.entries) e) }
 {
     out.extend_from_slice(b"{")?;
     let mut is_first = true;
-    for (name, text) in texts.iter() {
+    for (name, member) in sorted.iter() {
         append_comma(out, is_first)?;
         append_quoted(out, name.as_bytes())?;
         out.extend_from_slice(b":")?;
-        out.extend_from_slice(text)?;
+        write(alloc, out, *member)?;
         is_first = false;
     }
-    out.extend_from_slice(b"}")
+    out.extend_from_slice(b"}")?;
+    Ok(())
 }
 
 fn write_text(alloc: Global, out: &mut Vec<u8>, text: &str) -> Result<(), AllocError>

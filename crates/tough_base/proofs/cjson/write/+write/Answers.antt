@@ -1,69 +1,19 @@
-use Rattle.std.proofs.Common.{◌≡◌, ◌++◌, ◌∷◌, [], ◌+◌, None, map, ap, sym, ◌∙◌, subst, arith, rules, append_assoc, append-nil, take, string_bytes, string_cmp}
+use Rattle.std.proofs.Common.{◌≡◌, ◌≤◌, ◌<◌, ◌*◌, ℕ, List, ◌++◌, ◌∷◌, [], ◌+◌, map, ap, sym, ◌∙◌, subst, arith, rules, append_assoc, append-nil, take, string_bytes}
 use Rattle.std.proofs.lemmas.List.{take_more}
 use Rattle.std.proofs.lemmas.Result.{err_from_is_err_and}
-use Rattle.std.specs.BTreeMap.{is_at}
-use Rattle.std.specs.Map.{lookup}
 use Rattle.serde_json.specs.View.{view, items_view, members_view}
 use Rattle.serde_json.proofs.Views.{Entry}
 use Rattle.tough_base.specs.Ascii.{HaveAsciiNames}
-use Rattle.tough_base.specs.Canon.{nfc_text, Canon, quoted, joined, member_text, CanonItems, CanonMembers, Holds, AreItemsRefused, AreMembersRefused}
-use Rattle.tough_base.proofs.Holding.{items_hold, members_hold, shares_at}
+use Rattle.tough_base.specs.Canon.{quoted, joined, member_text, CanonItems, CanonMembers, Holds, AreItemsRefused, AreMembersRefused}
+use Rattle.tough_base.proofs.Holding.{items_hold, members_hold}
 use Rattle.tough_base.proofs.Joining.{is_nil_more, item_more, CanonItems_more, CanonMembers_more}
-use Rattle.tough_base.proofs.Sorting.{has_name-from_lookup, IsPermutation_more, none_from, rising-seen}
 use Rattle.tough_base.proofs.Plain.{nfc_text-IsAscii, ascii_at, in_place, written_more}
+use Rattle.serde_json.specs.declared.value.Value.{Value, size-Value}
+use denote.Param.Weighed.{most}
+use Rattle.tough_base.specs.ByName.{named, kept}
+use Rattle.tough_base.proofs.ByName.{Lent, AreWritten, texts_of, text_of, text_of-Canon, AreWritten_more, texts_of_more, kept_more, kept_hold, kept_below, written}
+use Rattle.tough_base.proofs.Joining.{is_nil}
 use Rattle.tough_base.proofs.cjson.write.+write.Goals as goal
-
-pub member_texts-returns-in_err-write-clause-err : goal.member_texts-returns-in_err-write-clause-err
-member_texts-returns-in_err-write-clause-err t c =
-    let p = err_from_is_err_and c.from_residual-in_err-write.result c.from_residual-in_err-write.ensures.1 in
-    let done = c.loop-key.invariant.0 in
-    let e : Entry = (c.in-Some.key.now, c.in-Some.member.now) in
-    let left = c.next.new.self in
-    let all : c.args.members.now.entries ≡ done ++ e ∷ left = c.loop-key.invariant.2 ∙ ap (λ es. done ++ es) c.in-Some.ensures.steps in
-    rw (p.1, p.2) (subst (λ es. AreMembersRefused (members_view es) c.in_err-write.field-0.0) (sym all) (members_hold _ done e left c.in_err-write.ensures.err))
-
-pub member_texts-returns-then-is_some-clause-err : goal.member_texts-returns-then-is_some-clause-err
-unfolding nfc_text
-member_texts-returns-then-is_some-clause-err t c =
-    let l = c.loop-key in
-    let done = l.invariant.0 in
-    let e : Entry = (c.in-Some.key.now, c.in-Some.member.now) in
-    let left = c.next.new.self in
-    let all : c.args.members.now.entries ≡ done ++ e ∷ left = l.invariant.2 ∙ ap (λ es. done ++ es) c.in-Some.ensures.steps in
-    let named : string_bytes c.in_ok-name.name ≡ nfc_text (string_bytes e.0) = search rules in
-    rw all (shares_at done e left (has_name-from_lookup c.in_ok-name.name l.texts.entries _ (members_view done) l.invariant.1 c.in_ok-insert.field-0 c.in_ok-insert.ensures.old (sym c.if-is_some.ensures) named l.invariant.3 l.invariant.4))
-
-pub member_texts-loop-key-preserved : goal.member_texts-loop-key-preserved
-unfolding nfc_text
-member_texts-loop-key-preserved t c =
-    let l = c.loop-key in
-    let done = l.invariant.0 in
-    let ps = l.invariant.1 in
-    let e : Entry = (c.in-Some.key.now, c.in-Some.member.now) in
-    let left = c.next.new.self in
-    let all : c.args.members.now.entries ≡ done ++ e ∷ left = l.invariant.2 ∙ ap (λ es. done ++ es) c.in-Some.ensures.steps in
-    let named : string_bytes c.in_ok-name.name ≡ nfc_text (string_bytes e.0) = search rules in
-    let none : lookup (is_at (string_cmp c.in_ok-name.name)) l.texts.entries ≡ None = sym c.in_ok-insert.ensures.old ∙ none_from _ (sym c.if-is_some.ensures) in
-    let text = c.write.new.out in
-    let told = c.in_ok-write.ensures.ok in
-    let same : text.items ≡ told.0 = told.2 ∙ ap (λ s. s ++ told.0) c.new-text.ensures.items in
-    let canon : Canon (view e.1) text.items = subst (λ s. Canon (view e.1) s) (sym same) told.1 in (
-      done ++ e ∷ [],
-      ps ++ (nfc_text (string_bytes e.0), text.items) ∷ [],
-      all ∙ sym (append_assoc done (e ∷ []) left),
-      CanonMembers_more done e ps text.items l.invariant.3 canon,
-      IsPermutation_more ps l.texts.entries c.insert.new.self.entries c.in_ok-name.name text _ l.invariant.4 named none c.in_ok-insert.ensures.entries,
-      c.in_ok-insert.ensures.ordered,
-    )
-
-pub member_texts-returns-clause-ok : goal.member_texts-returns-clause-ok
-member_texts-returns-clause-ok t c =
-    let l = c.loop-key in
-    let all : c.args.members.now.entries ≡ l.invariant.0 = l.invariant.2 ∙ ap (λ es. l.invariant.0 ++ es) c.in-None.ensures.steps.0 ∙ append-nil _ in (
-      l.invariant.1,
-      subst (λ es. CanonMembers (members_view es) l.invariant.1) (sym all) l.invariant.3,
-      record { same = l.invariant.4; rising = rising-seen l.texts.entries l.invariant.5 },
-    )
 
 pub write_items-returns-in_err-write-clause-err : goal.write_items-returns-in_err-write-clause-err
 write_items-returns-in_err-write-clause-err t c =
@@ -122,3 +72,56 @@ write_in_place-returns-clause-ok t c =
     let all : c.args.members.now.entries ≡ done = l.invariant.2 ∙ ap (λ es. done ++ es) c.in-None.ensures.steps.0 ∙ append-nil _ in
     let canon = subst (λ es. CanonMembers (members_view es) ps) (sym all) l.invariant.3 in
     (ps, ps, canon, in_place c.args.members.now.entries ps c.iter-name-items.ensures.ordered c.requires canon, c.in_ok-extend_from_slice-3.ensures.items ∙ ap (λ s. s ++ 125 ∷ []) l.invariant.4 ∙ append_assoc c.args.out.now.items (123 ∷ joined (map member_text ps)) (125 ∷ []))
+
+pub write_sorted-write-requires : goal.write_sorted-write-requires
+write_sorted-write-requires t c =
+    let l = c.loop-name in
+    let es = c.args.members.now.entries in
+    let v = c.in-Some.member.now.now in
+    let all : c.args.sorted.now.entries ≡ l.invariant.0 ++ (c.in-Some.name.now, c.in-Some.member.now) ∷ c.next.new.self = l.invariant.1 ∙ ap (λ ls. l.invariant.0 ++ ls) c.in-Some.ensures.steps in
+    let small : size-Value v ≤ most size-Value (map (λ (e : Entry). e.1) es) = kept_below es c.args.sorted.now.entries l.invariant.0 (c.in-Some.name.now, c.in-Some.member.now) c.next.new.self c.requires all in
+    let here : 3 * most size-Value (map (λ (e : Entry). e.1) es) + 1 ≡ t = c.decreases in
+    let falls : 3 * size-Value v + 0 < t = omega (arith, small, here) in
+    (falls, tt)
+
+pub write_sorted-returns-in_err-write-clause-err : goal.write_sorted-returns-in_err-write-clause-err
+write_sorted-returns-in_err-write-clause-err t c =
+    let p = err_from_is_err_and c.from_residual-in_err-write.result c.from_residual-in_err-write.ensures.1 in
+    let done = c.loop-name.invariant.0 in
+    let e : Lent = (c.in-Some.name.now, c.in-Some.member.now) in
+    let left = c.next.new.self in
+    let all : c.args.sorted.now.entries ≡ done ++ e ∷ left = c.loop-name.invariant.1 ∙ ap (λ es. done ++ es) c.in-Some.ensures.steps in
+    rw (p.1, p.2) (kept_hold c.in_err-write.field-0.0 c.args.members.now.entries c.args.sorted.now.entries done e left c.requires all c.in_err-write.ensures.err)
+
+pub write_sorted-loop-name-preserved : goal.write_sorted-loop-name-preserved
+write_sorted-loop-name-preserved t c =
+    let l = c.loop-name in
+    let done = l.invariant.0 in
+    let e : Lent = (c.in-Some.name.now, c.in-Some.member.now) in
+    let n : List ℕ × Value = (string_bytes e.0, e.1.now) in
+    let left = c.next.new.self in
+    let all : c.args.sorted.now.entries ≡ done ++ e ∷ left = l.invariant.1 ∙ ap (λ es. done ++ es) c.in-Some.ensures.steps in
+    let told = c.in_ok-write.ensures.ok in
+    let ps = texts_of (kept done) in
+    let more : texts_of (kept (done ++ e ∷ [])) ≡ ps ++ (n.0, text_of n.1) ∷ [] = ap texts_of (kept_more done e) ∙ texts_of_more (kept done) n in
+    let same = text_of-Canon e.1.now told.0 told.1 in
+    let quote : c.append_quoted.new.out.items ≡ c.append_comma.new.out.items ++ quoted (string_bytes e.0) = search rules in
+    let colon : c.extend_from_slice-in-loop-name.new.self.items ≡ c.append_quoted.new.out.items ++ 58 ∷ [] = search rules in (
+      done ++ e ∷ [],
+      all ∙ sym (append_assoc done (e ∷ []) left),
+      subst AreWritten (sym (kept_more done e)) (AreWritten_more (kept done) n told.0 l.invariant.2 told.1),
+      written_more c.args.out.now.items ps (string_bytes e.0) (text_of e.1.now) l.is_first l.out.items c.append_comma.new.out.items _ _ _ l.invariant.3 l.invariant.4 c.in_ok-append_comma.ensures quote colon (told.2 ∙ ap (λ s. c.extend_from_slice-in-loop-name.new.self.items ++ s) (sym same))
+          ∙ ap (λ us. c.args.out.now.items ++ 123 ∷ joined (map member_text us)) (sym more),
+      sym (ap is_nil more ∙ is_nil_more _ _),
+    )
+
+pub write_sorted-returns-clause-ok : goal.write_sorted-returns-clause-ok
+write_sorted-returns-clause-ok t c =
+    let l = c.loop-name in
+    let done = l.invariant.0 in
+    let sorted = c.args.sorted.now.entries in
+    let all : sorted ≡ done = l.invariant.1 ∙ ap (λ es. done ++ es) c.in-None.ensures.steps.0 ∙ append-nil _ in
+    let ready = written c.args.members.now.entries sorted c.requires (subst (λ ls. AreWritten (kept ls)) (sym all) l.invariant.2) in
+    let out : l.out.items ≡ c.args.out.now.items ++ 123 ∷ joined (map member_text (texts_of (kept sorted))) =
+    l.invariant.3 ∙ ap (λ ls. c.args.out.now.items ++ 123 ∷ joined (map member_text (texts_of (kept ls)))) (sym all) in
+    (texts_of (named c.args.members.now.entries), texts_of (kept sorted), ready.0, ready.1, c.in_ok-extend_from_slice-3.ensures.items ∙ ap (λ s. s ++ 125 ∷ []) out ∙ append_assoc c.args.out.now.items (123 ∷ joined (map member_text (texts_of (kept sorted)))) (125 ∷ []))
