@@ -1,2 +1,5 @@
 pub mod Key
 pub mod Same
+pub mod Demo
+pub mod Parsed
+pub mod Results
