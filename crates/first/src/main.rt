@@ -25,7 +25,9 @@ fn timestamp(
 fn main(rt: HostRuntime) -> anyhow::Result<()> {
     let alloc = rt.alloc();
     let public = "3b6a27bcceb6a42d62a3a8d02a6f0d73653215771de243a63ac048a18b59da29";
-    let signer = DemoSign::new(alloc, tough_demo::ed25519(alloc, public)?);
+    let signer = DemoSign {
+        key: tough_demo::ed25519(alloc, public)?,
+    };
     let root = tough_demo::root(alloc, NonZeroU64::MIN, tough_demo::ed25519(alloc, public)?)?;
     let root = tough_demo::sign(alloc, root, &signer)?;
     let newer = timestamp(&rt, &signer, 4, 8)?;

@@ -105,8 +105,8 @@ pub fn sign<T: Role + Drop>(alloc: Global, role: T, signer: &DemoSign) -> Result
     ensures { IfOk result (λ s. s.signed ≡ role) }
 {
     let text = canonical_form(alloc, &role)?;
-    let sig = Decoded::from_vec(alloc, signer.sign(text.as_slice())?)?;
-    let keyid = identifier(alloc, &signer.tuf_key()?)?;
+    let sig = Decoded::from_vec(alloc, signer.sign(alloc, text.as_slice())?)?;
+    let keyid = identifier(alloc, &signer.tuf_key(alloc)?)?;
     let mut signatures = Vec::new(alloc);
     signatures.push(Signature { keyid, sig })?;
     Ok(Signed {

@@ -1,4 +1,5 @@
 pub mod Key
 pub mod Same
 pub mod Demo
-pub mod DemoKey
+pub mod Parsed
+pub mod Results

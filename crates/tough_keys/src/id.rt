@@ -1,4 +1,5 @@
-ghost use Rattle.std.specs.Prelude.{◌≡◌, option_and_then};
+ghost use Rattle.std.specs.Prelude.{◌≡◌, IfOk};
+ghost use Rattle.hex.specs.Hex.{encode_lower};
 ghost use Rattle.serde_json.specs.View.{view};
 ghost use Rattle.tough_base.specs.CanonicalText.{canonical_of};
 ghost use Rattle.tough_json.specs.Results.{Writes};
@@ -8,7 +9,7 @@ use crate::key::Key;
 use serde_json::Value;
 use sha2::{Digest, Sha256};
 use std::alloc::Global;
-use tough_base::{CjsonError, canonical};
+use tough_base::{CjsonError, Decoded, Hex, canonical};
 use tough_json::error::WriteError;
 
 /// The canonical text of a value; `Unwritable` where it has none.
@@ -31,5 +32,15 @@ impl Key {
         let value = self.to_value(alloc)?;
         let text = text_of(alloc, &value)?;
         Ok(Sha256::digest(text.as_slice()))
+    }
+
+    /// The key's identifier, spelled in lower-case digits; `Unwritable` where it has none.
+    pub fn key_id(&self, alloc: Global) -> Result<Decoded<Hex>, WriteError>
+        ensures id { Writes (λ id. id.bytes) result (key_id_of (key_doc self.now)) }
+        ensures spelling { IfOk result (λ id. id.spelling ≡ encode_lower id.bytes) }
+    {
+        let digest = self.digest(alloc)?;
+        let bytes = Vec::from_slice(alloc, digest.as_slice())?;
+        Ok(Decoded::from_vec(alloc, bytes)?)
     }
 }

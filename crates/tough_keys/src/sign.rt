@@ -1,20 +1,15 @@
-//! What signs by a key.
-
-ghost use Rattle.std.specs.Prelude.{◌≡◌, ℕ, List, IfOk};
+ghost use Rattle.std.specs.Prelude.{◌≡◌, IfOk, ℕ, List};
 ghost use Rattle.tough_keys.specs.Key.{KeyDoc, key_doc};
 
 use crate::key::Key;
-use std::alloc::AllocError;
-use thiserror::Error;
+use std::alloc::{AllocError, Global};
 
-/// Why a signer didn't sign.
-#[derive(Debug, Drop, Error)]
+/// Why nothing was signed.
+#[derive(Debug, Drop)]
 pub enum SignError {
-    /// The signer failed, and says why.
-    #[error("{0}")]
+    /// The signer failed, for the reason that it gives.
     Failed(String),
     /// A request for memory was refused.
-    #[error("out of memory")]
     Memory,
 }
 
@@ -28,33 +23,31 @@ impl From<AllocError> for SignError {
     }
 }
 
-/// What signs by a key. It holds what it needs to ask for memory.
+/// What signs messages by a key. `signs x m s` says that `s` may be its signature of `m`.
 pub trait Sign {
-    /// The keys that it may say it signs by.
-    ghost has_key: { Self → KeyDoc → Type 0 };
+    ghost key: { Self → KeyDoc };
 
-    /// The signatures that it may give over a message.
     ghost signs: { Self → List ℕ → List ℕ → Type 0 };
 
-    /// The key by which its signatures verify.
-    fn tuf_key(&self) -> Result<Key, SignError>
-        ensures { IfOk result (λ key. has_key self.now (key_doc key)) };
+    /// The public key that the signatures verify by.
+    fn tuf_key(&self, alloc: Global) -> Result<Key, SignError>
+        ensures { IfOk result (λ k. key_doc k ≡ key self.now) };
 
-    /// A signature over the message.
-    fn sign(&self, msg: &[u8]) -> Result<Vec<u8>, SignError>
-        ensures { IfOk result (λ sig. signs self.now msg.now sig.items) };
+    /// A signature of the message.
+    fn sign(&self, alloc: Global, msg: &[u8]) -> Result<Vec<u8>, SignError>
+        ensures { IfOk result (λ s. signs self.now msg.now s.items) };
 }
 
 impl<T: Sign> Sign for &T {
-    ghost has_key = { λ s. T.has_key s.now };
+    ghost key = { λ s. T.key s.now };
 
     ghost signs = { λ s. T.signs s.now };
 
-    fn tuf_key(&self) -> Result<Key, SignError> {
-        (**self).tuf_key()
+    fn tuf_key(&self, alloc: Global) -> Result<Key, SignError> {
+        T::tuf_key(*self, alloc)
     }
 
-    fn sign(&self, msg: &[u8]) -> Result<Vec<u8>, SignError> {
-        (**self).sign(msg)
+    fn sign(&self, alloc: Global, msg: &[u8]) -> Result<Vec<u8>, SignError> {
+        T::sign(*self, alloc, msg)
     }
 }

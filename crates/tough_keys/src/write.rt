@@ -40,6 +40,30 @@ fn kind_value(
 }
 
 impl Key {
+    /// The kind of the key.
+    pub fn kind(&self) -> Kind
+        ensures { result ≡ (key_doc self.now).kind }
+    {
+        match self {
+            Key::Rsa { .. } => Kind::Rsa,
+            Key::Ed25519 { .. } => Kind::Ed25519,
+            Key::Ecdsa { .. } => Kind::Ecdsa,
+            Key::EcdsaOld { .. } => Kind::EcdsaOld,
+        }
+    }
+
+    /// The bytes that the key's public part stands for.
+    pub fn public_bytes(&self) -> &[u8]
+        ensures { result.now ≡ (key_doc self.now).public.bytes }
+    {
+        match self {
+            Key::Rsa { keyval, .. } => keyval.public.as_slice(),
+            Key::Ed25519 { keyval, .. } => keyval.public.as_slice(),
+            Key::Ecdsa { keyval, .. } => keyval.public.as_slice(),
+            Key::EcdsaOld { keyval, .. } => keyval.public.as_slice(),
+        }
+    }
+
     #[tactic(auto, unfolding(crate::specs::Key::key_json))]
     fn json(&self, alloc: Global) -> Result<Value, WriteError>
         ensures { Writes view result (key_json (key_doc self.now)) }
