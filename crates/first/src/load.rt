@@ -35,11 +35,16 @@ impl<'a> Load<'a> {
 pub fn tell(rt: &HostRuntime, name: &str, taken: Result<u64, Error>) -> anyhow::Result<()> {
     match taken {
         Ok(version) => println!(rt; "load {name}: timestamp {version}")?,
-        Err(Error::OlderMetadata {
-            role,
-            current_version,
-            new_version,
-        }) => println!(rt; "load {name}: OlderMetadata {} current {current_version} new {new_version}", role.name())?,
+        Err(
+            Error::OlderMetadata {
+                role,
+                current_version,
+                new_version,
+            },
+        ) => println!(rt;
+            "load {name}: OlderMetadata {} current {current_version} new {new_version}",
+            role.name()
+        )?,
         Err(error) => return Err(error.into()),
     }
     Ok(())

@@ -27,9 +27,9 @@ fn a_root_follows_another(rt: HostRuntime) -> Result<(), Fail> {
     Ok(())
 }
 
-fn is_not_verified(result: &Result<Signed<Root>, Error>) -> bool {
+fn is_not_verified(found: &Result<Signed<Root>, Error>) -> bool {
     matches!(
-        result,
+        found,
         Err(Error::VerifyMetadata {
             role: RoleType::Root,
             ..
