@@ -3,6 +3,7 @@
 
 mod error;
 mod head;
+pub mod laws;
 mod read_root;
 mod read_signed;
 mod read_timestamp;
@@ -26,6 +27,10 @@ pub use signed::Signed;
 pub use timestamp::{Hashes, Metafile, Timestamp};
 pub use tough_json::{ReadError, WriteError};
 pub use tough_keys::{
-    EcdsaKey, EcdsaScheme, Ed25519Key, Ed25519Scheme, Key, RsaKey, RsaScheme, Verify,
+    DemoSign, DemoVerify, EcdsaKey, EcdsaScheme, Ed25519Key, Ed25519Scheme, Key, KeyParseError,
+    RsaKey, RsaScheme, Sign, SignError, Verify,
 };
 pub use verify::canonical_form;
+
+#[cfg(test)]
+mod tests;
