@@ -1,5 +1,5 @@
 -- The verdict is Ok exactly where the threshold is reached, as a set of identifiers.
-use Rattle.std.proofs.Common.{◌≡◌, ◌≤◌, ℕ, List, [], ◌∷◌, map, length, filter, Bool, true, false, ◌&&◌, ◌||◌, cond, nat_le, if◌then◌else◌, Option, Some, None, Ok, Err, inl, inr, refl, sym, ap, subst, ◌∙◌, arith}
+use Rattle.std.proofs.Common.{◌≡◌, ◌≤◌, ℕ, List, [], ◌∷◌, map, length, filter, Bool, true, false, ◌&&◌, ◌||◌, cond, nat_le, if◌then◌else◌, Option, Some, None, Result, Ok, Err, IfOk, inl, inr, refl, sym, ap, subst, ◌∙◌, arith}
 use Rattle.std.proofs.lemmas.Bool.{le-leb}
 use Rattle.std.proofs.lemmas.Bool.Decides.{nat_tests}
 use Rattle.std.proofs.lemmas.Cmp.{nat_list_eq_equiv}
@@ -9,9 +9,15 @@ use Rattle.std.specs.List.{list_any, IsDistinct, AllByRecursion}
 use Rattle.std.specs.Set.{is_member, unique_keys}
 use Rattle.std.specs.Str.{bytes_eq}
 use Rattle.tough_keys.specs.Same.{KeyData, Verifies}
-use Rattle.tough_schema.specs.Signature.{SignatureDoc}
-use Rattle.tough_schema.specs.Policy.{Policy}
-use Rattle.tough_schema.specs.Verdict.{Refused, DuplicateKeyId, SignatureThreshold, is_by, has_signed, signers, signer_count, some_twice, counted, verdict}
+use Rattle.serde_json.specs.Data.{Data}
+use Rattle.tough_schema.specs.declared.error.Error.{Error}
+use Rattle.tough_schema.specs.declared.error.Error.TheVariants as errors
+use Rattle.tough_schema.specs.declared.role_type.RoleType.{RoleType}
+use Rattle.tough_schema.specs.Signature.{SignatureDoc, SignedDoc}
+use Rattle.tough_schema.specs.Root.{RootDoc}
+use Rattle.tough_schema.specs.Chain.{text_by, ReachesUnder}
+use Rattle.tough_schema.specs.Policy.{Policy, policy}
+use Rattle.tough_schema.specs.Verdict.{Refused, DuplicateKeyId, SignatureThreshold, is_by, has_signed, signers, signer_count, some_twice, counted, verdict, Answers, IsRefusal, IsOkOrMemory}
 use Rattle.tough_schema.specs.Reaches.{IsAmong, IsSigner, AreOnce, Reaches}
 use Rattle.tough_schema.proofs.Counts.{list_any-map, any-filter, or_false}
 
@@ -182,3 +188,33 @@ reaches-to v p text ss r =
     let few : length r.ids ≤ signer_count v p text ss =
     length-le_from_is_member nat_list_eq_equiv r.ids (unique_keys bytes_eq all) r.distinct (λ q m. unique-member q all ∙ signer-to v p text ss q (all_member (IsSigner v p text ss) r.ids q r.signers m)) in
     rw (once_to ss r.once) (ap (λ b. if b then Ok tt else Err (SignatureThreshold p.threshold (signer_count v p text ss))) (le-leb p.threshold (signer_count v p text ss) (within p.threshold (length r.ids) (signer_count v p text ss) r.enough few)))
+
+-- ---- an answer
+
+ok_at : {A : Type 0} (v : Verifies) (holder : RootDoc) (role : RoleType) (json : A → Option Data) (s : SignedDoc A) (p : Option Policy) (text : Option (List ℕ)) → policy holder role ≡ p → text_by json s.role ≡ text → verdict v p text s.signatures ≡ Ok tt → ReachesUnder v holder role json s
+unfolding verdict
+ok_at v holder role json s None text e f h = cc
+ok_at v holder role json s (Some p) None e f h = cc
+ok_at v holder role json s (Some p) (Some t) e f h = record { asked = p; there = e; text = t; canonical = f; reached = reaches-from v p t s.signatures h }
+
+pub ok-reaches : {A : Type 0} (v : Verifies) (holder : RootDoc) (role : RoleType) (json : A → Option Data) (s : SignedDoc A) (result : Result Unit Error) → Answers result (verdict v (policy holder role) (text_by json s.role) s.signatures) → IfOk result (λ u. ReachesUnder v holder role json s)
+ok-reaches v holder role json s (Ok u) h = ok_at v holder role json s (policy holder role) (text_by json s.role) refl refl h
+ok-reaches v holder role json s (Err e) h = tt
+
+reached_ok : {A : Type 0} (v : Verifies) (holder : RootDoc) (role : RoleType) (json : A → Option Data) (s : SignedDoc A) → ReachesUnder v holder role json s → verdict v (policy holder role) (text_by json s.role) s.signatures ≡ Ok tt
+reached_ok v holder role json s r =
+    ap (λ p. verdict v p (text_by json s.role) s.signatures) r.there ∙ ap (λ t. verdict v (Some r.asked) t s.signatures) r.canonical ∙ reaches-to v r.asked r.text s.signatures r.reached
+
+no_refusal : (e : Error) → IsRefusal e (Ok tt) → IsOkOrMemory (Err e)
+no_refusal (errors.MissingRole role) h = cc
+no_refusal (errors.JsonSerialization role) h = cc
+no_refusal (errors.DuplicateKeyId keyid) h = cc
+no_refusal (errors.SignatureThreshold role threshold valid) h = cc
+no_refusal errors.Memory h = tt
+
+not_refused : (result : Result Unit Error) → Answers result (Ok tt) → IsOkOrMemory result
+not_refused (Ok u) h = tt
+not_refused (Err e) h = no_refusal e h
+
+pub reaches-ok : {A : Type 0} (v : Verifies) (holder : RootDoc) (role : RoleType) (json : A → Option Data) (s : SignedDoc A) (result : Result Unit Error) → Answers result (verdict v (policy holder role) (text_by json s.role) s.signatures) → ReachesUnder v holder role json s → IsOkOrMemory result
+reaches-ok v holder role json s result h r = not_refused result (subst (Answers result) (reached_ok v holder role json s r) h)
