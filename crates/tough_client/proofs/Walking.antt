@@ -3,17 +3,14 @@ use Rattle.std.proofs.Common.{◌≡◌, ℕ, ◌+◌, Result, Ok, ap, sym, ◌�
 use Rattle.tough_keys.specs.Same.{Verifies}
 use Rattle.tough_schema.specs.Signature.{SignedDoc}
 use Rattle.tough_schema.specs.Root.{RootDoc, root_json}
-use Rattle.tough_schema.specs.Policy.{policy}
-use Rattle.tough_schema.specs.Chain.{text_by, ReachesUnder, IsNext}
+use Rattle.tough_schema.specs.Chain.{ReachesUnder, IsNext}
 use Rattle.tough_schema.specs.declared.role_type.RoleType.TheVariants as role
-use Rattle.tough_schema.proofs.Reached.{known}
+use Rattle.tough_schema.proofs.Reached.{ok-reaches}
 use Rattle.tough_client.specs.Walk.{root_verdict}
 
 -- a verdict of Ok: the root's threshold is reached
 pub under : (verifies : Verifies) (holder : RootDoc) (d : SignedDoc RootDoc) → root_verdict verifies holder d ≡ Ok (tt {0}) → ReachesUnder verifies holder role.Root root_json d
-under verifies holder d h =
-    let k = known verifies d.signatures (policy holder role.Root) (text_by root_json d.role) h in
-    record { asked = k.0; there = k.2; text = k.1; canonical = k.3; reached = k.4 }
+under verifies holder d h = ok-reaches verifies holder role.Root root_json d (Ok (tt {0})) h
 
 -- a root that both verify, and whose version is one more, is next
 pub follows : (verifies : Verifies) (old : RootDoc) (before d : SignedDoc RootDoc) → before.role ≡ old → root_verdict verifies old d ≡ Ok (tt {0}) → root_verdict verifies d.role d ≡ Ok (tt {0})

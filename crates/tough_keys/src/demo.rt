@@ -47,9 +47,6 @@ impl Sign for DemoSign {
     }
 
     fn sign(&self, alloc: Global, msg: &[u8]) -> Result<Vec<u8>, SignError> {
-        Ok(Vec::from_slice(
-            alloc,
-            demo_signature(&self.key, msg).as_slice(),
-        )?)
+        Ok(Vec::from_slice(alloc, demo_signature(&self.key, msg).as_slice())?)
     }
 }

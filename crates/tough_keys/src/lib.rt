@@ -19,3 +19,6 @@ pub use kind::Kind;
 pub use parse::KeyParseError;
 pub use sign::{Sign, SignError};
 pub use verify::Verify;
+
+#[cfg(test)]
+mod tests;

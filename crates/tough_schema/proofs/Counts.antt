@@ -41,7 +41,7 @@ some_twice-drop ss i s h e = rw (drop-cons ss i s h, ← e, add-one) (ap (λ b. 
 same_test : {X : Type 0} (p q : X → Bool) (xs : List X) → ((x : X) → p x ≡ q x) → list_any p xs ≡ list_any q xs
 same_test p q xs h = ap (λ (t : _ → Bool). list_any t xs) (λ i x. h x i)
 
-any-filter : {X : Type 0} (p t : X → Bool) (xs : List X) → list_any p (filter t xs) ≡ list_any (λ x. t x && p x) xs
+pub any-filter : {X : Type 0} (p t : X → Bool) (xs : List X) → list_any p (filter t xs) ≡ list_any (λ x. t x && p x) xs
 any-filter p t [] = refl
 any-filter p t (x ∷ xs) = elim (t x) as (λ (b : Bool). list_any p (cond b (x ∷ filter t xs) (filter t xs)) ≡ ((b && p x) || list_any (λ y. t y && p y) xs)) [ true ↦ ap (λ b. p x || b) (any-filter p t xs) | false ↦ any-filter p t xs ]
 
@@ -98,7 +98,7 @@ members verifies keys ids text signatures q =
     ∙ sym (same_test (λ id. signed id && bytes_eq q id) (λ id. signed q && bytes_eq q id) ids (λ id. signed-at signed q id (bytes_eq q id) refl))
     ∙ sym (any-filter (bytes_eq q) signed ids)
 
-or_false : (a b : Bool) → (a || b) ≡ false → (a ≡ false) × (b ≡ false)
+pub or_false : (a b : Bool) → (a || b) ≡ false → (a ≡ false) × (b ≡ false)
 or_false true b h = cc
 or_false false b h = (refl, h)
 

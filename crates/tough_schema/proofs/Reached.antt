@@ -1,223 +1,220 @@
--- The verdict is Ok exactly where enough different identifiers have signed.
-use Rattle.std.proofs.Common.{◌≡◌, ℕ, ◌≤◌, ◌<◌, suc, zero, List, [], ◌∷◌, map, filter, length, slice_get, slice_index_or, Option, Some, None, Result, Ok, Err, Bool, true, false, ◌&&◌, ◌||◌, cond, nat_le, if◌then◌else◌, refl, sym, ap, ◌∙◌, subst, arith, rules, Contains}
-use Rattle.std.proofs.lemmas.Bool.{false≢true}
+-- The verdict is Ok exactly where the threshold is reached, as a set of identifiers.
+use Rattle.std.proofs.Common.{◌≡◌, ◌≤◌, ℕ, List, [], ◌∷◌, map, length, filter, Bool, true, false, ◌&&◌, ◌||◌, cond, nat_le, if◌then◌else◌, Option, Some, None, Result, Ok, Err, IfOk, inl, inr, refl, sym, ap, subst, ◌∙◌, arith}
+use Rattle.std.proofs.lemmas.Bool.{le-leb}
 use Rattle.std.proofs.lemmas.Bool.Decides.{nat_tests}
-use Rattle.std.proofs.lemmas.Slice.Eq.{bytes_eq-Decides}
-use Rattle.std.proofs.lemmas.Option.{slice_get-get_or}
-use Rattle.std.proofs.lemmas.List.Folds.{Any-from_list_any, list_any_at}
 use Rattle.std.proofs.lemmas.Cmp.{nat_list_eq_equiv}
-use Rattle.std.proofs.lemmas.Map.Views.{Contains-from_any, All-from_any}
 use Rattle.std.proofs.lemmas.Map.Made.{length-le_from_is_member}
-use Rattle.std.specs.List.{list_any, Any, All, IsDistinct, AllByRecursion}
+use Rattle.std.proofs.lemmas.Slice.Eq.{bytes_eq-Decides}
+use Rattle.std.specs.List.{list_any, IsDistinct, AllByRecursion}
 use Rattle.std.specs.Set.{is_member, unique_keys}
 use Rattle.std.specs.Str.{bytes_eq}
 use Rattle.tough_keys.specs.Same.{KeyData, Verifies}
-use Rattle.tough_schema.specs.Signature.{SignatureDoc}
-use Rattle.tough_schema.specs.Policy.{Policy}
-use Rattle.tough_schema.specs.Verdict.{Refused, DuplicateKeyId, SignatureThreshold, is_by, has_signed, signers, signer_count, some_twice, counted, verdict}
-use Rattle.tough_schema.specs.Reaches.{IsSigner, AreOnce, Reaches}
+use Rattle.serde_json.specs.Data.{Data}
+use Rattle.tough_schema.specs.declared.error.Error.{Error}
+use Rattle.tough_schema.specs.declared.error.Error.TheVariants as errors
+use Rattle.tough_schema.specs.declared.role_type.RoleType.{RoleType}
+use Rattle.tough_schema.specs.Signature.{SignatureDoc, SignedDoc}
+use Rattle.tough_schema.specs.Root.{RootDoc}
+use Rattle.tough_schema.specs.Chain.{text_by, ReachesUnder}
+use Rattle.tough_schema.specs.Policy.{Policy, policy}
+use Rattle.tough_schema.specs.Verdict.{Refused, DuplicateKeyId, SignatureThreshold, is_by, has_signed, signers, signer_count, some_twice, counted, verdict, Answers, IsRefusal, IsOkOrMemory}
+use Rattle.tough_schema.specs.Reaches.{IsAmong, IsSigner, AreOnce, Reaches}
+use Rattle.tough_schema.proofs.Counts.{list_any-map, any-filter, or_false}
 
-or_false : (a b : Bool) → (a || b) ≡ false → (a ≡ false) × (b ≡ false)
-or_false true b h = absurd (cc (h))
-or_false false b h = (refl, h)
+-- ---- lists
 
-and_true : (a b : Bool) → (a && b) ≡ true → (a ≡ true) × (b ≡ true)
-and_true true b h = (refl, h)
-and_true false b h = absurd (cc (h))
+and_parts : (a b : Bool) → (a && b) ≡ true → (a ≡ true) × (b ≡ true)
+and_parts true b h = (refl, h)
+and_parts false b h = cc
 
-same_text : (a b : List ℕ) → bytes_eq a b ≡ true → a ≡ b
-same_text a b h = search (rules, bytes_eq-Decides)
+or_right : (a b : Bool) → b ≡ true → (a || b) ≡ true
+or_right true b h = refl
+or_right false b h = h
 
-equal_text : (a b : List ℕ) → a ≡ b → bytes_eq a b ≡ true
-equal_text a b h = search (rules, bytes_eq-Decides)
+or_left : (a b : Bool) → a ≡ true → (a || b) ≡ true
+or_left true b h = refl
+or_left false b h = cc
 
-some_is : {A : Type 0} (x y : A) → Some x ≡ Some y → x ≡ y
-some_is x y h = cc
+any_at : {X : Type 0} (p : X → Bool) (x : X) (xs : List X) (t : Bool) → p x ≡ t → (p x || list_any p xs) ≡ true → (list_any p xs ≡ true → (y : X) × IsAmong y xs × (p y ≡ true)) → (y : X) × IsAmong y (x ∷ xs) × (p y ≡ true)
+any_at p x xs true e h later = (x, inl refl, e)
+any_at p x xs false e h later = let rest = rw e at h in let r = later rest in (r.0, inr r.1, r.2)
 
--- ---- no identifier stands twice
+any_some : {X : Type 0} (p : X → Bool) (xs : List X) → list_any p xs ≡ true → (y : X) × IsAmong y xs × (p y ≡ true)
+any_some p [] h = cc
+any_some p (x ∷ xs) h = any_at p x xs (p x) refl h (any_some p xs)
 
-no_other : {X : Type 0} (f : X → Bool) (xs : List X) (k : ℕ) (t : X) → list_any f xs ≡ false → slice_get xs k ≡ Some t → f t ≡ false
-no_other f [] zero t n e = absurd (cc (e))
-no_other f [] (suc k) t n e = absurd (cc (e))
-no_other f (x ∷ xs) zero t n e = ap f (sym (some_is x t e)) ∙ (or_false (f x) (list_any f xs) n).0
-no_other f (x ∷ xs) (suc k) t n e = no_other f xs k t (or_false (f x) (list_any f xs) n).1 e
+some_any : {X : Type 0} (p : X → Bool) (xs : List X) (y : X) → IsAmong y xs → p y ≡ true → list_any p xs ≡ true
+some_any p [] y h e = absurd h
+some_any p (x ∷ xs) y (inl same) e = or_left (p x) (list_any p xs) (ap p same ∙ e)
+some_any p (x ∷ xs) y (inr later) e = or_right (p x) (list_any p xs) (some_any p xs y later e)
 
-abbrev same_keyid : SignatureDoc → SignatureDoc → Bool
-same_keyid s t = bytes_eq t.keyid.bytes s.keyid.bytes
+eq_at : (a b : List ℕ) (t : Bool) → bytes_eq a b ≡ t → (a ≡ b → ⊥) → bytes_eq a b ≡ false
+eq_at a b true e apart = absurd (apart ((bytes_eq-Decides a b).0 e))
+eq_at a b false e apart = e
 
-once : (ss : List SignatureDoc) → some_twice ss ≡ false → AreOnce ss
-once [] n zero j s t l a b = λ same. absurd (cc (a))
-once [] n (suc i) j s t l a b = λ same. absurd (cc (a))
-once (x ∷ ss) n i zero s t l a b = λ same. absurd (omega (arith, l))
-once (x ∷ ss) n zero (suc j) s t l a b = λ same.
-    let p = or_false (list_any (same_keyid x) ss) (some_twice ss) n in
-    let apart : bytes_eq t.keyid.bytes x.keyid.bytes ≡ false = no_other (same_keyid x) ss j t p.0 b in
-    let is : x ≡ s = some_is x s a in
-    false≢true (sym apart ∙ equal_text t.keyid.bytes x.keyid.bytes (sym same ∙ ap (λ (u : SignatureDoc). u.keyid.bytes) (sym is)))
-once (x ∷ ss) n (suc i) (suc j) s t l a b = once ss (or_false (list_any (same_keyid x) ss) (some_twice ss) n).1 i j s t (omega (arith, l)) a b
+not_eq : (a b : List ℕ) → (a ≡ b → ⊥) → bytes_eq a b ≡ false
+not_eq a b apart = eq_at a b (bytes_eq a b) refl apart
 
-stands : {X : Type 0} (xs : List X) (k : ℕ) (x : X) → k < length xs → slice_index_or xs k x ≡ x → slice_get xs k ≡ Some x
-stands xs k x l e = slice_get-get_or xs k x l ∙ ap Some e
-
-not_twice : (ss : List SignatureDoc) → AreOnce ss → some_twice ss ≡ false
-not_twice [] h = refl
-not_twice (x ∷ ss) h = by (list_any (same_keyid x) ss) refl (not_twice ss (λ i j s t l a b. h (suc i) (suc j) s t (omega (arith, l)) a b))
-  where
-    by : (b : Bool) → list_any (same_keyid x) ss ≡ b → some_twice ss ≡ false → (b || some_twice ss) ≡ false
-    by false e r = r
-    by true e r =
-        let found = Any-from_list_any (same_keyid x) ss e in
-        absurd (h 0 (suc found.0) x found.1 (omega arith) refl (stands ss found.0 found.1 found.2 found.3) (sym (same_text found.1.keyid.bytes x.keyid.bytes found.4)))
+are_apart : (a b : List ℕ) → bytes_eq a b ≡ false → a ≡ b → ⊥
+are_apart a b e same = let clash : true ≡ false = sym ((bytes_eq-Decides a b).1 same) ∙ e in cc
 
 -- ---- each key once
 
-member_alike : (xs : List (List ℕ)) (q x : List ℕ) → bytes_eq q x ≡ true → is_member bytes_eq xs q ≡ is_member bytes_eq xs x
-member_alike xs q x e = ap (λ y. is_member bytes_eq xs y) (same_text q x e)
+member_at : (q x : List ℕ) (xs : List (List ℕ)) (t : Bool) → bytes_eq q x ≡ t → is_member bytes_eq xs x ≡ true → is_member bytes_eq xs q ≡ (bytes_eq q x || is_member bytes_eq xs q)
+member_at q x xs true e h = ap (is_member bytes_eq xs) ((bytes_eq-Decides q x).0 e) ∙ h ∙ sym (or_left (bytes_eq q x) (is_member bytes_eq xs q) e)
+member_at q x xs false e h = rw e refl
 
-in_unique : (xs : List (List ℕ)) (q : List ℕ) → is_member bytes_eq (unique_keys bytes_eq xs) q ≡ is_member bytes_eq xs q
-in_unique [] q = refl
-in_unique (x ∷ xs) q = by (is_member bytes_eq xs x) (bytes_eq q x) refl refl (in_unique xs q)
-  where
-    by : (b c : Bool) → is_member bytes_eq xs x ≡ b → bytes_eq q x ≡ c → is_member bytes_eq (unique_keys bytes_eq xs) q ≡ is_member bytes_eq xs q
-        → is_member bytes_eq (cond b (unique_keys bytes_eq xs) (x ∷ unique_keys bytes_eq xs)) q ≡ (c || is_member bytes_eq xs q)
-    by true true m t r = r ∙ (member_alike xs q x t ∙ m)
-    by true false m t r = r
-    by false c m t r = rw t (ap (λ v. c || v) r)
+unique_at : (q x : List ℕ) (xs : List (List ℕ)) (t : Bool) → is_member bytes_eq xs x ≡ t → is_member bytes_eq (unique_keys bytes_eq xs) q ≡ is_member bytes_eq xs q
+    → is_member bytes_eq (cond t (unique_keys bytes_eq xs) (x ∷ unique_keys bytes_eq xs)) q ≡ (bytes_eq q x || is_member bytes_eq xs q)
+unique_at q x xs true e later = later ∙ member_at q x xs (bytes_eq q x) refl e
+unique_at q x xs false e later = ap (λ b. bytes_eq q x || b) later
 
-apart : (x : List ℕ) (ys : List (List ℕ)) → is_member bytes_eq ys x ≡ false → AllByRecursion (λ y. bytes_eq x y ≡ false) ys
-apart x [] h = tt
-apart x (y ∷ ys) h = let p = or_false (bytes_eq x y) (is_member bytes_eq ys x) h in (p.0, apart x ys p.1)
+unique-member : (q : List ℕ) (xs : List (List ℕ)) → is_member bytes_eq (unique_keys bytes_eq xs) q ≡ is_member bytes_eq xs q
+unique-member q [] = refl
+unique-member q (x ∷ xs) = unique_at q x xs (is_member bytes_eq xs x) refl (unique-member q xs)
 
-unique : (xs : List (List ℕ)) → IsDistinct bytes_eq (unique_keys bytes_eq xs)
+all_apart : (x : List ℕ) (ys : List (List ℕ)) → is_member bytes_eq ys x ≡ false → AllByRecursion (λ y. bytes_eq x y ≡ false) ys
+all_apart x [] h = tt
+all_apart x (y ∷ ys) h = let both = or_false (bytes_eq x y) (is_member bytes_eq ys x) h in (both.0, all_apart x ys both.1)
+
+distinct_at : (x : List ℕ) (xs : List (List ℕ)) (t : Bool) → is_member bytes_eq xs x ≡ t → IsDistinct bytes_eq (unique_keys bytes_eq xs) → IsDistinct bytes_eq (cond t (unique_keys bytes_eq xs) (x ∷ unique_keys bytes_eq xs))
 unfolding IsDistinct
-unique [] = tt
-unique (x ∷ xs) = by (is_member bytes_eq xs x) refl (unique xs)
-  where
-    by : (b : Bool) → is_member bytes_eq xs x ≡ b → IsDistinct bytes_eq (unique_keys bytes_eq xs) → IsDistinct bytes_eq (cond b (unique_keys bytes_eq xs) (x ∷ unique_keys bytes_eq xs))
-    by true m r = r
-    by false m r = (apart x (unique_keys bytes_eq xs) (in_unique xs x ∙ m), r)
+distinct_at x xs true e later = later
+distinct_at x xs false e later = (all_apart x (unique_keys bytes_eq xs) (unique-member x xs ∙ e), later)
 
--- ---- who has signed
+unique-distinct : (xs : List (List ℕ)) → IsDistinct bytes_eq (unique_keys bytes_eq xs)
+unfolding IsDistinct
+unique-distinct [] = tt
+unique-distinct (x ∷ xs) = distinct_at x xs (is_member bytes_eq xs x) refl (unique-distinct xs)
 
-abbrev Entry : Type 0
-Entry = List ℕ × Option KeyData
+-- what holds of each member holds of all
+all_from : (P : List ℕ → Type 0) (xs : List (List ℕ)) → ((x : List ℕ) → is_member bytes_eq xs x ≡ true → P x) → AllByRecursion P xs
+all_from P [] h = tt
+all_from P (x ∷ xs) h =
+    (h x (or_left (bytes_eq x x) (is_member bytes_eq xs x) ((bytes_eq-Decides x x).1 refl)), all_from P xs (λ y m. h y (or_right (bytes_eq y x) (is_member bytes_eq xs y) m)))
 
-abbrev ids_of : (Entry → Bool) → List Entry → List (List ℕ)
-ids_of f keys = map (λ k. k.0) (filter f keys)
+all_at : (P : List ℕ → Type 0) (x : List ℕ) (xs : List (List ℕ)) (q : List ℕ) (t : Bool) → bytes_eq q x ≡ t → P x → (is_member bytes_eq xs q ≡ true → P q) → (bytes_eq q x || is_member bytes_eq xs q) ≡ true → P q
+all_at P x xs q true e first later m = subst P (sym ((bytes_eq-Decides q x).0 e)) first
+all_at P x xs q false e first later m = let rest = rw e at m in later rest
 
-module _ (f : Entry → Bool) (q : List ℕ) where
-  abbrev Found : List Entry → Type 0
-  Found keys = (o : Option KeyData) × Contains keys (q, o) × (f (q, o) ≡ true)
+all_member : (P : List ℕ → Type 0) (xs : List (List ℕ)) (q : List ℕ) → AllByRecursion P xs → is_member bytes_eq xs q ≡ true → P q
+all_member P [] q h m = cc
+all_member P (x ∷ xs) q h m = all_at P x xs q (bytes_eq q x) refl h.0 (all_member P xs q h.1) m
 
-  later : (k : Entry) (keys : List Entry) → Found keys → Found (k ∷ keys)
-  later k keys h = (h.0, (suc h.1.0, omega (arith, h.1.1), h.1.2), h.2)
+-- ---- the signatures
 
-  here : (k : Entry) (keys : List Entry) → bytes_eq q k.0 ≡ true → f k ≡ true → Found (k ∷ keys)
-  here k keys e t =
-      let is : (q, k.1) ≡ k = ap (λ (x : List ℕ). (x, k.1)) (same_text q k.0 e) in
-      (k.1, (0, omega arith, sym is), ap f is ∙ t)
+apart_all : (k : List ℕ) (ss : List SignatureDoc) → list_any (λ t. bytes_eq t.keyid.bytes k) ss ≡ false → AllByRecursion (λ t. t.keyid.bytes ≡ k → ⊥) ss
+apart_all k [] h = tt
+apart_all k (t ∷ ss) h =
+    let both = or_false (bytes_eq t.keyid.bytes k) (list_any (λ t. bytes_eq t.keyid.bytes k) ss) h in
+    (are_apart t.keyid.bytes k both.0, apart_all k ss both.1)
 
-  entry_of : (keys : List Entry) → list_any (bytes_eq q) (ids_of f keys) ≡ true → Found keys
-  entry_of [] e = absurd (false≢true e)
-  entry_of (k ∷ keys) e = by (f k) (bytes_eq q k.0) refl refl e (entry_of keys)
-    where
-      by : (b c : Bool) → f k ≡ b → bytes_eq q k.0 ≡ c → list_any (bytes_eq q) (map (λ (x : Entry). x.0) (cond b (k ∷ filter f keys) (filter f keys))) ≡ true
-          → (list_any (bytes_eq q) (ids_of f keys) ≡ true → Found keys) → Found (k ∷ keys)
-      by false c t s e r = later k keys (r e)
-      by true true t s e r = here k keys s t
-      by true false t s e r = later k keys (r (ap (λ b. b || list_any (bytes_eq q) (ids_of f keys)) (sym s) ∙ e))
+none_any : (k : List ℕ) (ss : List SignatureDoc) → AllByRecursion (λ t. t.keyid.bytes ≡ k → ⊥) ss → list_any (λ t. bytes_eq t.keyid.bytes k) ss ≡ false
+none_any k [] h = refl
+none_any k (t ∷ ss) h = ap (λ b. b || list_any (λ t. bytes_eq t.keyid.bytes k) ss) (not_eq t.keyid.bytes k h.0) ∙ none_any k ss h.1
 
-  id_of : (keys : List Entry) (o : Option KeyData) → Contains keys (q, o) → f (q, o) ≡ true → list_any (bytes_eq q) (ids_of f keys) ≡ true
-  id_of [] o h t = absurd (omega (arith, h.1))
-  id_of (k ∷ keys) o (zero, l, e) t = by (f k) refl
-    where
-      by : (b : Bool) → f k ≡ b → list_any (bytes_eq q) (map (λ (x : Entry). x.0) (cond b (k ∷ filter f keys) (filter f keys))) ≡ true
-      by true s = ap (λ b. b || list_any (bytes_eq q) (ids_of f keys)) (equal_text q k.0 (ap (λ (x : Entry). x.0) (sym e)))
-      by false s = absurd (false≢true (sym s ∙ (ap f e ∙ t)))
-  id_of (k ∷ keys) o (suc i, l, e) t = by (f k) (id_of keys o (i, omega (arith, l), e) t)
-    where
-      or_right : (a b : Bool) → b ≡ true → (a || b) ≡ true
-      or_right true b h = refl
-      or_right false b h = h
+once_from : (ss : List SignatureDoc) → some_twice ss ≡ false → AreOnce ss
+once_from [] h = tt
+once_from (s ∷ ss) h =
+    let both = or_false (list_any (λ t. bytes_eq t.keyid.bytes s.keyid.bytes) ss) (some_twice ss) h in
+    (apart_all s.keyid.bytes ss both.0, once_from ss both.1)
 
-      by : (b : Bool) → list_any (bytes_eq q) (ids_of f keys) ≡ true → list_any (bytes_eq q) (map (λ (x : Entry). x.0) (cond b (k ∷ filter f keys) (filter f keys))) ≡ true
-      by true r = or_right (bytes_eq q k.0) (list_any (bytes_eq q) (ids_of f keys)) r
-      by false r = r
+once_to : (ss : List SignatureDoc) → AreOnce ss → some_twice ss ≡ false
+once_to [] h = refl
+once_to (s ∷ ss) h = ap (λ b. b || some_twice ss) (none_any s.keyid.bytes ss h.0) ∙ once_to ss h.1
 
-module _ (verifies : Verifies) (p : Policy) (text : List ℕ) (ss : List SignatureDoc) where
-  signer_by : (q : List ℕ) (o : Option KeyData) → Contains p.keys (q, o) → has_signed verifies text ss (q, o) ≡ true → IsSigner verifies p text ss q
-  signer_by q None c h = absurd (false≢true h)
-  signer_by q (Some key) c h =
-      let found = Any-from_list_any (is_by verifies text q key) ss h in
-      let both = and_true (bytes_eq found.1.keyid.bytes q) (verifies key text found.1.sig.bytes) found.4 in
-      record { key = key; listed = c; signature = found.1; stands = (found.0, found.2, found.3); beside = same_text found.1.keyid.bytes q both.0; verified = both.1 }
+signer_at : (v : Verifies) (p : Policy) (text : List ℕ) (ss : List SignatureDoc) (id : List ℕ) (k : List ℕ × Option KeyData) (o : Option KeyData) → k.1 ≡ o → IsAmong k p.keys → has_signed v text ss (k.0, o) ≡ true → id ≡ k.0 → IsSigner v p text ss id
+signer_at v p text ss id k None e among h same = cc
+signer_at v p text ss id k (Some key) e among h same =
+    let s = any_some (is_by v text k.0 key) ss h in
+    let parts = and_parts (bytes_eq s.0.keyid.bytes k.0) (v key text s.0.sig.bytes) s.2 in
+    let pair : k ≡ (id, Some key) = ap (λ o. (k.0, o)) e ∙ ap (λ i. (i, Some key)) (sym same) in
+    record { key = key; listed = subst (λ x. IsAmong x p.keys) pair among; signature = s.0; stands = s.1; beside = (bytes_eq-Decides s.0.keyid.bytes k.0).0 parts.0 ∙ sym same; verified = parts.1 }
 
-  signer : (q : List ℕ) → list_any (bytes_eq q) (signers verifies p text ss) ≡ true → IsSigner verifies p text ss q
-  signer q m = let e = entry_of (has_signed verifies text ss) q p.keys m in signer_by q e.0 e.1 e.2
+members-are : (v : Verifies) (p : Policy) (text : List ℕ) (ss : List SignatureDoc) (id : List ℕ) → is_member bytes_eq (signers v p text ss) id ≡ list_any (λ k. has_signed v text ss k && bytes_eq id k.0) p.keys
+members-are v p text ss id =
+    list_any-map (bytes_eq id) (λ (k : List ℕ × Option KeyData). k.0) (filter (has_signed v text ss) p.keys) ∙ any-filter (λ k. bytes_eq id k.0) (has_signed v text ss) p.keys
 
-  and_both : (a b : Bool) → a ≡ true → b ≡ true → (a && b) ≡ true
-  and_both true b h k = k
-  and_both false b h k = absurd (cc (h))
+signer-from : (v : Verifies) (p : Policy) (text : List ℕ) (ss : List SignatureDoc) (id : List ℕ) → is_member bytes_eq (signers v p text ss) id ≡ true → IsSigner v p text ss id
+signer-from v p text ss id m =
+    let k = any_some (λ k. has_signed v text ss k && bytes_eq id k.0) p.keys (sym (members-are v p text ss id) ∙ m) in
+    let parts = and_parts (has_signed v text ss k.0) (bytes_eq id k.0.0) k.2 in
+    signer_at v p text ss id k.0 k.0.1 refl k.1 parts.0 ((bytes_eq-Decides id k.0.0).0 parts.1)
 
-  signed : (q : List ℕ) → IsSigner verifies p text ss q → list_any (bytes_eq q) (signers verifies p text ss) ≡ true
-  signed q s =
-      let k = s.stands in
-      let by : is_by verifies text q s.key s.signature ≡ true = and_both (bytes_eq s.signature.keyid.bytes q) (verifies s.key text s.signature.sig.bytes) (equal_text s.signature.keyid.bytes q s.beside) s.verified in
-      id_of (has_signed verifies text ss) q p.keys (Some s.key) s.listed
-      (list_any_at (is_by verifies text q s.key) ss k.0 s.signature k.1 (ap (is_by verifies text q s.key) k.2 ∙ by))
+and_true : (a b : Bool) → a ≡ true → b ≡ true → (a && b) ≡ true
+and_true true b e h = h
+and_true false b e h = cc
 
-  -- ---- the verdict
+signer-to : (v : Verifies) (p : Policy) (text : List ℕ) (ss : List SignatureDoc) (id : List ℕ) → IsSigner v p text ss id → is_member bytes_eq (signers v p text ss) id ≡ true
+signer-to v p text ss id s =
+    let signed : has_signed v text ss (id, Some s.key) ≡ true =
+    some_any (is_by v text id s.key) ss s.signature s.stands (and_true (bytes_eq s.signature.keyid.bytes id) (v s.key text s.signature.sig.bytes) ((bytes_eq-Decides s.signature.keyid.bytes id).1 s.beside) s.verified) in
+    members-are v p text ss id
+    ∙ some_any (λ k. has_signed v text ss k && bytes_eq id k.0) p.keys (id, Some s.key) s.listed (and_true (has_signed v text ss (id, Some s.key)) (bytes_eq id id) signed ((bytes_eq-Decides id id).1 refl))
 
-  passes : (b : Bool) (t c : ℕ) → (if b then Err DuplicateKeyId else counted t c) ≡ Ok (tt {0}) → (b ≡ false) × (nat_le t c ≡ true)
-  passes true t c h = absurd (cc (h))
-  passes false t c h = (refl, by (nat_le t c) refl h)
-    where
-      by : (b : Bool) → nat_le t c ≡ b → (if b then Ok (tt {0}) else Err (SignatureThreshold t c)) ≡ Ok (tt {0}) → nat_le t c ≡ true
-      by true e h = e
-      by false e h = absurd (cc (h))
+-- ---- the law
 
-  at_most : (a b : ℕ) → nat_le a b ≡ true → a ≤ b
-  at_most a b h = grind (arith, nat_tests)
+leb-le : (a b : ℕ) → nat_le a b ≡ true → a ≤ b
+leb-le a b h = grind (arith, nat_tests, h)
 
-  is_at_most : (a b : ℕ) → a ≤ b → nat_le a b ≡ true
-  is_at_most a b h = grind (arith, nat_tests)
+ok_counted : (threshold count : ℕ) (t : Bool) → nat_le threshold count ≡ t → counted threshold count ≡ Ok tt → t ≡ true
+ok_counted threshold count true e h = refl
+ok_counted threshold count false e h = let none = rw e at h in cc
 
-  -- a verdict of Ok: the threshold is reached
-  pub reached : verdict verifies (Some p) (Some text) ss ≡ Ok (tt {0}) → Reaches verifies p text ss
-  unfolding verdict
-  reached h =
-      let both = passes (some_twice ss) p.threshold (signer_count verifies p text ss) h in
-      record {
-        once = once ss both.0;
-        ids = unique_keys bytes_eq (signers verifies p text ss);
-        distinct = unique (signers verifies p text ss);
-        signers = All-from_any nat_list_eq_equiv (IsSigner verifies p text ss) (unique_keys bytes_eq (signers verifies p text ss)) (λ q m. signer q (sym (in_unique (signers verifies p text ss) q) ∙ m));
-        enough = at_most p.threshold (signer_count verifies p text ss) both.1;
-      }
+ok_parts : (v : Verifies) (p : Policy) (text : List ℕ) (ss : List SignatureDoc) (t : Bool) → some_twice ss ≡ t → verdict v (Some p) (Some text) ss ≡ Ok tt → (t ≡ false) × (counted p.threshold (signer_count v p text ss) ≡ Ok tt)
+unfolding verdict
+ok_parts v p text ss true e h = let none = rw e at h in cc
+ok_parts v p text ss false e h = (refl, rw e at h)
 
-  all_at : {X : Type 0} (P : X → Type 0) (xs : List X) (x : X) → All P xs → Contains xs x → P x
-  all_at P xs x a c = subst P c.2 (a c.0 x c.1)
+pub reaches-from : (v : Verifies) (p : Policy) (text : List ℕ) (ss : List SignatureDoc) → verdict v (Some p) (Some text) ss ≡ Ok tt → Reaches v p text ss
+reaches-from v p text ss h =
+    let parts = ok_parts v p text ss (some_twice ss) refl h in
+    let all = signers v p text ss in
+    record {
+      once = once_from ss parts.0;
+      ids = unique_keys bytes_eq all;
+      distinct = unique-distinct all;
+      signers = all_from (IsSigner v p text ss) (unique_keys bytes_eq all) (λ id m. signer-from v p text ss id (sym (unique-member id all) ∙ m));
+      enough = leb-le p.threshold (signer_count v p text ss) (ok_counted p.threshold (signer_count v p text ss) (nat_le p.threshold (signer_count v p text ss)) refl parts.1);
+    }
 
-  at_least : (ids : List (List ℕ)) → IsDistinct bytes_eq ids → All (IsSigner verifies p text ss) ids → length ids ≤ signer_count verifies p text ss
-  at_least ids d a = length-le_from_is_member nat_list_eq_equiv ids (unique_keys bytes_eq (signers verifies p text ss)) d
-      (λ q m. in_unique (signers verifies p text ss) q ∙ signed q (all_at (IsSigner verifies p text ss) ids q a (Contains-from_any same_text q ids m)))
+within : (a b c : ℕ) → a ≤ b → b ≤ c → a ≤ c
+within a b c h k = omega (arith, h, k)
 
-  more : (t n c : ℕ) → t ≤ n → n ≤ c → t ≤ c
-  more t n c h k = omega (arith, h, k)
+pub reaches-to : (v : Verifies) (p : Policy) (text : List ℕ) (ss : List SignatureDoc) → Reaches v p text ss → verdict v (Some p) (Some text) ss ≡ Ok tt
+unfolding verdict
+reaches-to v p text ss r =
+    let all = signers v p text ss in
+    let few : length r.ids ≤ signer_count v p text ss =
+    length-le_from_is_member nat_list_eq_equiv r.ids (unique_keys bytes_eq all) r.distinct (λ q m. unique-member q all ∙ signer-to v p text ss q (all_member (IsSigner v p text ss) r.ids q r.signers m)) in
+    rw (once_to ss r.once) (ap (λ b. if b then Ok tt else Err (SignatureThreshold p.threshold (signer_count v p text ss))) (le-leb p.threshold (signer_count v p text ss) (within p.threshold (length r.ids) (signer_count v p text ss) r.enough few)))
 
-  -- the threshold is reached: a verdict of Ok
-  pub reaching : Reaches verifies p text ss → verdict verifies (Some p) (Some text) ss ≡ Ok (tt {0})
-  unfolding verdict
-  reaching r =
-      ap (λ b. if b then Err DuplicateKeyId else counted p.threshold (signer_count verifies p text ss)) (not_twice ss r.once)
-      ∙ ap (λ b. if b then Ok (tt {0}) else Err (SignatureThreshold p.threshold (signer_count verifies p text ss))) (is_at_most p.threshold (signer_count verifies p text ss) (more p.threshold (length r.ids) (signer_count verifies p text ss) r.enough (at_least r.ids r.distinct r.signers)))
+-- ---- an answer
 
--- ---- a verdict of Ok has a policy and a text
+ok_at : {A : Type 0} (v : Verifies) (holder : RootDoc) (role : RoleType) (json : A → Option Data) (s : SignedDoc A) (p : Option Policy) (text : Option (List ℕ)) → policy holder role ≡ p → text_by json s.role ≡ text → verdict v p text s.signatures ≡ Ok tt → ReachesUnder v holder role json s
+unfolding verdict
+ok_at v holder role json s None text e f h = cc
+ok_at v holder role json s (Some p) None e f h = cc
+ok_at v holder role json s (Some p) (Some t) e f h = record { asked = p; there = e; text = t; canonical = f; reached = reaches-from v p t s.signatures h }
 
-module _ (verifies : Verifies) (ss : List SignatureDoc) where
-  pub known : (o : Option Policy) (t : Option (List ℕ)) → verdict verifies o t ss ≡ Ok (tt {0})
-      → (p : Policy) × (text : List ℕ) × (o ≡ Some p) × (t ≡ Some text) × Reaches verifies p text ss
-  unfolding verdict
-  known None t h = absurd (cc (h))
-  known (Some p) None h = absurd (cc (h))
-  known (Some p) (Some text) h = (p, text, refl, refl, reached verifies p text ss h)
+pub ok-reaches : {A : Type 0} (v : Verifies) (holder : RootDoc) (role : RoleType) (json : A → Option Data) (s : SignedDoc A) (result : Result Unit Error) → Answers result (verdict v (policy holder role) (text_by json s.role) s.signatures) → IfOk result (λ u. ReachesUnder v holder role json s)
+ok-reaches v holder role json s (Ok u) h = ok_at v holder role json s (policy holder role) (text_by json s.role) refl refl h
+ok-reaches v holder role json s (Err e) h = tt
+
+reached_ok : {A : Type 0} (v : Verifies) (holder : RootDoc) (role : RoleType) (json : A → Option Data) (s : SignedDoc A) → ReachesUnder v holder role json s → verdict v (policy holder role) (text_by json s.role) s.signatures ≡ Ok tt
+reached_ok v holder role json s r =
+    ap (λ p. verdict v p (text_by json s.role) s.signatures) r.there ∙ ap (λ t. verdict v (Some r.asked) t s.signatures) r.canonical ∙ reaches-to v r.asked r.text s.signatures r.reached
+
+no_refusal : (e : Error) → IsRefusal e (Ok tt) → IsOkOrMemory (Err e)
+no_refusal (errors.MissingRole role) h = cc
+no_refusal (errors.JsonSerialization role) h = cc
+no_refusal (errors.DuplicateKeyId keyid) h = cc
+no_refusal (errors.SignatureThreshold role threshold valid) h = cc
+no_refusal errors.Memory h = tt
+
+not_refused : (result : Result Unit Error) → Answers result (Ok tt) → IsOkOrMemory result
+not_refused (Ok u) h = tt
+not_refused (Err e) h = no_refusal e h
+
+pub reaches-ok : {A : Type 0} (v : Verifies) (holder : RootDoc) (role : RoleType) (json : A → Option Data) (s : SignedDoc A) (result : Result Unit Error) → Answers result (verdict v (policy holder role) (text_by json s.role) s.signatures) → ReachesUnder v holder role json s → IsOkOrMemory result
+reaches-ok v holder role json s result h r = not_refused result (subst (Answers result) (reached_ok v holder role json s r) h)

@@ -1,9 +1,9 @@
 -- Timestamps, and what they say of a snapshot (TUF specification 1.0, sections 4.4 and 4.6).
-use Rattle.std.specs.Prelude.{ℕ, List, map, Option, Some, option_map, option_and_then, codes, string_bytes, String}
+use Rattle.std.specs.Prelude.{ℕ, List, [], map, Option, Some, option_map, option_and_then, codes, string_bytes, String}
 use Rattle.std.specs.Int.NonZero.{non_zero_u64_get}
 use Rattle.std.specs.declared.alloc.Global.{Global}
 use Rattle.tough_base.specs.Spelled.{Spelled}
-use Rattle.serde_json.specs.Data.{Data, object, Members}
+use Rattle.serde_json.specs.Data.{Data, object, Members, no_members}
 use Rattle.serde_json.specs.Find.{as_object}
 use Rattle.serde_json.specs.View.{members_view}
 use Rattle.tough_json.specs.Reading.{◌>>=◌, required, optional, positive, whole, hexadecimal, mapping}
@@ -46,6 +46,10 @@ timestamp_doc t = record {
   meta = metafiles_doc t.meta.entries;
   extra = members_view t._extra.entries;
 }
+
+-- one that tells of no file
+abbrev pub bare_timestamp : Head → TimestampDoc
+bare_timestamp head = record { head = head; meta = []; extra = no_members }
 
 -- ---- reading
 

@@ -70,3 +70,12 @@ Names asked signatures (errors.JsonSerialization role) = role ≡ asked
 Names asked signatures (errors.DuplicateKeyId keyid) = (i : ℕ) × (i < length signatures) × HoldsAt (λ s. s.keyid.spelling ≡ string_bytes keyid) signatures i
 Names asked signatures (errors.SignatureThreshold role threshold valid) = role ≡ asked
 Names asked signatures errors.Memory = ⊤
+
+-- no refusal but want of memory
+abbrev pub IsOkOrMemory : Result Unit Error → Type 0
+IsOkOrMemory (Ok u) = ⊤
+IsOkOrMemory (Err (errors.MissingRole role)) = ⊥
+IsOkOrMemory (Err (errors.JsonSerialization role)) = ⊥
+IsOkOrMemory (Err (errors.DuplicateKeyId keyid)) = ⊥
+IsOkOrMemory (Err (errors.SignatureThreshold role threshold valid)) = ⊥
+IsOkOrMemory (Err errors.Memory) = ⊤

@@ -7,9 +7,8 @@ ghost use Rattle.tough_schema.specs.Policy.{Policy};
 ghost use Rattle.tough_schema.specs.Verdict.{verdict};
 ghost use Rattle.tough_schema.specs.Reaches.{Reaches};
 
-/// A role is verified exactly if no identifier stands twice among the signatures, and a set of as many different
-/// identifiers as the threshold says are listed, have a key, and stand beside a signature that verifies by it.
-pub fn threshold_is_reached()
-    ensures { (verifies : Verifies) (p : Policy) (text : List ℕ) (ss : List SignatureDoc)
-        → (verdict verifies (Some p) (Some text) ss ≡ Ok (tt {0})) ↔ Reaches verifies p text ss }
+/// A role is verified exactly where a set of identifiers as large as the threshold has signed, none of which stands twice.
+pub fn verified_exactly()
+    ensures { (v : Verifies) (p : Policy) (text : List ℕ) (ss : List SignatureDoc)
+        → (verdict v (Some p) (Some text) ss ≡ Ok tt) ↔ Reaches v p text ss }
 {}

@@ -27,7 +27,10 @@ pub use signed::Signed;
 pub use timestamp::{Hashes, Metafile, Timestamp};
 pub use tough_json::{ReadError, WriteError};
 pub use tough_keys::{
-    DemoSign, DemoVerify, EcdsaKey, EcdsaScheme, Ed25519Key, Ed25519Scheme, Key, RsaKey, RsaScheme,
-    Sign, SignError, Verify,
+    DemoSign, DemoVerify, EcdsaKey, EcdsaScheme, Ed25519Key, Ed25519Scheme, Key, KeyParseError,
+    RsaKey, RsaScheme, Sign, SignError, Verify,
 };
 pub use verify::canonical_form;
+
+#[cfg(test)]
+mod tests;

@@ -3,9 +3,12 @@ ghost use Rattle.std.specs.Ordering.{nat_cmp, on, as_partial_cmp};
 ghost use Rattle.std.specs.Cmp.{partial_order_from_own_ties};
 ghost use Rattle.std.specs.Cmp.Rules.{comparing};
 ghost use Rattle.std.proofs.Common.{rules};
+ghost use Rattle.tough_json.specs.Results.{Reads};
 ghost use Rattle.tough_schema.specs.Roles.{rank, role_name, role_type, role_cmp};
 
+use std::alloc::Global;
 use std::cmp::Ordering;
+use tough_json::error::{ReadError, shape};
 
 /// The roles that a root lists (TUF specification 1.0, section 2.1), in their order.
 #[derive(Clone, Copy, Debug, Drop)]
@@ -60,6 +63,16 @@ impl RoleType {
             Some(RoleType::DelegatedTargets)
         } else {
             None
+        }
+    }
+
+    /// The role of the name; `Shape` where it is none's.
+    pub fn from_str(alloc: Global, name: &str) -> Result<RoleType, ReadError>
+        ensures { Reads (λ r. r) result (role_type name.now) }
+    {
+        match RoleType::of(name) {
+            Some(role) => Ok(role),
+            None => Err(shape(alloc, name)),
         }
     }
 }

@@ -1,5 +1,6 @@
-ghost use Rattle.std.specs.Prelude.{◌≡◌, Some, None, ⊤};
-ghost use Rattle.tough_schema.specs.Timestamp.{timestamp_doc, timestamp_at, timestamp_json};
+ghost use Rattle.std.specs.Prelude.{◌≡◌, Some, None, ⊤, string_bytes};
+ghost use Rattle.tough_schema.specs.Timestamp.{timestamp_doc, timestamp_at, timestamp_json, bare_timestamp};
+ghost use Rattle.std.specs.Int.NonZero.{non_zero_u64_get};
 ghost use Rattle.std.proofs.Common.{rules};
 ghost use Rattle.tough_schema.specs.declared.role_type.RoleType.TheVariants as types;
 
@@ -38,6 +39,26 @@ pub struct Timestamp {
     pub expires: jiff::Timestamp,
     pub meta: BTreeMap<String, Metafile>,
     pub _extra: Map<String, Value>,
+}
+
+impl Timestamp {
+    /// A timestamp that tells of no file yet.
+    pub fn new(
+        alloc: Global,
+        spec_version: String,
+        version: NonZeroU64,
+        expires: jiff::Timestamp,
+    ) -> Timestamp
+        ensures { timestamp_doc result ≡ bare_timestamp (record { spec_version = string_bytes spec_version; version = non_zero_u64_get version; expires = expires.nanosecond }) }
+    {
+        Timestamp {
+            spec_version,
+            version,
+            expires,
+            meta: BTreeMap::new(alloc),
+            _extra: Map::new(alloc),
+        }
+    }
 }
 
 impl Role for Timestamp {

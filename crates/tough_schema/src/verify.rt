@@ -4,12 +4,12 @@ ghost use Rattle.std.specs.Prelude.{◌≡◌, ◌≤◌, ◌<◌, ◌&&◌, Som
 ghost use Rattle.std.specs.List.{list_any};
 ghost use Rattle.std.specs.Str.{bytes_eq};
 ghost use Rattle.tough_json.specs.Results.{Writes};
-ghost use Rattle.tough_schema.specs.Signature.{signature_doc, signatures_doc};
+ghost use Rattle.tough_schema.specs.Signature.{signature_doc, signatures_doc, signed_doc};
 ghost use Rattle.tough_schema.specs.Root.{root_doc, keys_doc, role_keys_doc};
 ghost use Rattle.tough_schema.specs.Policy.{policy, policy_of};
-ghost use Rattle.tough_schema.specs.Verdict.{verdict, Answers, Names, some_twice};
+ghost use Rattle.tough_schema.specs.Verdict.{verdict, Answers, Names, IsOkOrMemory, some_twice};
 ghost use Rattle.tough_schema.specs.Counting.{bytes_of, key_of, under, is_valid};
-ghost use Rattle.tough_schema.specs.Chain.{text_by};
+ghost use Rattle.tough_schema.specs.Chain.{text_by, ReachesUnder};
 
 use crate::error::Error;
 use crate::role::Role;
@@ -134,6 +134,37 @@ fn judge<V: Verify>(
     Ok(())
 }
 
+// The verdict on the document's signatures under the root.
+fn answer<T: Role, V: Verify>(
+    alloc: Global,
+    root: &Root,
+    role: &Signed<T>,
+    verifier: &V,
+) -> Result<(), Error>
+    ensures verdict { Answers result (verdict (V.verifies verifier.now) (policy (root_doc root.now) T.TYPE) (text_by T.json role.now.signed) (signatures_doc role.now.signatures.items)) }
+    ensures named { IfErr result (λ e. Names T.TYPE (signatures_doc role.now.signatures.items) e) }
+{
+    let Some(keys) = root.roles.get(&T::TYPE) else {
+        return Err(Error::MissingRole { role: T::TYPE });
+    };
+    match canonical_form(alloc, &role.signed) {
+        Ok(text) => {
+            let text = text.as_slice();
+            judge(
+                alloc,
+                &root.keys,
+                T::TYPE,
+                keys,
+                text,
+                &role.signatures,
+                verifier,
+            )
+        }
+        Err(WriteError::Memory) => Err(Error::Memory),
+        Err(WriteError::Unwritable) => Err(Error::JsonSerialization { role: T::TYPE }),
+    }
+}
+
 impl Root {
     /// Whether the document's signatures reach the threshold of its role in this root. The refusals, in this order:
     /// `MissingRole`, `JsonSerialization`, `DuplicateKeyId`, `SignatureThreshold`.
@@ -144,26 +175,10 @@ impl Root {
         verifier: &V,
     ) -> Result<(), Error>
         ensures verdict { Answers result (verdict (V.verifies verifier.now) (policy (root_doc self.now) T.TYPE) (text_by T.json role.now.signed) (signatures_doc role.now.signatures.items)) }
+        ensures ok { IfOk result (λ u. ReachesUnder (V.verifies verifier.now) (root_doc self.now) T.TYPE T.json (signed_doc (λ x. x) role.now)) }
+        ensures only { ReachesUnder (V.verifies verifier.now) (root_doc self.now) T.TYPE T.json (signed_doc (λ x. x) role.now) → IsOkOrMemory result }
         ensures named { IfErr result (λ e. Names T.TYPE (signatures_doc role.now.signatures.items) e) }
     {
-        let Some(keys) = self.roles.get(&T::TYPE) else {
-            return Err(Error::MissingRole { role: T::TYPE });
-        };
-        match canonical_form(alloc, &role.signed) {
-            Ok(text) => {
-                let text = text.as_slice();
-                judge(
-                    alloc,
-                    &self.keys,
-                    T::TYPE,
-                    keys,
-                    text,
-                    &role.signatures,
-                    verifier,
-                )
-            }
-            Err(WriteError::Memory) => Err(Error::Memory),
-            Err(WriteError::Unwritable) => Err(Error::JsonSerialization { role: T::TYPE }),
-        }
+        answer(alloc, self, role, verifier)
     }
 }
