@@ -8,3 +8,4 @@ pub mod Texts
 pub mod Spelled
 pub mod Read
 pub mod Patterns
+pub mod Unreserved

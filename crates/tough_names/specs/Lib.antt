@@ -7,3 +7,4 @@ pub mod Steps
 pub mod Grammar
 pub mod Reader
 pub mod Spelling
+pub mod Filename
