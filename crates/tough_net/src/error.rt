@@ -1,0 +1,131 @@
+//! Why a transport failed.
+ghost use Rattle.std.specs.Prelude.{◌≡◌, string_bytes, Some, None, IfOk};
+ghost use Rattle.std.specs.Option.{option_copied};
+ghost use Rattle.tough_net.specs.Errors.{IsExceeded, IsMemory, IsMismatch, error_kind, error_url, error_cause};
+
+use std::alloc::{AllocError, Global};
+use std::fmt;
+use std::fmt::{Display, Formatter};
+
+/// What kind of fault a transport met.
+#[derive(Debug, Drop, Clone, Copy, PartialEq, Eq)]
+pub enum TransportErrorKind {
+    /// The transport doesn't serve URLs of this scheme.
+    UnsupportedUrlScheme,
+    /// There is no such file.
+    FileNotFound,
+    /// Any other fault.
+    Other,
+    /// A request for memory was refused.
+    Memory,
+}
+
+/// How a fetch over HTTP failed.
+#[derive(Debug, Drop, Clone, Copy, PartialEq, Eq)]
+pub enum HttpError {
+    /// The server answered that there is no such file.
+    FetchFileNotFound,
+    /// The server's answer forbids another request.
+    FetchFatal,
+    /// No request is left, or the bytes that are missing can't be asked for.
+    FetchNoMoreRetries { tries: u32 },
+}
+
+/// What led to a transport's fault.
+#[derive(Debug, Drop)]
+pub enum Cause {
+    /// More bytes came than the limit allows. The specifier says where the limit comes from.
+    MaxSizeExceeded {
+        max_size: u64,
+        specifier: &'static str,
+    },
+    /// The bytes don't have the digest. Both digests are in hexadecimal digits; the context is the URL.
+    HashMismatch {
+        context: String,
+        calculated: String,
+        expected: String,
+    },
+    /// A fault of HTTP.
+    Http(HttpError),
+    /// Another cause, by its text.
+    Text(String),
+}
+
+/// A fault of a transport at a URL. Where memory is wanting, the URL is the empty text.
+#[derive(Debug, Drop)]
+pub struct TransportError {
+    kind: TransportErrorKind,
+    url: Option<String>,
+    cause: Option<Cause>,
+}
+
+impl From<AllocError> for TransportError {
+    ghost from_gives = { λ _ e. IsMemory e };
+
+    fn from(_: AllocError) -> TransportError {
+        TransportError {
+            kind: TransportErrorKind::Memory,
+            url: None,
+            cause: None,
+        }
+    }
+}
+
+impl TransportError {
+    /// A fault at the URL of this text.
+    pub fn new(
+        alloc: Global,
+        kind: TransportErrorKind,
+        url: &str,
+    ) -> Result<TransportError, AllocError>
+        ensures kind { IfOk result (λ e. error_kind e ≡ kind) }
+        ensures url { IfOk result (λ e. error_url e ≡ url.now) }
+        ensures cause { IfOk result (λ e. error_cause e ≡ None) }
+    {
+        Ok(TransportError {
+            kind,
+            url: Some(String::from_str(alloc, url)?),
+            cause: None,
+        })
+    }
+
+    /// A fault at the URL of this text, with its cause.
+    pub fn new_with_cause(
+        alloc: Global,
+        kind: TransportErrorKind,
+        url: &str,
+        cause: Cause,
+    ) -> Result<TransportError, AllocError>
+        ensures kind { IfOk result (λ e. error_kind e ≡ kind) }
+        ensures url { IfOk result (λ e. error_url e ≡ url.now) }
+        ensures cause { IfOk result (λ e. error_cause e ≡ Some cause) }
+    {
+        Ok(TransportError {
+            kind,
+            url: Some(String::from_str(alloc, url)?),
+            cause: Some(cause),
+        })
+    }
+
+    pub fn kind(&self) -> TransportErrorKind
+        ensures { result ≡ error_kind self.now }
+    {
+        self.kind
+    }
+
+    /// The URL's text.
+    pub fn url(&self) -> &str
+        ensures { result.now ≡ error_url self.now }
+    {
+        match &self.url {
+            Some(url) => url.as_str(),
+            None => "",
+        }
+    }
+
+    pub fn cause(&self) -> Option<&Cause>
+        ensures { option_copied result ≡ error_cause self.now }
+    {
+        self.cause.as_ref()
+    }
+}
