@@ -1,1 +1,5 @@
+pub mod Checking
 pub mod Errors
+pub mod Items
+pub mod Joining
+pub mod Limiting

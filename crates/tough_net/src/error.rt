@@ -107,6 +107,56 @@ impl TransportError {
         })
     }
 
+    // The limit of this specifier was passed.
+    pub(crate) fn exceeded(
+        alloc: Global,
+        url: &str,
+        max_size: u64,
+        specifier: &'static str,
+    ) -> TransportError
+        ensures { IsExceeded url.now max_size specifier.now result }
+    {
+        let cause = Cause::MaxSizeExceeded {
+            max_size,
+            specifier,
+        };
+        match TransportError::new_with_cause(alloc, TransportErrorKind::Other, url, cause) {
+            Ok(e) => e,
+            Err(e) => e.into(),
+        }
+    }
+
+    // The bytes at this URL don't have the digest.
+    pub(crate) fn mismatch(
+        alloc: Global,
+        url: &str,
+        expected: &[u8],
+        calculated: &[u8],
+    ) -> TransportError
+        ensures { IsMismatch url.now expected.now calculated.now result }
+    {
+        match TransportError::try_mismatch(alloc, url, expected, calculated) {
+            Ok(e) => e,
+            Err(e) => e.into(),
+        }
+    }
+
+    fn try_mismatch(
+        alloc: Global,
+        url: &str,
+        expected: &[u8],
+        calculated: &[u8],
+    ) -> Result<TransportError, AllocError>
+        ensures { IfOk result (IsMismatch url.now expected.now calculated.now) }
+    {
+        let cause = Cause::HashMismatch {
+            context: String::from_str(alloc, url)?,
+            calculated: hex::encode(alloc, calculated)?,
+            expected: hex::encode(alloc, expected)?,
+        };
+        TransportError::new_with_cause(alloc, TransportErrorKind::Other, url, cause)
+    }
+
     pub fn kind(&self) -> TransportErrorKind
         ensures { result ≡ error_kind self.now }
     {
