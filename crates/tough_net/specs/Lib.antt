@@ -3,3 +3,4 @@ pub mod Errors
 pub mod Items
 pub mod Joining
 pub mod Limiting
+pub mod MemoryFiles

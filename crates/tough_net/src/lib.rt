@@ -5,8 +5,12 @@ mod digest_check;
 mod error;
 mod into_vec;
 mod max_size;
+mod memory;
+mod transport;
 
 pub use digest_check::DigestCheck;
 pub use error::{Cause, HttpError, TransportError, TransportErrorKind};
 pub use into_vec::{IntoVec, IntoVecFuture};
 pub use max_size::MaxSize;
+pub use memory::{MemoryStream, MemoryTransport};
+pub use transport::{Transport, TransportStream, fetch_max_size, fetch_sha256};
