@@ -1,4 +1,5 @@
 pub mod Checking
+pub mod Collecting
 pub mod Errors
 pub mod Items
 pub mod Joining

@@ -1,6 +1,7 @@
 //! Where bytes come from: transports, and streams that bound and check what they carry.
 #![tactic(auto)]
 
+mod collect;
 mod digest_check;
 mod error;
 mod into_vec;
@@ -8,6 +9,7 @@ mod max_size;
 mod memory;
 mod transport;
 
+pub use collect::{Collect, fetch_whole};
 pub use digest_check::DigestCheck;
 pub use error::{Cause, HttpError, TransportError, TransportErrorKind};
 pub use into_vec::{IntoVec, IntoVecFuture};
