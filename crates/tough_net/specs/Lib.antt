@@ -1,6 +1,7 @@
 pub mod Checking
 pub mod Collecting
 pub mod Errors
+pub mod FilesystemUrls
 pub mod Items
 pub mod Joining
 pub mod Limiting

@@ -4,6 +4,7 @@
 mod collect;
 mod digest_check;
 mod error;
+mod filesystem;
 mod into_vec;
 mod max_size;
 mod memory;
@@ -12,6 +13,7 @@ mod transport;
 pub use collect::{Collect, fetch_whole};
 pub use digest_check::DigestCheck;
 pub use error::{Cause, HttpError, TransportError, TransportErrorKind};
+pub use filesystem::{FileStream, FilesystemTransport};
 pub use into_vec::{IntoVec, IntoVecFuture};
 pub use max_size::MaxSize;
 pub use memory::{MemoryStream, MemoryTransport};
