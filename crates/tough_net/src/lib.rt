@@ -8,6 +8,8 @@ mod filesystem;
 mod into_vec;
 mod max_size;
 mod memory;
+#[cfg(test)]
+mod tests;
 mod transport;
 
 pub use collect::{Collect, fetch_whole};
