@@ -6,3 +6,5 @@ pub mod Items
 pub mod Joining
 pub mod Limiting
 pub mod MemoryFiles
+pub mod Retries
+pub mod RetryRecord

@@ -8,6 +8,8 @@ mod filesystem;
 mod into_vec;
 mod max_size;
 mod memory;
+mod retry_core;
+mod retry_events;
 #[cfg(test)]
 mod tests;
 mod transport;
@@ -19,4 +21,6 @@ pub use filesystem::{FileStream, FilesystemTransport};
 pub use into_vec::{IntoVec, IntoVecFuture};
 pub use max_size::MaxSize;
 pub use memory::{MemoryStream, MemoryTransport};
+pub use retry_core::RetryCore;
+pub use retry_events::{AnswerClass, RetryAction, RetryEvent, RetrySettings};
 pub use transport::{Transport, TransportStream, fetch_max_size, fetch_sha256};
