@@ -19,6 +19,19 @@ pub struct RetrySettings {
     ghost divides: { 0 < denominator },
 }
 
+impl Default for RetrySettings {
+    /// 4 further requests, and pauses from 100 ms to 1 s that grow by half.
+    fn default() -> RetrySettings {
+        RetrySettings {
+            tries: 4,
+            initial_backoff: Duration::from_millis(100),
+            max_backoff: Duration::from_secs(1),
+            numerator: 3,
+            denominator: 2,
+        }
+    }
+}
+
 /// What happened to a fetch.
 #[derive(Debug, Drop, Clone, Copy, PartialEq, Eq)]
 pub enum RetryEvent {
