@@ -6,5 +6,6 @@ pub mod Items
 pub mod Joining
 pub mod Limiting
 pub mod MemoryFiles
+pub mod Resource
 pub mod Retries
 pub mod RetryRecord
