@@ -1,3 +1,5 @@
 pub mod CheckLemmas
 pub mod CollectLemmas
 pub mod JoinLemmas
+pub mod ResourceLemmas
+pub mod TurnLemmas

@@ -1,6 +1,6 @@
 -- A resource that comes by parts.
 use Rattle.std.specs.Prelude.{◌≡◌, ℕ, Bool, true, false, List, [], ◌∷◌, ◌++◌, drop, All, Option, Some, None, Result, Ok, Err, IfSome, IfErr, IsSomeAnd, ⊤, ◌⊎◌, string_bytes}
-use Rattle.futures.specs.Runs.{Runs, Within, Ends, EndsIf}
+use Rattle.futures.specs.Runs.{Runs, Within}
 use Rattle.tough_net.specs.declared.error.TransportError.{TransportError}
 use Rattle.tough_net.specs.declared.error.TransportErrorKind.{TransportErrorKind}
 use Rattle.tough_net.specs.declared.error.TransportErrorKind.TheVariants.{FileNotFound, Other}
@@ -36,18 +36,9 @@ abbrev pub IsFetchFault : List ℕ → TransportError → Type 0
 IsFetchFault url e = IsMemory e
     ⊎ ((error : HttpError) × (error_kind e ≡ kind_of_http error) × (error_url e ≡ url) × (error_cause e ≡ Some (Http error)))
 
--- each error is such a fault, and nothing comes after one
-abbrev pub StopsAtFault : List ℕ → Runs Item
-StopsAtFault url [] last = IfSome last (λ x. IfErr x (IsFetchFault url))
-StopsAtFault url (Ok _ ∷ xs) last = StopsAtFault url xs last
-StopsAtFault url (Err e ∷ xs) last = IsFetchFault url e × Ends xs last
-
-abbrev pub is_ended : {P N A C B : Type 0} → State P N A C B → Bool
-is_ended (Pausing _) = false
-is_ended (Connecting _) = false
-is_ended (Asking _) = false
-is_ended (Reading _) = false
-is_ended Ended = true
+-- each error is such a fault
+abbrev pub FaultsAre : List ℕ → Runs Item
+FaultsAre url xs last = All (λ x. IfErr x (IsFetchFault url)) xs × IfSome last (λ x. IfErr x (IsFetchFault url))
 
 module _ {Q : Type 0} (bodies : Q → ℕ → Runs Item) where
   -- each body is a beginning of the resource, from the byte that was asked for
@@ -58,20 +49,21 @@ module _ {Q : Type 0} (bodies : Q → ℕ → Runs Item) where
   abbrev pub Continues : Q → ℕ → Runs Item
   Continues q received xs last = (resource : List ℕ) → IsHonest q resource → IsBeginning (all_bytes xs last) (drop received resource)
 
-  -- the same, up to a fault
+  -- the same, with faults of this URL
   abbrev pub Fetches : Q → List ℕ → ℕ → Runs Item
-  Fetches q url received xs last = Continues q received xs last × StopsAtFault url xs last
+  Fetches q url received xs last = Continues q received xs last × FaultsAre url xs last
 
-  module _ {P N A C B : Type 0} (can_pause : P → Type 0) (can_connect : N → Type 0) (can_run : C → Type 0) (can_ask : A → Type 0) (gives : A → Option (Response B) → Type 0) (can_read : B → Type 0) (yields : B → Runs Item) where
+  module _ {B : Type 0} (can_read : B → Type 0) (yields : B → Runs Item) where
     -- a body may be read, and goes on from this byte if the answer is what was asked for
     abbrev pub IsReadable : Q → ℕ → Response B → Type 0
     IsReadable q received r = can_read r.body × (class_of r.status received ≡ Body → Within (bodies q received) (yields r.body))
 
+  module _ {P N A C B : Type 0} (can_pause : P → Type 0) (can_connect : N → Type 0) (can_run : C → Type 0) (can_ask : A → Type 0) (gives : A → Option (Response B) → Type 0) (can_read : B → Type 0) (yields : B → Runs Item) where
     -- what is under way may be polled, and is for this byte
     abbrev pub StandsWell : Q → ℕ → State P N A C B → Type 0
     StandsWell q received (Pausing p) = can_pause p
     StandsWell q received (Connecting n) = can_connect n
     StandsWell q received (Asking e) = IfSome e.conn can_run × can_ask e.body
-        × ((o : Option (Response B)) → gives e.body o → IfSome o (IsReadable q received))
+        × ((o : Option (Response B)) → gives e.body o → IfSome o (IsReadable can_read yields q received))
     StandsWell q received (Reading e) = IfSome e.conn can_run × can_read e.body × Within (Continues q received) (yields e.body)
     StandsWell q received Ended = ⊤

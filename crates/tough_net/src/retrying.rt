@@ -1,9 +1,9 @@
 //! The stream of a resource that is asked for again where a body breaks off.
-ghost use Rattle.std.specs.Prelude.{◌≡◌, [], IfSome, IsErrAnd, true, false, string_bytes};
-ghost use Rattle.futures.specs.Runs.{After, Within, EndsIf};
+ghost use Rattle.std.specs.Prelude.{◌≡◌, [], IfSome, string_bytes};
+ghost use Rattle.futures.specs.Runs.{After, Within};
 ghost use Rattle.futures.specs.Task.{IsArmed, Keeps};
 ghost use Rattle.futures.specs.Poll.{OnPending, IfReady};
-ghost use Rattle.tough_net.specs.Resource.{Fetches, IsFetchFault, StandsWell, IsReadable, is_ended, kind_of_http};
+ghost use Rattle.tough_net.specs.Resource.{Fetches, IsFetchFault, StandsWell, IsReadable, kind_of_http};
 ghost use Rattle.tough_net.specs.Retries.{started, turn};
 
 use crate::{
@@ -46,7 +46,6 @@ impl<Q: Requests> Retrying<Q> {
         ensures stands { IfSome result (λ m. StandsWell Q.bodies Q.Pause.can_poll Q.Connect.can_poll Q.Conn.can_poll Q.Answer.can_poll Q.Answer.gives Q.Body.can_poll Q.Body.yields m.requests m.core.progress.received m.state) }
         ensures parts { IfSome result (λ m. (m.requests ≡ requests) × (m.url ≡ url)) }
         ensures fresh { IfSome result (λ m. (m.core.settings ≡ settings) × (m.core.progress ≡ started settings)) }
-        ensures goes { IfSome result (λ m. is_ended m.state ≡ false) }
     {
         let core = RetryCore::new(settings);
         let pause = requests.pause(core.pause())?;
@@ -78,25 +77,189 @@ impl<Q: Requests> Retrying<Q> {
     ) -> Poll<Option<Result<Bytes, TransportError>>>
         ensures same { (self.new.requests ≡ self.old.requests) × (self.new.core ≡ self.old.core) × (self.new.url ≡ self.old.url) }
         ensures stands { StandsWell Q.bodies Q.Pause.can_poll Q.Connect.can_poll Q.Conn.can_poll Q.Answer.can_poll Q.Answer.gives Q.Body.can_poll Q.Body.yields self.new.requests self.new.core.progress.received self.new.state }
-        ensures goes { OnPending result (is_ended self.new.state ≡ false) }
-        ensures ends { IfReady result (λ o. is_ended self.new.state ≡ true) }
-        ensures value { IfReady result (λ o. IfSome o (λ x. IsErrAnd x (IsFetchFault (string_bytes self.old.url)))) }
+        ensures goes { OnPending result (Within (Fetches Q.bodies self.old.requests (string_bytes self.old.url) self.old.core.progress.received)
+            (Fetches Q.bodies self.new.requests (string_bytes self.new.url) self.new.core.progress.received)) }
+        ensures value { IfReady result (Fetches Q.bodies self.old.requests (string_bytes self.old.url) self.old.core.progress.received []) }
+        ensures rest { IfReady result (λ o. IfSome o (λ x. After (Fetches Q.bodies self.old.requests (string_bytes self.old.url) self.old.core.progress.received) x
+            (Fetches Q.bodies self.new.requests (string_bytes self.new.url) self.new.core.progress.received))) }
         ensures armed { OnPending result (IsArmed cx.new) }
         ensures kept { Keeps cx.old cx.new }
     {
-        let last = match action {
+        match action {
             RetryAction::Request => match self.requests.pause(self.core.pause()) {
                 Some(pause) => {
                     self.state = State::Pausing(pause);
-                    return cx.yield_now();
+                    cx.yield_now()
                 }
-                None => Some(Err(AllocError.into())),
+                None => self.fail(AllocError.into()),
             },
-            RetryAction::Read | RetryAction::Finish => None,
-            RetryAction::Fail(error) => Some(Err(self.fault(error))),
-        };
+            RetryAction::Read | RetryAction::Finish => {
+                self.state = State::Ended;
+                Poll::Ready(None)
+            }
+            RetryAction::Fail(error) => {
+                let error = self.fault(error);
+                self.fail(error)
+            }
+        }
+    }
+
+    // Ends with an error.
+    fn fail(&mut self, error: TransportError) -> Poll<Option<Result<Bytes, TransportError>>>
+        requires { IsFetchFault (string_bytes self.old.url) error }
+        ensures same { self.new ≡ record self.old { state = State.Ended } }
+        ensures ready { result ≡ Poll.Ready (Some (Err error)) }
+    {
         self.state = State::Ended;
-        Poll::Ready(last)
+        Poll::Ready(Some(Err(error)))
+    }
+
+    // What a failed try leads to.
+    fn retry(&mut self, cx: &mut Context<'_>) -> Poll<Option<Result<Bytes, TransportError>>>
+        ensures same { (self.new.requests ≡ self.old.requests) × (self.new.url ≡ self.old.url) }
+        ensures received { self.new.core.progress.received ≡ self.old.core.progress.received }
+        ensures stands { StandsWell Q.bodies Q.Pause.can_poll Q.Connect.can_poll Q.Conn.can_poll Q.Answer.can_poll Q.Answer.gives Q.Body.can_poll Q.Body.yields self.new.requests self.new.core.progress.received self.new.state }
+        ensures goes { OnPending result (Within (Fetches Q.bodies self.old.requests (string_bytes self.old.url) self.old.core.progress.received)
+            (Fetches Q.bodies self.new.requests (string_bytes self.new.url) self.new.core.progress.received)) }
+        ensures value { IfReady result (Fetches Q.bodies self.old.requests (string_bytes self.old.url) self.old.core.progress.received []) }
+        ensures rest { IfReady result (λ o. IfSome o (λ x. After (Fetches Q.bodies self.old.requests (string_bytes self.old.url) self.old.core.progress.received) x
+            (Fetches Q.bodies self.new.requests (string_bytes self.new.url) self.new.core.progress.received))) }
+        ensures armed { OnPending result (IsArmed cx.new) }
+        ensures kept { Keeps cx.old cx.new }
+    {
+        let action = self.core.next(RetryEvent::Fault);
+        self.act(action, cx)
+    }
+
+    // Connects, once a pause is over.
+    fn connect(&mut self, cx: &mut Context<'_>) -> Poll<Option<Result<Bytes, TransportError>>>
+        ensures same { (self.new.requests ≡ self.old.requests) × (self.new.url ≡ self.old.url) }
+        ensures received { self.new.core.progress.received ≡ self.old.core.progress.received }
+        ensures stands { StandsWell Q.bodies Q.Pause.can_poll Q.Connect.can_poll Q.Conn.can_poll Q.Answer.can_poll Q.Answer.gives Q.Body.can_poll Q.Body.yields self.new.requests self.new.core.progress.received self.new.state }
+        ensures goes { OnPending result (Within (Fetches Q.bodies self.old.requests (string_bytes self.old.url) self.old.core.progress.received)
+            (Fetches Q.bodies self.new.requests (string_bytes self.new.url) self.new.core.progress.received)) }
+        ensures value { IfReady result (Fetches Q.bodies self.old.requests (string_bytes self.old.url) self.old.core.progress.received []) }
+        ensures rest { IfReady result (λ o. IfSome o (λ x. After (Fetches Q.bodies self.old.requests (string_bytes self.old.url) self.old.core.progress.received) x
+            (Fetches Q.bodies self.new.requests (string_bytes self.new.url) self.new.core.progress.received))) }
+        ensures armed { OnPending result (IsArmed cx.new) }
+        ensures kept { Keeps cx.old cx.new }
+    {
+        match self.requests.connect() {
+            Some(connect) => {
+                self.state = State::Connecting(connect);
+                cx.yield_now()
+            }
+            None => self.retry(cx),
+        }
+    }
+
+    // Asks for the bytes that are missing.
+    fn send(
+        &mut self,
+        socket: Q::Socket,
+        cx: &mut Context<'_>,
+    ) -> Poll<Option<Result<Bytes, TransportError>>>
+        ensures same { (self.new.requests ≡ self.old.requests) × (self.new.url ≡ self.old.url) }
+        ensures received { self.new.core.progress.received ≡ self.old.core.progress.received }
+        ensures stands { StandsWell Q.bodies Q.Pause.can_poll Q.Connect.can_poll Q.Conn.can_poll Q.Answer.can_poll Q.Answer.gives Q.Body.can_poll Q.Body.yields self.new.requests self.new.core.progress.received self.new.state }
+        ensures goes { OnPending result (Within (Fetches Q.bodies self.old.requests (string_bytes self.old.url) self.old.core.progress.received)
+            (Fetches Q.bodies self.new.requests (string_bytes self.new.url) self.new.core.progress.received)) }
+        ensures value { IfReady result (Fetches Q.bodies self.old.requests (string_bytes self.old.url) self.old.core.progress.received []) }
+        ensures rest { IfReady result (λ o. IfSome o (λ x. After (Fetches Q.bodies self.old.requests (string_bytes self.old.url) self.old.core.progress.received) x
+            (Fetches Q.bodies self.new.requests (string_bytes self.new.url) self.new.core.progress.received))) }
+        ensures armed { OnPending result (IsArmed cx.new) }
+        ensures kept { Keeps cx.old cx.new }
+    {
+        match self.requests.send(socket, self.core.received()) {
+            Some((body, conn)) => {
+                let conn = Some(conn);
+                self.state = State::Asking(Exchange { conn, body });
+                cx.yield_now()
+            }
+            None => self.retry(cx),
+        }
+    }
+
+    // Takes an answer, with its connection.
+    fn answer(
+        &mut self,
+        response: Response<Q::Body>,
+        conn: Option<Q::Conn>,
+        cx: &mut Context<'_>,
+    ) -> Poll<Option<Result<Bytes, TransportError>>>
+        requires conn { IfSome conn Q.Conn.can_poll }
+        requires body { IsReadable Q.bodies Q.Body.can_poll Q.Body.yields self.old.requests self.old.core.progress.received response }
+        ensures same { (self.new.requests ≡ self.old.requests) × (self.new.url ≡ self.old.url) }
+        ensures received { self.new.core.progress.received ≡ self.old.core.progress.received }
+        ensures stands { StandsWell Q.bodies Q.Pause.can_poll Q.Connect.can_poll Q.Conn.can_poll Q.Answer.can_poll Q.Answer.gives Q.Body.can_poll Q.Body.yields self.new.requests self.new.core.progress.received self.new.state }
+        ensures goes { OnPending result (Within (Fetches Q.bodies self.old.requests (string_bytes self.old.url) self.old.core.progress.received)
+            (Fetches Q.bodies self.new.requests (string_bytes self.new.url) self.new.core.progress.received)) }
+        ensures value { IfReady result (Fetches Q.bodies self.old.requests (string_bytes self.old.url) self.old.core.progress.received []) }
+        ensures rest { IfReady result (λ o. IfSome o (λ x. After (Fetches Q.bodies self.old.requests (string_bytes self.old.url) self.old.core.progress.received) x
+            (Fetches Q.bodies self.new.requests (string_bytes self.new.url) self.new.core.progress.received))) }
+        ensures armed { OnPending result (IsArmed cx.new) }
+        ensures kept { Keeps cx.old cx.new }
+    {
+        let action = self.core.next(RetryEvent::Answer {
+            status: response.status,
+            accepts_ranges: response.accepts_ranges,
+        });
+        if action == RetryAction::Read {
+            let body = response.body;
+            self.state = State::Reading(Exchange { conn, body });
+            cx.yield_now()
+        } else {
+            self.act(action, cx)
+        }
+    }
+}
+
+impl<Q: Requests> Stream for Retrying<Q> {
+    type Item = Result<Bytes, TransportError>;
+
+    ghost can_poll = { λ m. StandsWell Q.bodies Q.Pause.can_poll Q.Connect.can_poll Q.Conn.can_poll Q.Answer.can_poll Q.Answer.gives Q.Body.can_poll Q.Body.yields m.requests m.core.progress.received m.state };
+
+    ghost yields = { λ m. Fetches Q.bodies m.requests (string_bytes m.url) m.core.progress.received };
+
+    fn poll_next(&mut self, cx: &mut Context<'_>) -> Poll<Option<Self::Item>> {
+        match &mut self.state {
+            State::Pausing(pause) => match pause.poll(cx) {
+                Poll::Pending => Poll::Pending,
+                Poll::Ready(()) => self.connect(cx),
+            },
+            State::Connecting(connect) => match connect.poll(cx) {
+                Poll::Pending => Poll::Pending,
+                Poll::Ready(Some(socket)) => self.send(socket, cx),
+                Poll::Ready(None) => self.retry(cx),
+            },
+            State::Asking(exchange) => {
+                exchange.poll_conn(cx);
+                match exchange.body.poll(cx) {
+                    Poll::Pending => Poll::Pending,
+                    Poll::Ready(Some(response)) => {
+                        let conn = exchange.conn.take();
+                        self.answer(response, conn, cx)
+                    }
+                    Poll::Ready(None) => self.retry(cx),
+                }
+            }
+            State::Reading(exchange) => match exchange.poll_next(cx) {
+                Poll::Pending => Poll::Pending,
+                Poll::Ready(Some(Ok(piece))) => {
+                    let len = piece.len() as u64;
+                    match self.core.next(RetryEvent::Piece { len }) {
+                        RetryAction::Read => Poll::Ready(Some(Ok(piece))),
+                        action => self.act(action, cx),
+                    }
+                }
+                Poll::Ready(Some(Err(_))) => self.retry(cx),
+                Poll::Ready(None) => {
+                    self.state = State::Ended;
+                    Poll::Ready(None)
+                }
+            },
+            State::Ended => Poll::Ready(None),
+        }
     }
 }
 
