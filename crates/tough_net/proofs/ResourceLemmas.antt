@@ -6,8 +6,8 @@ use Rattle.std.proofs.lemmas.List.Elements.{All-cons}
 use Rattle.std.proofs.Math.Seq.{drop-append_seam}
 use Rattle.futures.specs.Runs.{Runs, After, Within}
 use Rattle.tough_net.specs.declared.error.TransportError.{TransportError}
-use Rattle.tough_net.specs.Items.{Item, joined}
-use Rattle.tough_net.specs.Resource.{Continues, FaultsAre, Fetches, IsFetchFault, IsHonest, IsBeginning, last_bytes, all_bytes}
+use Rattle.tough_net.specs.Items.{Item, joined, last_bytes, all_bytes}
+use Rattle.tough_net.specs.Resource.{Continues, FaultsAre, Fetches, IsFetchFault, IsHonest, IsBeginning}
 
 -- where p begins what follows byte n, what follows p is what comes n and the length of p later
 drop_past : (n : ℕ) (p later resource : List ℕ) → drop n resource ≡ p ++ later → drop (n + length p) resource ≡ later

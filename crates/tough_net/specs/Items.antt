@@ -1,5 +1,5 @@
 -- The items of a stream of bytes.
-use Rattle.std.specs.Prelude.{ℕ, List, [], ◌∷◌, ◌++◌, Result, Ok, Err}
+use Rattle.std.specs.Prelude.{ℕ, List, [], ◌∷◌, ◌++◌, Option, Some, None, Result, Ok, Err}
 use Rattle.tough_net.specs.declared.error.TransportError.{TransportError}
 
 abbrev pub Item : Type 0
@@ -14,3 +14,11 @@ bytes_of (Err _) = []
 abbrev pub joined : List Item → List ℕ
 joined [] = []
 joined (x ∷ xs) = bytes_of x ++ joined xs
+
+abbrev pub last_bytes : Option Item → List ℕ
+last_bytes None = []
+last_bytes (Some x) = bytes_of x
+
+-- the bytes of these items and of the one more answer
+abbrev pub all_bytes : List Item → Option Item → List ℕ
+all_bytes xs last = joined xs ++ last_bytes last

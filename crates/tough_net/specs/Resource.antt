@@ -12,19 +12,11 @@ use Rattle.tough_net.specs.declared.requests.Response.{Response}
 use Rattle.tough_net.specs.declared.retrying.State.{State}
 use Rattle.tough_net.specs.declared.retrying.State.TheVariants.{Pausing, Connecting, Asking, Reading, Ended}
 use Rattle.tough_net.specs.Errors.{IsMemory, error_kind, error_url, error_cause}
-use Rattle.tough_net.specs.Items.{Item, bytes_of, joined}
+use Rattle.tough_net.specs.Items.{Item, all_bytes}
 use Rattle.tough_net.specs.Retries.{class_of}
 
 abbrev pub IsBeginning : List ℕ → List ℕ → Type 0
 IsBeginning xs ys = (later : List ℕ) × (ys ≡ xs ++ later)
-
-abbrev pub last_bytes : Option Item → List ℕ
-last_bytes None = []
-last_bytes (Some x) = bytes_of x
-
--- the bytes of these items and of the one more answer
-abbrev pub all_bytes : List Item → Option Item → List ℕ
-all_bytes xs last = joined xs ++ last_bytes last
 
 abbrev pub kind_of_http : HttpError → TransportErrorKind
 kind_of_http FetchFileNotFound = FileNotFound

@@ -7,6 +7,7 @@ mod error;
 mod exchange;
 mod filesystem;
 mod into_vec;
+pub mod laws;
 mod max_size;
 mod memory;
 mod requests;
