@@ -1,8 +1,9 @@
 -- How what was checked grows at its front.
-use Rattle.std.specs.Prelude.{◌≡◌, ℕ, List, ◌∷◌, ◌++◌, Option, Some, None}
+use Rattle.std.specs.Prelude.{◌≡◌, ℕ, List, [], ◌∷◌, ◌++◌, Option, Some, None}
 use Rattle.std.proofs.Common.{append_assoc, inl, inr, ap}
 use Rattle.sha2.specs.declared.Sha256.{Sha256}
 use Rattle.sha2.specs.Hashers.{Holds256}
+use Rattle.sha2.specs.Sha256.{sha256}
 use Rattle.futures.specs.Runs.{Runs, After}
 use Rattle.tough_net.specs.Items.{Item, bytes_of, joined}
 use Rattle.tough_net.specs.Checking.{Checks, ChecksOn}
@@ -20,3 +21,9 @@ module _ (url expected : List ℕ) (old new : Runs Item) (x : Item) (after : Aft
       → After (ChecksOn url expected hasher None old) x (ChecksOn url expected next None new)
   ChecksOn-After hasher next fed xs last h =
       λ before holds. Checks-After before xs last (h (before ++ bytes_of x) (fed before holds))
+
+-- what ends without an error has the digest
+pub Checks_ended : (url expected before : List ℕ) (source : Runs Item) (xs : List Item) → Checks url expected before source xs None → sha256 (before ++ joined xs) ≡ expected
+Checks_ended url expected before source xs (inl h) = absurd h
+Checks_ended url expected before source xs (inr (inl h)) = h.2
+Checks_ended url expected before source xs (inr (inr h)) = absurd h.5.1

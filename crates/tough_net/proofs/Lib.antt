@@ -1,5 +1,6 @@
 pub mod CheckLemmas
 pub mod CollectLemmas
+pub mod FileLemmas
 pub mod JoinLemmas
 pub mod LimitLemmas
 pub mod ResourceLemmas
