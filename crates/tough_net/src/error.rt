@@ -179,3 +179,61 @@ impl TransportError {
         self.cause.as_ref()
     }
 }
+
+impl Display for TransportErrorKind {
+    fn fmt<W: fmt::Write>(&self, f: &mut Formatter<W>) -> fmt::Result {
+        f.write_str(match self {
+            TransportErrorKind::UnsupportedUrlScheme => "unsupported URL scheme",
+            TransportErrorKind::FileNotFound => "file not found",
+            TransportErrorKind::Other => "other",
+            TransportErrorKind::Memory => "out of memory",
+        })
+    }
+}
+
+impl Display for HttpError {
+    fn fmt<W: fmt::Write>(&self, f: &mut Formatter<W>) -> fmt::Result {
+        match self {
+            HttpError::FetchFileNotFound => f.write_str("File not found"),
+            HttpError::FetchFatal => f.write_str("A non-retryable error occurred"),
+            HttpError::FetchNoMoreRetries { tries } => {
+                write!(f, "Fetch failed after {tries} retries")
+            }
+        }
+    }
+}
+
+impl Display for Cause {
+    fn fmt<W: fmt::Write>(&self, f: &mut Formatter<W>) -> fmt::Result {
+        match self {
+            Cause::MaxSizeExceeded {
+                max_size,
+                specifier,
+            } => write!(
+                f,
+                "Maximum size {max_size} (specified by {specifier}) exceeded"
+            ),
+            Cause::HashMismatch {
+                context,
+                calculated,
+                expected,
+            } => write!(
+                f,
+                "Hash mismatch for {context}: calculated {calculated}, expected {expected}"
+            ),
+            Cause::Http(error) => write!(f, "{error}"),
+            Cause::Text(text) => f.write_str(text.as_str()),
+        }
+    }
+}
+
+impl Display for TransportError {
+    fn fmt<W: fmt::Write>(&self, f: &mut Formatter<W>) -> fmt::Result {
+        let (kind, url) = (self.kind, self.url());
+        write!(f, "Transport '{kind}' error fetching '{url}'")?;
+        match &self.cause {
+            Some(cause) => write!(f, ": {cause}"),
+            None => Ok(()),
+        }
+    }
+}

@@ -288,6 +288,10 @@ fn tells_its_cause(rt: HostRuntime) -> Result<(), Fail> {
     assert_eq!(rt; error.kind(), kind);
     assert_eq!(rt; error.url(), "http://h/a");
     assert_eq!(rt; cause_name(&error), "http");
+    assert_eq!(rt;
+        format!(in alloc; "{error}")?.as_str(),
+        "Transport 'file not found' error fetching 'http://h/a': File not found"
+    );
     let memory = TransportError::from(AllocError);
     assert_eq!(rt; memory.kind(), TransportErrorKind::Memory);
     assert_eq!(rt; memory.url(), "");
