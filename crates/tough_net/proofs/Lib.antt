@@ -1,0 +1,7 @@
+pub mod CheckLemmas
+pub mod CollectLemmas
+pub mod FileLemmas
+pub mod JoinLemmas
+pub mod LimitLemmas
+pub mod ResourceLemmas
+pub mod TurnLemmas

@@ -1,0 +1,32 @@
+//! What the streams promise as a whole.
+ghost use Rattle.std.specs.Prelude.{◌≡◌, ◌≤◌, ◌<◌, ◌+◌, ◌-◌, ◌^◌, List, ℕ, [], Some, None, Ok, length};
+ghost use Rattle.sha2.specs.Sha256.{sha256};
+ghost use Rattle.tough_net.specs.Checking.{Checked, checked, expected_of, failure_of, HasTaken};
+ghost use Rattle.tough_net.specs.Collecting.{Bounds, Collects, Fits};
+ghost use Rattle.tough_net.specs.MemoryFiles.{CutsFile};
+ghost use Rattle.tough_net.specs.Items.{all_bytes, joined};
+ghost use Rattle.tough_net.specs.Limiting.{Limits, limit_of, limited};
+
+use crate::{DigestCheck, MaxSize, TransportError};
+use bytes::Bytes;
+use futures::Stream;
+
+/// A limit below the greatest `u64` is never passed by what is handed on, also after an error.
+pub fn never_over_limit<S: Stream<Item = Result<Bytes, TransportError>>>(stream: &MaxSize<S>)
+    ensures { (limit_of stream.now).max < 2 ^ 64 - 1 → (limit_of stream.now).size ≤ (limit_of stream.now).max → (xs : _) (last : _)
+        → Limits (limit_of stream.now) (S.yields (limited stream.now)) xs last
+        → (limit_of stream.now).size + length (all_bytes xs last) ≤ (limit_of stream.now).max }
+{}
+
+/// What ends without an error has the digest.
+pub fn ended_has_digest<S: Stream<Item = Result<Bytes, TransportError>>>(stream: &DigestCheck<S>)
+    ensures { HasTaken stream.now [] → failure_of stream.now ≡ None → (xs : _)
+        → Checked stream.now (S.yields (checked stream.now)) xs None
+        → sha256 (joined xs) ≡ expected_of stream.now }
+{}
+
+/// What is collected of a file in memory is the file, and fits.
+pub fn collected_is_file()
+    ensures { (bounds : Bounds) (bytes : List ℕ) (v : _) → Collects bounds (CutsFile (Some bytes)) [] (Ok v)
+        → (v.items ≡ bytes) × Fits bounds bytes }
+{}

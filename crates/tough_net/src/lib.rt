@@ -1,0 +1,33 @@
+//! Where bytes come from: transports, and streams that bound and check what they carry.
+#![tactic(auto)]
+
+mod collect;
+mod digest_check;
+mod error;
+mod exchange;
+mod filesystem;
+mod into_vec;
+pub mod laws;
+mod max_size;
+mod memory;
+mod requests;
+mod retry_core;
+mod retry_events;
+mod retrying;
+#[cfg(test)]
+mod tests;
+mod transport;
+
+pub use collect::{Collect, fetch_whole};
+pub use digest_check::DigestCheck;
+pub use error::{Cause, HttpError, TransportError, TransportErrorKind};
+pub use exchange::Exchange;
+pub use filesystem::{FileStream, FilesystemTransport};
+pub use into_vec::{IntoVec, IntoVecFuture};
+pub use max_size::MaxSize;
+pub use memory::{MemoryStream, MemoryTransport};
+pub use requests::{Requests, Response};
+pub use retry_core::RetryCore;
+pub use retry_events::{AnswerClass, RetryAction, RetryEvent, RetrySettings};
+pub use retrying::{Retrying, State};
+pub use transport::{Transport, TransportStream, fetch_max_size, fetch_sha256};

@@ -1,0 +1,273 @@
+//! The stream of a resource that is asked for again where a body breaks off.
+ghost use Rattle.std.specs.Prelude.{◌≡◌, [], IfSome, string_bytes};
+ghost use Rattle.futures.specs.Runs.{After, Within};
+ghost use Rattle.futures.specs.Task.{IsArmed, Keeps};
+ghost use Rattle.futures.specs.Poll.{OnPending, IfReady};
+ghost use Rattle.tough_net.specs.Resource.{Fetches, IsFetchFault, StandsWell, IsReadable, kind_of_http};
+ghost use Rattle.tough_net.specs.Retries.{started, turn};
+
+use crate::{
+    Cause, Exchange, HttpError, Requests, Response, RetryAction, RetryCore, RetryEvent,
+    RetrySettings, TransportError, TransportErrorKind,
+};
+use bytes::Bytes;
+use futures::task::{Context, Poll};
+use futures::{Future, Stream};
+use std::alloc::{AllocError, Global};
+
+/// What is under way.
+#[derive(Drop)]
+pub enum State<P, N, A, C, B> {
+    Pausing(P),
+    Connecting(N),
+    Asking(Exchange<C, A>),
+    Reading(Exchange<C, B>),
+    Ended,
+}
+
+/// Yields a beginning of the resource, by as many requests as a `RetryCore` allows. It ends after an error.
+#[derive(Drop)]
+pub struct Retrying<Q: Requests> {
+    pub alloc: Global,
+    pub requests: Q,
+    pub url: String,
+    pub core: RetryCore,
+    pub state: State<Q::Pause, Q::Connect, Q::Answer, Q::Conn, Q::Body>,
+}
+
+impl<Q: Requests> Retrying<Q> {
+    /// The resource at the URL of this text. `None` where a pause can't be made.
+    pub fn new(
+        alloc: Global,
+        requests: Q,
+        url: String,
+        settings: RetrySettings,
+    ) -> Option<Retrying<Q>>
+        ensures stands { IfSome result (λ m. StandsWell Q.bodies Q.Pause.can_poll Q.Connect.can_poll Q.Conn.can_poll Q.Answer.can_poll Q.Answer.gives Q.Body.can_poll Q.Body.yields m.requests m.core.progress.received m.state) }
+        ensures parts { IfSome result (λ m. (m.requests ≡ requests) × (m.url ≡ url)) }
+        ensures fresh { IfSome result (λ m. (m.core.settings ≡ settings) × (m.core.progress ≡ started settings)) }
+    {
+        let core = RetryCore::new(settings);
+        let pause = requests.pause(core.pause())?;
+        Some(Retrying {
+            alloc,
+            requests,
+            url,
+            core,
+            state: State::Pausing(pause),
+        })
+    }
+
+    fn fault(&self, error: HttpError) -> TransportError
+        ensures { IsFetchFault (string_bytes self.now.url) result }
+    {
+        let kind = http_kind(error);
+        let cause = Cause::Http(error);
+        match TransportError::new_with_cause(self.alloc, kind, self.url.as_str(), cause) {
+            Ok(e) => e,
+            Err(e) => e.into(),
+        }
+    }
+
+    // Pauses before one more request, or ends.
+    fn act(
+        &mut self,
+        action: RetryAction,
+        cx: &mut Context<'_>,
+    ) -> Poll<Option<Result<Bytes, TransportError>>>
+        ensures same { (self.new.requests ≡ self.old.requests) × (self.new.core ≡ self.old.core) × (self.new.url ≡ self.old.url) }
+        ensures stands { StandsWell Q.bodies Q.Pause.can_poll Q.Connect.can_poll Q.Conn.can_poll Q.Answer.can_poll Q.Answer.gives Q.Body.can_poll Q.Body.yields self.new.requests self.new.core.progress.received self.new.state }
+        ensures goes { OnPending result (Within (Fetches Q.bodies self.old.requests (string_bytes self.old.url) self.old.core.progress.received)
+            (Fetches Q.bodies self.new.requests (string_bytes self.new.url) self.new.core.progress.received)) }
+        ensures value { IfReady result (Fetches Q.bodies self.old.requests (string_bytes self.old.url) self.old.core.progress.received []) }
+        ensures rest { IfReady result (λ o. IfSome o (λ x. After (Fetches Q.bodies self.old.requests (string_bytes self.old.url) self.old.core.progress.received) x
+            (Fetches Q.bodies self.new.requests (string_bytes self.new.url) self.new.core.progress.received))) }
+        ensures armed { OnPending result (IsArmed cx.new) }
+        ensures kept { Keeps cx.old cx.new }
+    {
+        match action {
+            RetryAction::Request => match self.requests.pause(self.core.pause()) {
+                Some(pause) => {
+                    self.state = State::Pausing(pause);
+                    cx.yield_now()
+                }
+                None => self.fail(AllocError.into()),
+            },
+            RetryAction::Read | RetryAction::Finish => {
+                self.state = State::Ended;
+                Poll::Ready(None)
+            }
+            RetryAction::Fail(error) => {
+                let error = self.fault(error);
+                self.fail(error)
+            }
+        }
+    }
+
+    // Ends with an error.
+    fn fail(&mut self, error: TransportError) -> Poll<Option<Result<Bytes, TransportError>>>
+        requires { IsFetchFault (string_bytes self.old.url) error }
+        ensures same { self.new ≡ record self.old { state = State.Ended } }
+        ensures ready { result ≡ Poll.Ready (Some (Err error)) }
+    {
+        self.state = State::Ended;
+        Poll::Ready(Some(Err(error)))
+    }
+
+    // What a failed try leads to.
+    fn retry(&mut self, cx: &mut Context<'_>) -> Poll<Option<Result<Bytes, TransportError>>>
+        ensures same { (self.new.requests ≡ self.old.requests) × (self.new.url ≡ self.old.url) }
+        ensures received { self.new.core.progress.received ≡ self.old.core.progress.received }
+        ensures stands { StandsWell Q.bodies Q.Pause.can_poll Q.Connect.can_poll Q.Conn.can_poll Q.Answer.can_poll Q.Answer.gives Q.Body.can_poll Q.Body.yields self.new.requests self.new.core.progress.received self.new.state }
+        ensures goes { OnPending result (Within (Fetches Q.bodies self.old.requests (string_bytes self.old.url) self.old.core.progress.received)
+            (Fetches Q.bodies self.new.requests (string_bytes self.new.url) self.new.core.progress.received)) }
+        ensures value { IfReady result (Fetches Q.bodies self.old.requests (string_bytes self.old.url) self.old.core.progress.received []) }
+        ensures rest { IfReady result (λ o. IfSome o (λ x. After (Fetches Q.bodies self.old.requests (string_bytes self.old.url) self.old.core.progress.received) x
+            (Fetches Q.bodies self.new.requests (string_bytes self.new.url) self.new.core.progress.received))) }
+        ensures armed { OnPending result (IsArmed cx.new) }
+        ensures kept { Keeps cx.old cx.new }
+    {
+        let action = self.core.next(RetryEvent::Fault);
+        self.act(action, cx)
+    }
+
+    // Connects, once a pause is over.
+    fn connect(&mut self, cx: &mut Context<'_>) -> Poll<Option<Result<Bytes, TransportError>>>
+        ensures same { (self.new.requests ≡ self.old.requests) × (self.new.url ≡ self.old.url) }
+        ensures received { self.new.core.progress.received ≡ self.old.core.progress.received }
+        ensures stands { StandsWell Q.bodies Q.Pause.can_poll Q.Connect.can_poll Q.Conn.can_poll Q.Answer.can_poll Q.Answer.gives Q.Body.can_poll Q.Body.yields self.new.requests self.new.core.progress.received self.new.state }
+        ensures goes { OnPending result (Within (Fetches Q.bodies self.old.requests (string_bytes self.old.url) self.old.core.progress.received)
+            (Fetches Q.bodies self.new.requests (string_bytes self.new.url) self.new.core.progress.received)) }
+        ensures value { IfReady result (Fetches Q.bodies self.old.requests (string_bytes self.old.url) self.old.core.progress.received []) }
+        ensures rest { IfReady result (λ o. IfSome o (λ x. After (Fetches Q.bodies self.old.requests (string_bytes self.old.url) self.old.core.progress.received) x
+            (Fetches Q.bodies self.new.requests (string_bytes self.new.url) self.new.core.progress.received))) }
+        ensures armed { OnPending result (IsArmed cx.new) }
+        ensures kept { Keeps cx.old cx.new }
+    {
+        match self.requests.connect() {
+            Some(connect) => {
+                self.state = State::Connecting(connect);
+                cx.yield_now()
+            }
+            None => self.retry(cx),
+        }
+    }
+
+    // Asks for the bytes that are missing.
+    fn send(
+        &mut self,
+        socket: Q::Socket,
+        cx: &mut Context<'_>,
+    ) -> Poll<Option<Result<Bytes, TransportError>>>
+        ensures same { (self.new.requests ≡ self.old.requests) × (self.new.url ≡ self.old.url) }
+        ensures received { self.new.core.progress.received ≡ self.old.core.progress.received }
+        ensures stands { StandsWell Q.bodies Q.Pause.can_poll Q.Connect.can_poll Q.Conn.can_poll Q.Answer.can_poll Q.Answer.gives Q.Body.can_poll Q.Body.yields self.new.requests self.new.core.progress.received self.new.state }
+        ensures goes { OnPending result (Within (Fetches Q.bodies self.old.requests (string_bytes self.old.url) self.old.core.progress.received)
+            (Fetches Q.bodies self.new.requests (string_bytes self.new.url) self.new.core.progress.received)) }
+        ensures value { IfReady result (Fetches Q.bodies self.old.requests (string_bytes self.old.url) self.old.core.progress.received []) }
+        ensures rest { IfReady result (λ o. IfSome o (λ x. After (Fetches Q.bodies self.old.requests (string_bytes self.old.url) self.old.core.progress.received) x
+            (Fetches Q.bodies self.new.requests (string_bytes self.new.url) self.new.core.progress.received))) }
+        ensures armed { OnPending result (IsArmed cx.new) }
+        ensures kept { Keeps cx.old cx.new }
+    {
+        match self.requests.send(socket, self.core.received()) {
+            Some((body, conn)) => {
+                let conn = Some(conn);
+                self.state = State::Asking(Exchange { conn, body });
+                cx.yield_now()
+            }
+            None => self.retry(cx),
+        }
+    }
+
+    // Takes an answer, with its connection.
+    fn answer(
+        &mut self,
+        response: Response<Q::Body>,
+        conn: Option<Q::Conn>,
+        cx: &mut Context<'_>,
+    ) -> Poll<Option<Result<Bytes, TransportError>>>
+        requires conn { IfSome conn Q.Conn.can_poll }
+        requires body { IsReadable Q.bodies Q.Body.can_poll Q.Body.yields self.old.requests self.old.core.progress.received response }
+        ensures same { (self.new.requests ≡ self.old.requests) × (self.new.url ≡ self.old.url) }
+        ensures received { self.new.core.progress.received ≡ self.old.core.progress.received }
+        ensures stands { StandsWell Q.bodies Q.Pause.can_poll Q.Connect.can_poll Q.Conn.can_poll Q.Answer.can_poll Q.Answer.gives Q.Body.can_poll Q.Body.yields self.new.requests self.new.core.progress.received self.new.state }
+        ensures goes { OnPending result (Within (Fetches Q.bodies self.old.requests (string_bytes self.old.url) self.old.core.progress.received)
+            (Fetches Q.bodies self.new.requests (string_bytes self.new.url) self.new.core.progress.received)) }
+        ensures value { IfReady result (Fetches Q.bodies self.old.requests (string_bytes self.old.url) self.old.core.progress.received []) }
+        ensures rest { IfReady result (λ o. IfSome o (λ x. After (Fetches Q.bodies self.old.requests (string_bytes self.old.url) self.old.core.progress.received) x
+            (Fetches Q.bodies self.new.requests (string_bytes self.new.url) self.new.core.progress.received))) }
+        ensures armed { OnPending result (IsArmed cx.new) }
+        ensures kept { Keeps cx.old cx.new }
+    {
+        let action = self.core.next(RetryEvent::Answer {
+            status: response.status,
+            accepts_ranges: response.accepts_ranges,
+        });
+        if action == RetryAction::Read {
+            let body = response.body;
+            self.state = State::Reading(Exchange { conn, body });
+            cx.yield_now()
+        } else {
+            self.act(action, cx)
+        }
+    }
+}
+
+impl<Q: Requests> Stream for Retrying<Q> {
+    type Item = Result<Bytes, TransportError>;
+
+    ghost can_poll = { λ m. StandsWell Q.bodies Q.Pause.can_poll Q.Connect.can_poll Q.Conn.can_poll Q.Answer.can_poll Q.Answer.gives Q.Body.can_poll Q.Body.yields m.requests m.core.progress.received m.state };
+
+    ghost yields = { λ m. Fetches Q.bodies m.requests (string_bytes m.url) m.core.progress.received };
+
+    fn poll_next(&mut self, cx: &mut Context<'_>) -> Poll<Option<Self::Item>> {
+        match &mut self.state {
+            State::Pausing(pause) => match pause.poll(cx) {
+                Poll::Pending => Poll::Pending,
+                Poll::Ready(()) => self.connect(cx),
+            },
+            State::Connecting(connect) => match connect.poll(cx) {
+                Poll::Pending => Poll::Pending,
+                Poll::Ready(Some(socket)) => self.send(socket, cx),
+                Poll::Ready(None) => self.retry(cx),
+            },
+            State::Asking(exchange) => {
+                exchange.poll_conn(cx);
+                match exchange.body.poll(cx) {
+                    Poll::Pending => Poll::Pending,
+                    Poll::Ready(Some(response)) => {
+                        let conn = exchange.conn.take();
+                        self.answer(response, conn, cx)
+                    }
+                    Poll::Ready(None) => self.retry(cx),
+                }
+            }
+            State::Reading(exchange) => match exchange.poll_next(cx) {
+                Poll::Pending => Poll::Pending,
+                Poll::Ready(Some(Ok(piece))) => {
+                    let len = piece.len() as u64;
+                    match self.core.next(RetryEvent::Piece { len }) {
+                        RetryAction::Read => Poll::Ready(Some(Ok(piece))),
+                        action => self.act(action, cx),
+                    }
+                }
+                Poll::Ready(Some(Err(_))) => self.retry(cx),
+                Poll::Ready(None) => {
+                    self.state = State::Ended;
+                    Poll::Ready(None)
+                }
+            },
+            State::Ended => Poll::Ready(None),
+        }
+    }
+}
+
+fn http_kind(error: HttpError) -> TransportErrorKind
+    ensures { result ≡ kind_of_http error }
+{
+    match error {
+        HttpError::FetchFileNotFound => TransportErrorKind::FileNotFound,
+        HttpError::FetchFatal | HttpError::FetchNoMoreRetries { .. } => TransportErrorKind::Other,
+    }
+}
