@@ -1,10 +1,12 @@
 -- What is written for a signed document is read as it.
-use Rattle.std.proofs.Common.{◌≡◌, List, codes, Some, refl}
+use Rattle.std.proofs.Common.{◌≡◌, List, codes, Option, Some, None, inl, inr, refl}
 use Rattle.serde_json.specs.Data.{Data, array, object, no_members}
 use Rattle.tough_json.specs.Reading.{◌>>=◌, hexadecimal, listing}
 use Rattle.tough_json.specs.Writing.{with, hexadecimal_json, all_json}
 use Rattle.tough_json.proofs.WriteLemmas.{bind_ok, some-inj, required-with, hexadecimal-back, all-back}
-use Rattle.tough_schema.specs.Signature.{SignatureDoc, signature_at, signature_json, signed_parts, signed_parts_json}
+use Rattle.tough_schema.specs.Signature.{SignatureDoc, signature_at, signature_json, signed_parts, signed_parts_json, signed_at, signed_doc}
+use Rattle.tough_schema.specs.declared.signed.Signed.{Signed}
+use Rattle.tough_schema.specs.Document.{IsSigned, IsNotSigned}
 
 pub signature-back : (s : SignatureDoc) (d : Data) → signature_json s ≡ Some d → signature_at d ≡ Some s
 unfolding signature_json signature_at
@@ -30,3 +32,12 @@ signed-back role ss d w =
       required-with (codes "signed") Some role b.0 c.0 role c.1 refl,
       required-with (codes "signatures") (listing signature_at) (array a.0) no_members b.0 ss b.1 (all-back signature_at signature_json ss a.0 signature-back a.1),
     ) refl
+
+-- ---- a signed document as an equation on its plain form
+
+pub signed-read : {T A : Type 0} (f : Data → Option A) (doc : T → A) (d : Data) (s : Signed T) → IsSigned (λ e x. f e ≡ Some (doc x)) d s → signed_at f d ≡ Some (signed_doc doc s)
+signed-read f doc d s h = rw (h.found, h.read) refl
+
+pub signed-refused : {A : Type 0} (f : Data → Option A) (d : Data) → IsNotSigned (λ e. f e ≡ None) d → signed_at f d ≡ None
+signed-refused f d (inl none) = rw none refl
+signed-refused f d (inr (role, ss, found, none)) = rw (found, none) refl

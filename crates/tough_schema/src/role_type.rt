@@ -8,6 +8,7 @@ ghost use Rattle.tough_schema.specs.Roles.{rank, role_name, role_type, role_cmp}
 
 use std::alloc::Global;
 use std::cmp::Ordering;
+use std::fmt;
 use tough_json::error::{ReadError, shape};
 
 /// The roles that a root lists (TUF specification 1.0, section 2.1), in their order.
@@ -74,6 +75,12 @@ impl RoleType {
             Some(role) => Ok(role),
             None => Err(shape(alloc, name)),
         }
+    }
+}
+
+impl fmt::Display for RoleType {
+    fn fmt<W: fmt::Write>(&self, f: &mut fmt::Formatter<W>) -> fmt::Result {
+        f.write_str(self.name())
     }
 }
 

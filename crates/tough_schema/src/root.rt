@@ -1,5 +1,6 @@
 ghost use Rattle.std.specs.Prelude.{◌≡◌, Some, None};
 ghost use Rattle.std.proofs.Common.{rules};
+ghost use Rattle.tough_json.specs.Results.{ReadsBytes};
 ghost use Rattle.tough_schema.specs.Root.{root_doc, root_at, root_json, keys_doc, AreOwn};
 ghost use Rattle.tough_schema.specs.declared.role_type.RoleType.TheVariants as types;
 
@@ -13,6 +14,7 @@ use std::collections::BTreeMap;
 use std::num::NonZeroU64;
 use tough_base::{Decoded, Hex};
 use tough_json::error::{ReadError, WriteError};
+use tough_json::text::value_of;
 use tough_keys::Key;
 
 /// The identifiers that a role lists, and how many of them must sign.
@@ -33,6 +35,16 @@ pub struct Root {
     pub keys: BTreeMap<Decoded<Hex>, Key>,
     pub roles: BTreeMap<RoleType, RoleKeys>,
     pub _extra: Map<String, Value>,
+}
+
+impl Root {
+    /// The root that the bytes are; `Json` where they are no JSON, `Shape` where that is none.
+    pub fn read(alloc: Global, bytes: &[u8]) -> Result<Root, ReadError>
+        ensures { ReadsBytes root_doc result bytes.now root_at }
+    {
+        let value = value_of(alloc, bytes)?;
+        root_of(alloc, value)
+    }
 }
 
 impl Role for Root {

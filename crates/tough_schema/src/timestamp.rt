@@ -1,4 +1,5 @@
 ghost use Rattle.std.specs.Prelude.{◌≡◌, Some, None, ⊤, string_bytes};
+ghost use Rattle.tough_json.specs.Results.{ReadsBytes};
 ghost use Rattle.tough_schema.specs.Timestamp.{timestamp_doc, timestamp_at, timestamp_json, bare_timestamp};
 ghost use Rattle.std.specs.Int.NonZero.{non_zero_u64_get};
 ghost use Rattle.std.proofs.Common.{rules};
@@ -14,6 +15,7 @@ use std::collections::BTreeMap;
 use std::num::NonZeroU64;
 use tough_base::{Decoded, Hex};
 use tough_json::error::{ReadError, WriteError};
+use tough_json::text::value_of;
 
 /// The digest of a file.
 #[derive(Drop)]
@@ -58,6 +60,16 @@ impl Timestamp {
             meta: BTreeMap::new(alloc),
             _extra: Map::new(alloc),
         }
+    }
+}
+
+impl Timestamp {
+    /// The timestamp that the bytes are; `Json` where they are no JSON, `Shape` where that is none.
+    pub fn read(alloc: Global, bytes: &[u8]) -> Result<Timestamp, ReadError>
+        ensures { ReadsBytes timestamp_doc result bytes.now timestamp_at }
+    {
+        let value = value_of(alloc, bytes)?;
+        timestamp_of(alloc, value)
     }
 }
 
