@@ -7,9 +7,7 @@ pub mod error;
 pub mod schema;
 
 pub use error::Error;
-pub use tough_base::{
-    NameError, SafeUrlPath, TargetName, encode_filename,
-};
+pub use tough_base::{NameError, SafeUrlPath, TargetName, encode_filename};
 pub use tough_client::{
     Entry, ExpirationEnforcement, ListedVersion, MemoryStore, Receipt, Refusal, SnapshotVersions,
     StepError, Store, StoreError, TimestampVersions, Tip, Vault,

@@ -94,6 +94,5 @@ pub(crate) fn next_root<V: Verify>(
 
 #[cfg(test)]
 mod documents;
-
 #[cfg(test)]
 mod tests;

@@ -59,7 +59,12 @@ pub fn root(alloc: Global, version: NonZeroU64, key: Key) -> Result<Root, DemoEr
     ensures { IfOk result (λ r. non_zero_u64_get r.version ≡ non_zero_u64_get version) }
 {
     let mut roles = BTreeMap::new(alloc);
-    for role in [RoleType::Root, RoleType::Snapshot, RoleType::Targets, RoleType::Timestamp] {
+    for role in [
+        RoleType::Root,
+        RoleType::Snapshot,
+        RoleType::Targets,
+        RoleType::Timestamp,
+    ] {
         roles.insert(role, signed_alone(alloc, &key)?)?;
     }
     let mut keys = BTreeMap::new(alloc);
@@ -101,7 +106,11 @@ pub fn timestamp(
 }
 
 /// The role with the signature of one signer.
-pub fn sign<T: Role + Drop>(alloc: Global, role: T, signer: &DemoSign) -> Result<Signed<T>, DemoError>
+pub fn sign<T: Role + Drop>(
+    alloc: Global,
+    role: T,
+    signer: &DemoSign,
+) -> Result<Signed<T>, DemoError>
     ensures { IfOk result (λ s. s.signed ≡ role) }
 {
     let text = canonical_form(alloc, &role)?;

@@ -12,3 +12,11 @@ pub trait Verify {
     fn verify(&self, key: &Key, msg: &[u8], sig: &[u8]) -> bool
         ensures { result ≡ verifies self.now (key_data key.now) msg.now sig.now };
 }
+
+impl<T: Verify> Verify for &T {
+    ghost verifies = { λ v. T.verifies v.now };
+
+    fn verify(&self, key: &Key, msg: &[u8], sig: &[u8]) -> bool {
+        T::verify(*self, key, msg, sig)
+    }
+}

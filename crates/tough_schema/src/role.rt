@@ -18,9 +18,6 @@ use tough_json::error::{ReadError, WriteError};
 pub trait Role {
     ghost TYPE: { RoleKind };
 
-    /// Which role of a root signs it.
-    const TYPE: RoleType;
-
     ghost head: { Self → Head };
 
     ghost is_read: { Data → Self → Type 0 };
@@ -50,4 +47,7 @@ pub trait Role {
         ensures { result.nanosecond ≡ (head self.now).expires };
 
     ghost apart: { (x : Self) (d : Data) → is_read d x → is_refused d → ⊥ };
+
+    /// Which role of a root signs it.
+    const TYPE: RoleType;
 }

@@ -4,15 +4,6 @@ ghost use Rattle.tough_vault.specs.Stored.{Files, Is, content, SameFiles, SameEl
 
 use std::alloc::Global;
 
-/// Why a store didn't do what it was asked.
-#[derive(Clone, Copy, Debug, PartialEq, Eq, Drop)]
-pub enum StoreError {
-    /// The device failed.
-    Failed,
-    /// A request for memory was refused.
-    Memory,
-}
-
 /// Files by name. A store that tells nothing promises nothing of them.
 pub trait Store {
     /// Whether the store tells its files.
@@ -47,4 +38,13 @@ pub trait Store {
     /// How often the device failed, modulo 2^64.
     fn failures(&self) -> u64
         ensures { result ≡ count self.now };
+}
+
+/// Why a store didn't do what it was asked.
+#[derive(Clone, Copy, Debug, PartialEq, Eq, Drop)]
+pub enum StoreError {
+    /// The device failed.
+    Failed,
+    /// A request for memory was refused.
+    Memory,
 }

@@ -8,14 +8,18 @@ use tough_schema::{DemoVerify, RoleType, Root, Signed};
 fn a_root_vouches_for_itself(rt: HostRuntime) -> Result<(), Fail> {
     let root = first_root(rt.alloc(), FIRST.as_bytes(), &DemoVerify)?;
     assert_eq!(rt; root.signed.version.get(), 1);
-    assert!(rt; matches!(
-        first_root(rt.alloc(), UNSIGNED.as_bytes(), &DemoVerify),
-        Err(Error::VerifyTrustedMetadata { .. })
-    ));
-    assert!(rt; matches!(
-        first_root(rt.alloc(), b"{\"signed\":", &DemoVerify),
-        Err(Error::ParseTrustedMetadata { .. })
-    ));
+    assert!(rt;
+        matches!(
+            first_root(rt.alloc(), UNSIGNED.as_bytes(), &DemoVerify),
+            Err(Error::VerifyTrustedMetadata { .. })
+        )
+    );
+    assert!(rt;
+        matches!(
+            first_root(rt.alloc(), b"{\"signed\":", &DemoVerify),
+            Err(Error::ParseTrustedMetadata { .. })
+        )
+    );
     Ok(())
 }
 
@@ -41,9 +45,19 @@ fn is_not_verified(found: &Result<Signed<Root>, Error>) -> bool {
 #[test]
 fn a_root_needs_both_thresholds(rt: HostRuntime) -> Result<(), Fail> {
     let first = first_root(rt.alloc(), FIRST.as_bytes(), &DemoVerify)?;
-    let by_itself = next_root(rt.alloc(), &first.signed, SECOND_BY_ITSELF.as_bytes(), &DemoVerify);
+    let by_itself = next_root(
+        rt.alloc(),
+        &first.signed,
+        SECOND_BY_ITSELF.as_bytes(),
+        &DemoVerify,
+    );
     assert!(rt; is_not_verified(&by_itself));
-    let by_first = next_root(rt.alloc(), &first.signed, SECOND_BY_FIRST.as_bytes(), &DemoVerify);
+    let by_first = next_root(
+        rt.alloc(),
+        &first.signed,
+        SECOND_BY_FIRST.as_bytes(),
+        &DemoVerify,
+    );
     assert!(rt; is_not_verified(&by_first));
     Ok(())
 }
@@ -52,10 +66,16 @@ fn a_root_needs_both_thresholds(rt: HostRuntime) -> Result<(), Fail> {
 fn a_root_has_the_next_version(rt: HostRuntime) -> Result<(), Fail> {
     let first = first_root(rt.alloc(), FIRST.as_bytes(), &DemoVerify)?;
     for bytes in [FIRST, THIRD] {
-        assert!(rt; matches!(
-            next_root(rt.alloc(), &first.signed, bytes.as_bytes(), &DemoVerify),
-            Err(Error::OlderMetadata { role: RoleType::Root, current_version: 1, .. })
-        ));
+        assert!(rt;
+            matches!(
+                next_root(rt.alloc(), &first.signed, bytes.as_bytes(), &DemoVerify),
+                Err(Error::OlderMetadata {
+                    role: RoleType::Root,
+                    current_version: 1,
+                    ..
+                })
+            )
+        );
     }
     Ok(())
 }
