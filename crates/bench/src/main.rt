@@ -3,23 +3,27 @@
 
 mod canonical;
 mod memory;
+mod verify;
 
 use anyhow::Error;
 use std::env;
 
+const USAGE: &str = "usage: bench canonical [MEGABYTES] | verify [THOUSANDS]";
+
 fn main(rt: HostRuntime) -> Result<(), Error> {
     let mut words = env::args(&rt)?.skip(1);
     let Some(name) = words.next() else {
-        println!(rt; "usage: bench canonical [MEGABYTES]")?;
+        println!(rt; "{USAGE}")?;
         return Ok(());
     };
-    let megabytes: u32 = match words.next() {
+    let size: u32 = match words.next() {
         Some(word) => word.parse()?,
         None => 12,
     };
     match name.as_str() {
-        "canonical" => canonical::run(&rt, megabytes)?,
-        _ => println!(rt; "usage: bench canonical [MEGABYTES]")?,
+        "canonical" => canonical::run(&rt, size)?,
+        "verify" => verify::run(&rt, size)?,
+        _ => println!(rt; "{USAGE}")?,
     }
     Ok(())
 }

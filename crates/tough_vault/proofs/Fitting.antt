@@ -11,11 +11,11 @@ use Rattle.tough_vault.specs.declared.parts.Prepared.{Prepared}
 use Rattle.tough_vault.specs.declared.checks.StepError.{StepError}
 use Rattle.tough_vault.specs.Stored.{Files}
 use Rattle.tough_vault.specs.Journal.{Pair, PairAtMost}
-use Rattle.tough_vault.specs.Checks.{Reason, OlderMetadata, OlderSnapshotInTimestamp, refuse, or_else, first_of, snapshot_version, expiry, timestamp_older, timestamp_below, timestamp_against, timestamp_tip, timestamp_after}
+use Rattle.tough_vault.specs.Checks.{Reason, SystemTimeSteppedBackward, later, time_after, OlderMetadata, OlderSnapshotInTimestamp, refuse, or_else, first_of, snapshot_version, expiry, timestamp_older, timestamp_below, timestamp_against, timestamp_tip, timestamp_after}
 use Rattle.tough_vault.specs.Step.{Step, Parts, Passes}
-use Rattle.tough_vault.specs.Steps.{versions_in, stored_timestamp, timestamp_step}
+use Rattle.tough_vault.specs.Steps.{versions_in, stored_time, stored_timestamp, time_text, needs, time_step, root_step, timestamp_step}
 use Rattle.tough_vault.specs.Parts.{NamesFree, Prepares, Concludes}
-use Rattle.tough_vault.proofs.Holding.{holds_timestamp}
+use Rattle.tough_vault.proofs.Holding.{holds_noted, holds_root, holds_timestamp}
 use Rattle.tough_vault.proofs.Taking.{takes}
 use Rattle.tough_vault.proofs.Keeping.{Fits, Sound, kept}
 
@@ -29,6 +29,15 @@ refuse_none false r h = refl
 
 pub not_lt : (a b : ℕ) → nat_lt a b ≡ false → b ≤ a
 not_lt a b h = grind (arith, nat_tests)
+
+le_of : (a b : ℤ) → int_lt a b ≡ false → b ≤ℤ a
+le_of a b h = search (rules)
+
+time_follows : (stored tip : Option ℤ) (now u : ℤ) → time_after stored tip now ≡ None → tip ≡ Some u → u ≤ℤ now
+time_follows stored tip now u h e =
+    let s = or_else_none (later stored now) (first_of (later tip now ∷ [])) h in
+    let t = or_else_none (later tip now) None s.1 in
+    le_of now u (refuse_none (int_lt now u) (SystemTimeSteppedBackward now u) (ap (λ o. later o now) (sym e) ∙ t.0))
 
 pub timestamp_follows : (old : Option TimestampDoc) (tip : Option Pair) (t : TimestampDoc) (start : ℤ) (enforced : Bool) (q : Pair)
     → timestamp_after old tip t start enforced ≡ None → tip ≡ Some q → PairAtMost q (versions_in t)
@@ -48,6 +57,22 @@ module _ {S : Type 0} (tells : Bool) (files : S → Files) (count : S → ℕ) (
     follows = λ q e. timestamp_follows (stored_timestamp verifies root found) old.tip.timestamp new.role start enforced q p.after e;
     free = λ name x. absurd (cc (x));
     holds = λ h same is there. holds_timestamp (files old.store) now old.notes old.tip h free new (is_some (stored_timestamp verifies root found)) same is there;
+  }
+
+  pub fits_time : (t : ℤ) (found : Option (List ℕ)) → Passes tells files count (time_step old.tip t) old.store found → Fits tells files count (time_step old.tip t) old now found
+  fits_time t found p =
+      let s = or_else_none (time_after (stored_time found) old.tip.time t) (first_of (needs (time_text t) ∷ [])) p.after in
+      record {
+        follows = λ u e. time_follows (stored_time found) old.tip.time t u s.0 e;
+        free = λ name x. absurd (cc (x));
+        holds = λ h same is there. holds_noted (files old.store) now old.notes old.tip h free t same is there;
+      }
+
+  pub fits_root : (root : SignedDoc RootDoc) (found : Option (List ℕ)) → Passes tells files count (root_step root) old.store found → Fits tells files count (root_step root) old now found
+  fits_root root found p = record {
+    follows = tt;
+    free = λ name x. absurd (cc (x));
+    holds = λ h same is there. holds_root (files old.store) now old.notes old.tip h free root same is there;
   }
 
 module _ {S : Type 0} (tells : Bool) (files : S → Files) (count : S → ℕ) where

@@ -7,7 +7,7 @@ use Rattle.tough_schema.specs.Root.{RootDoc}
 use Rattle.tough_schema.specs.Timestamp.{TimestampDoc}
 use Rattle.tough_vault.specs.Files.{time_file, root_file, timestamp_file, snapshot_file, IsFree}
 use Rattle.tough_vault.specs.Documents.{root_text, timestamp_text}
-use Rattle.tough_vault.specs.Steps.{time_in, versions_in}
+use Rattle.tough_vault.specs.Steps.{time_text, versions_in}
 use Rattle.tough_vault.specs.Journal.{Pair, Note, Noted, Root, Timestamp, Snapshot, Cleared, Document, Last, Roles, applied, last_root}
 use Rattle.tough_vault.specs.Parts.{Holds, NamesFree}
 use Rattle.tough_vault.proofs.Journals.{some_inj, last_root-append, get_append}
@@ -22,8 +22,8 @@ distinct a b h x = not_eq (length a) (length b) h (ap length x)
 module _ (files now : Files) (notes : List Note) (tip : Last)
     (h : Holds files notes tip) (free : NamesFree notes) where
   module _ (file : List ℕ) (same : SameElsewhere file files now) where
-    keep_time : time_file ≢ file → (t : ℤ) → tip.time ≡ Some t → (bytes : List ℕ) × (now time_file ≡ Some bytes) × (time_in bytes ≡ Some t)
-    keep_time ne t e = let p = h.time t e in (p.0, same time_file ne ∙ p.1, p.2)
+    keep_time : time_file ≢ file → (t : ℤ) → tip.time ≡ Some t → (now time_file ≡ time_text t) × (now time_file ≢ None)
+    keep_time ne t e = let p = h.time t e in (same time_file ne ∙ p.0, λ x. p.1 (sym (same time_file ne) ∙ x))
 
     keep_timestamp : timestamp_file ≢ file → (p : Pair) → tip.timestamp ≡ Some p → (d : SignedDoc TimestampDoc) × (now timestamp_file ≡ timestamp_text d) × (now timestamp_file ≢ None) × (versions_in d.role ≡ p)
     keep_timestamp ne t e = let p = h.timestamp t e in (p.0, same timestamp_file ne ∙ p.1, λ x. p.2 (sym (same timestamp_file ne) ∙ x), p.3)
@@ -35,10 +35,10 @@ module _ (files now : Files) (notes : List Note) (tip : Last)
     keep_document : (k : ℕ) (name : List ℕ) → name ≢ file → slice_get notes k ≡ Some (Document name) → now name ≢ None
     keep_document k name ne e x = h.documents k name e (sym (same name ne) ∙ x)
 
-  pub holds_noted : (t : ℤ) (bytes : List ℕ) → SameElsewhere time_file files now → now time_file ≡ Some bytes → time_in bytes ≡ Some t
+  pub holds_noted : (t : ℤ) → SameElsewhere time_file files now → now time_file ≡ time_text t → time_text t ≢ None
       → Holds now (notes ++ Noted t ∷ []) (applied tip (Noted t))
-  holds_noted t bytes same is reads = record {
-    time = λ u e. (bytes, is, reads ∙ e);
+  holds_noted t same is there = record {
+    time = λ u e. (is ∙ ap time_text (some_inj t u e), λ x. there (sym is ∙ x));
     timestamp = keep_timestamp time_file same (distinct _ _ refl);
     root = λ v e. keep_root time_file same (distinct _ _ refl) v (sym (last_root-append None notes (Noted t)) ∙ e);
     documents = λ k name e. elim (get_append notes (Noted t) k (Document name) e) [ inl a ↦ keep_document time_file same k name (free k name a).time a | inr b ↦ absurd (cc (b)) ];
@@ -86,7 +86,7 @@ module _ (files now : Files) (notes : List Note) (tip : Last)
   -- nothing was written
   pub holds_same : ((name : List ℕ) → now name ≡ files name) → Holds now notes tip
   holds_same same = record {
-    time = λ t e. let p = h.time t e in (p.0, same time_file ∙ p.1, p.2);
+    time = λ t e. let p = h.time t e in (same time_file ∙ p.0, λ x. p.1 (sym (same time_file) ∙ x));
     timestamp = λ t e. let p = h.timestamp t e in (p.0, same timestamp_file ∙ p.1, λ x. p.2 (sym (same timestamp_file) ∙ x), p.3);
     root = λ v e. let p = h.root v e in (p.0, same root_file ∙ p.1, λ x. p.2 (sym (same root_file) ∙ x), p.3);
     documents = λ k name e x. h.documents k name e (sym (same name) ∙ x);
@@ -95,7 +95,7 @@ module _ (files now : Files) (notes : List Note) (tip : Last)
   pub holds_cleared : ((name : List ℕ) → name ≢ timestamp_file → name ≢ snapshot_file → now name ≡ files name)
       → Holds now (notes ++ Cleared ∷ []) (applied tip Cleared)
   holds_cleared same = record {
-    time = λ t e. let p = h.time t e in (p.0, same time_file (distinct _ _ refl) (distinct _ _ refl) ∙ p.1, p.2);
+    time = λ t e. let p = h.time t e in let s = same time_file (distinct _ _ refl) (distinct _ _ refl) in (s ∙ p.0, λ x. p.1 (sym s ∙ x));
     timestamp = λ p e. absurd (cc (e));
     root = λ v e. let p = h.root v (sym (last_root-append None notes Cleared) ∙ e) in
         let s = same root_file (distinct _ _ refl) (distinct _ _ refl) in (p.0, s ∙ p.1, λ x. p.2 (sym s ∙ x), p.3);

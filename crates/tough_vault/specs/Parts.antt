@@ -16,15 +16,15 @@ use Rattle.tough_vault.specs.Files.{time_file, root_file, timestamp_file, IsFree
 use Rattle.tough_vault.specs.Documents.{root_text, timestamp_text}
 use Rattle.tough_vault.specs.Journal.{Pair, pair_of, Roles, roles_of, Note, Document, Broken, Last, applied, note_of, notes_of, tip_of, last_root}
 use Rattle.tough_vault.specs.Step.{Step, Parts, IsNoted, IsReceipt, Passes, Why}
-use Rattle.tough_vault.specs.Steps.{time_in, versions_in}
+use Rattle.tough_vault.specs.Steps.{time_text, versions_in}
 
 abbrev pub parts : {S : Type 0} → S → List Entry → Tip → Parts S
 parts store journal tip = record { store = store; notes = notes_of journal; tip = tip_of tip }
 
 -- What the files of a vault hold, for each part of the tip and each entry that speaks of one.
 pub record Holds (files : Files) (notes : List Note) (tip : Last) : Type 0 where
-  -- `latest_known_time.json` reads as the tip's time
-  pub time : (t : ℤ) → tip.time ≡ Some t → (bytes : List ℕ) × (files time_file ≡ Some bytes) × (time_in bytes ≡ Some t)
+  -- `latest_known_time.json` is the text of the tip's time
+  pub time : (t : ℤ) → tip.time ≡ Some t → (files time_file ≡ time_text t) × (files time_file ≢ None)
   -- `timestamp.json` is the text of a signed timestamp with the tip's versions
   pub timestamp : (p : Pair) → tip.timestamp ≡ Some p → (d : SignedDoc TimestampDoc) × (files timestamp_file ≡ timestamp_text d) × (files timestamp_file ≢ None) × (versions_in d.role ≡ p)
   -- `root.json` is the text of a signed root of the last Root entry's version

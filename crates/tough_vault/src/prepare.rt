@@ -7,7 +7,8 @@ ghost use Rattle.tough_schema.specs.Timestamp.{timestamp_doc};
 ghost use Rattle.tough_vault.specs.Stored.{content};
 ghost use Rattle.tough_vault.specs.Journal.{tip_of, time_where};
 ghost use Rattle.tough_vault.specs.Checks.{timestamp_where, enforces};
-ghost use Rattle.tough_vault.specs.Steps.{time_step, root_step, timestamp_step, stored_timestamp, stored_time};
+ghost use Rattle.tough_vault.specs.Steps.{time_step, root_step, timestamp_step, stored_timestamp, stored_time, time_text};
+ghost use Rattle.tough_json.specs.Results.{Writes};
 ghost use Rattle.tough_vault.specs.Parts.{Prepares};
 
 use crate::checks::{
@@ -19,8 +20,13 @@ use crate::entry::{Entry, TimestampVersions, Tip};
 use crate::parts::{Change, Prepared};
 use crate::store::{Store, StoreError};
 use jiff::Timestamp as Instant;
+use serde_json::Value;
 use std::alloc::{AllocError, Global};
+use tough_json::text::{bytes_of, value_of};
+use tough_json::{MomentError, moment_text};
 use tough_schema::{Error, ReadError, Root, Signed, Timestamp, Verify, WriteError};
+
+pub(crate) const TIME: &str = "latest_known_time.json";
 
 pub(crate) const ROOT: &str = "root.json";
 
@@ -52,7 +58,78 @@ fn read_timestamp<V: Verify>(
     }
 }
 
-pub(crate) fn prepare_root(alloc: Global, root: &Signed<Root>) -> Result<Prepared, StepError> {
+// The stored instant, where the file reads as one. The only refusal is want of memory.
+fn read_time(alloc: Global, found: &Option<Vec<u8>>) -> Result<Option<Instant>, AllocError>
+    ensures { IfOk result (λ time. time_where time ≡ stored_time (content found.now)) }
+{
+    let Some(bytes) = found else {
+        return Ok(None);
+    };
+    match value_of(alloc, bytes.as_slice()) {
+        Ok(Value::String(text)) => match text.as_str().parse::<Instant>() {
+            Ok(instant) => Ok(Some(instant)),
+            Err(_) => Ok(None),
+        },
+        Ok(_) => Ok(None),
+        Err(ReadError::Memory) => Err(AllocError),
+        Err(_) => Ok(None),
+    }
+}
+
+// The text of an instant in a store; `Unwritable` where it has none.
+fn time_bytes(alloc: Global, time: Instant) -> Result<Vec<u8>, WriteError>
+    ensures { Writes (λ b. b.items) result (time_text time.nanosecond) }
+{
+    let text = match moment_text(alloc, time) {
+        Ok(text) => text,
+        Err(MomentError::Memory) => return Err(WriteError::Memory),
+        Err(MomentError::Year) => return Err(WriteError::Unwritable),
+    };
+    match bytes_of(alloc, &Value::String(text)) {
+        Ok(bytes) => Ok(bytes),
+        Err(_) => Err(WriteError::Memory),
+    }
+}
+
+pub(crate) fn prepare_time<S: Store>(
+    alloc: Global,
+    store: &mut S,
+    tip: &Tip,
+    now: Instant,
+) -> Result<Prepared, StepError>
+    ensures { Prepares S.tells S.files S.count (time_step (tip_of tip.now) now.nanosecond) store.old store.new result }
+{
+    let found = match store.read(alloc, TIME) {
+        Ok(found) => found,
+        Err(StoreError::Failed) => return Err(StepError::DatastoreOpen),
+        Err(StoreError::Memory) => return Err(StepError::Memory),
+    };
+    let Ok(stored) = read_time(alloc, &found) else {
+        return Err(StepError::Memory);
+    };
+    if let Err(error) = check_time(stored, tip.time, now) {
+        return Err(error);
+    }
+    let bytes = match time_bytes(alloc, now) {
+        Ok(bytes) => bytes,
+        Err(WriteError::Unwritable) => return Err(StepError::Refused(Refusal::DatastoreSerialize)),
+        Err(WriteError::Memory) => return Err(StepError::Memory),
+    };
+    Ok(Prepared {
+        bytes,
+        entry: Entry::Noted(now),
+        receipt: Entry::Noted(now),
+        change: Change::Time(now),
+    })
+}
+
+pub(crate) fn prepare_root<S: Store>(
+    alloc: Global,
+    store: &mut S,
+    root: &Signed<Root>,
+) -> Result<Prepared, StepError>
+    ensures { Prepares S.tells S.files S.count (root_step (signed_doc root_doc root.now)) store.old store.new result }
+{
     let bytes = match document_bytes(alloc, root) {
         Ok(bytes) => bytes,
         Err(WriteError::Unwritable) => return Err(StepError::Refused(Refusal::DatastoreSerialize)),

@@ -14,7 +14,8 @@ ghost use Rattle.tough_vault.specs.Props.{Rises-prop, replays-prop};
 use crate::checks::{ExpirationEnforcement, StepError};
 use crate::entry::{Entry, Receipt, Tip};
 use crate::parts::conclude;
-use crate::prepare::{TIMESTAMP, prepare_timestamp};
+use crate::prepare::{ROOT, TIME, TIMESTAMP, prepare_root, prepare_time, prepare_timestamp};
+use crate::rotated::clear;
 use crate::store::Store;
 use jiff::Timestamp as Instant;
 use std::alloc::Global;
@@ -66,6 +67,51 @@ impl<S: Store> Vault<S> {
         ensures holds { S.tells ≡ true → has_broken (notes_in self.now) ≡ false → ∥ Holds (files_in S.files self.now) (notes_in self.now) (tip_in self.now) ∥₁ }
     {
         &self.tip
+    }
+
+    /// Notes the time of an update as `latest_known_time.json`. It refuses, in this order: `DatastoreOpen`;
+    /// `SystemTimeSteppedBackward` where the stored time, or the tip's, is later; `DatastoreSerialize` outside the years
+    /// 0000 to 9999; `DatastoreCreate`.
+    pub fn note_time(&mut self, now: Instant) -> Result<Receipt, StepError>
+        ensures { Takes S.tells S.files S.count (time_step (tip_in self.old) now.nanosecond) (parts_of self.old) (parts_of self.new) result }
+    {
+        let Vault {
+            alloc,
+            store,
+            journal,
+            tip,
+        } = self;
+        let prepared = prepare_time(*alloc, store, tip, now);
+        conclude(store, journal, tip, TIME, prepared)
+    }
+
+    /// Stores a root as `root.json`. It refuses `DatastoreSerialize` where the root has no text, then
+    /// `DatastoreCreate`.
+    pub fn put_root(&mut self, root: &Signed<Root>) -> Result<Receipt, StepError>
+        ensures { Takes S.tells S.files S.count (root_step (signed_doc root_doc root.now)) (parts_of self.old) (parts_of self.new) result }
+    {
+        let Vault {
+            alloc,
+            store,
+            journal,
+            tip,
+        } = self;
+        let prepared = prepare_root(*alloc, store, root);
+        conclude(store, journal, tip, ROOT, prepared)
+    }
+
+    /// Forgets timestamp and snapshot, whose keys were rotated (TUF specification 5.3.11). Both removals are tried; it
+    /// refuses with the fault of the first that failed.
+    pub fn clear_rotated(&mut self) -> Result<Receipt, StepError>
+        ensures { Clears S.tells S.files S.count (parts_of self.old) (parts_of self.new) result }
+    {
+        let Vault {
+            alloc: _,
+            store,
+            journal,
+            tip,
+        } = self;
+        clear(store, journal, tip)
     }
 
     /// Accepts a timestamp (TUF specification 5.4), and stores it as `timestamp.json`.
