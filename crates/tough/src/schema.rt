@@ -7,5 +7,5 @@ pub use tough_base::{
 pub use tough_schema::{
     DemoSign, DemoVerify, EcdsaKey, EcdsaScheme, Ed25519Key, Ed25519Scheme, Error, Hashes, Key,
     Metafile, ReadError, Role, RoleKeys, RoleType, Root, RsaKey, RsaScheme, Sign, SignError,
-    Signature, Signed, Timestamp, Verify, WriteError, canonical_form,
+    Signature, Signed, Snapshot, Timestamp, Verify, WriteError, canonical_form,
 };

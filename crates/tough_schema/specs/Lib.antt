@@ -10,3 +10,4 @@ pub mod Verdict
 pub mod Reaches
 pub mod Chain
 pub mod Counting
+pub mod Snapshot

@@ -5,9 +5,11 @@ ghost use Rattle.tough_keys.specs.Same.{Verifies};
 ghost use Rattle.serde_json.specs.Data as Data;
 ghost use Rattle.tough_schema.specs.declared.signed.Signed.{Signed};
 ghost use Rattle.tough_schema.specs.declared.root.Root.{Root};
+ghost use Rattle.tough_schema.specs.declared.snapshot.Snapshot.{Snapshot};
 ghost use Rattle.tough_schema.specs.declared.timestamp.Timestamp.{Timestamp};
 ghost use Rattle.tough_schema.specs.Document.{IsSigned, IsNotSigned, document_json};
 ghost use Rattle.tough_schema.specs.Root.{root_at, root_json, root_doc};
+ghost use Rattle.tough_schema.specs.Snapshot.{snapshot_at, snapshot_json, snapshot_doc};
 ghost use Rattle.tough_schema.specs.Timestamp.{timestamp_at, timestamp_json, timestamp_doc};
 ghost use Rattle.tough_schema.specs.Signature.{SignatureDoc, signed_at, signed_json, signed_doc};
 ghost use Rattle.tough_schema.specs.Policy.{Policy};
@@ -32,4 +34,11 @@ pub fn signed_timestamp()
     ensures read { (d : Data.Data) (s : Signed Timestamp) → IsSigned (λ e x. timestamp_at e ≡ Some (timestamp_doc x)) d s → signed_at timestamp_at d ≡ Some (signed_doc timestamp_doc s) }
     ensures refused { (d : Data.Data) → IsNotSigned (λ e. timestamp_at e ≡ None) d → signed_at timestamp_at d ≡ None }
     ensures written { (s : Signed Timestamp) → document_json (λ x. timestamp_json (timestamp_doc x)) s ≡ signed_json timestamp_json (signed_doc timestamp_doc s) }
+{}
+
+/// The same of a signed snapshot.
+pub fn signed_snapshot()
+    ensures read { (d : Data.Data) (s : Signed Snapshot) → IsSigned (λ e x. snapshot_at e ≡ Some (snapshot_doc x)) d s → signed_at snapshot_at d ≡ Some (signed_doc snapshot_doc s) }
+    ensures refused { (d : Data.Data) → IsNotSigned (λ e. snapshot_at e ≡ None) d → signed_at snapshot_at d ≡ None }
+    ensures written { (s : Signed Snapshot) → document_json (λ x. snapshot_json (snapshot_doc x)) s ≡ signed_json snapshot_json (signed_doc snapshot_doc s) }
 {}

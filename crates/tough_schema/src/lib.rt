@@ -6,16 +6,19 @@ mod head;
 pub mod laws;
 mod read_root;
 mod read_signed;
+mod read_snapshot;
 mod read_timestamp;
 mod role;
 mod role_type;
 mod root;
 mod signature;
 mod signed;
+mod snapshot;
 mod timestamp;
 mod verify;
 mod write_root;
 mod write_signed;
+mod write_snapshot;
 mod write_timestamp;
 
 pub use error::Error;
@@ -24,6 +27,7 @@ pub use role_type::RoleType;
 pub use root::{RoleKeys, Root};
 pub use signature::Signature;
 pub use signed::Signed;
+pub use snapshot::Snapshot;
 pub use timestamp::{Hashes, Metafile, Timestamp};
 pub use tough_json::{ReadError, WriteError};
 pub use tough_keys::{

@@ -74,7 +74,7 @@ fn metafiles_of(
     Ok(metafiles)
 }
 
-fn metafiles(
+pub(crate) fn metafiles(
     alloc: Global,
     members: &mut Map<String, Value>,
     name: &str,

@@ -52,7 +52,7 @@ fn metafile_value(alloc: Global, metafile: &Metafile) -> Result<Value, WriteErro
 }
 
 // The JSON of each metafile, under its name.
-fn metafiles_value(
+pub(crate) fn metafiles_value(
     alloc: Global,
     metafiles: &BTreeMap<String, Metafile>,
 ) -> Result<Map<String, Value>, WriteError>

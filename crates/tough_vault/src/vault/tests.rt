@@ -291,3 +291,44 @@ fn want_of_memory_refuses_the_step(rt: HostRuntime) -> Result<(), Fail> {
     }
     Ok(())
 }
+
+/// The time, a root, and the removal of what rotated keys had signed.
+#[test]
+fn the_other_steps(rt: HostRuntime) -> Result<(), Fail> {
+    let root = root(&rt)?;
+    let mut vault = Vault::new(rt.alloc(), MemoryStore::new(rt.alloc()));
+    let noon = "2026-07-13T12:00:00Z".parse::<Instant>()?;
+    let dawn = "2026-07-13T06:00:00.5Z".parse::<Instant>()?;
+    assert!(rt; vault.note_time(noon).is_ok());
+    assert!(rt;
+        matches!(
+            refusal(vault.note_time(dawn)),
+            Some(Refusal::SystemTimeSteppedBackward { .. })
+        )
+    );
+    assert!(rt; vault.note_time(noon).is_ok());
+    assert!(rt; vault.put_root(&root).is_ok());
+    assert!(rt; offer(&rt, &mut vault, &root, TIMESTAMP_5)?.is_ok());
+    assert!(rt; vault.clear_rotated().is_ok());
+    assert!(rt; offer(&rt, &mut vault, &root, TIMESTAMP_4)?.is_ok());
+    assert!(rt;
+        matches!(
+            vault.journal(),
+            [
+                Entry::Noted(_),
+                Entry::Noted(_),
+                Entry::Root(1),
+                Entry::Timestamp(_, false),
+                Entry::Cleared,
+                Entry::Timestamp(_, false)
+            ]
+        )
+    );
+    let mut store = vault.into_store();
+    let time = match store.read(rt.alloc(), "latest_known_time.json") {
+        Ok(Some(bytes)) => bytes,
+        _ => Vec::new(rt.alloc()),
+    };
+    assert_eq!(rt; time.as_slice(), b"\"2026-07-13T12:00:00Z\"".as_slice());
+    Ok(())
+}
