@@ -1,21 +1,26 @@
 -- What passed the checks of a step follows the tip, and its file then holds it.
-use Rattle.std.proofs.Common.{◌≡◌, ℕ, ℤ, ◌≤◌, ◌≤ℤ◌, List, [], ◌∷◌, Option, None, Some, Bool, true, false, nat_lt, int_lt, is_some, Result, refl, sym, ap, ◌∙◌, subst, arith, rules}
+use Rattle.std.proofs.Common.{◌≡◌, ℕ, ℤ, ◌≤◌, ◌≤ℤ◌, List, [], ◌∷◌, Option, None, Some, Bool, true, false, nat_lt, nat_le, int_lt, is_some, Result, refl, sym, ap, ◌∙◌, subst, arith, rules}
 use Rattle.std.proofs.lemmas.Bool.Decides.{nat_tests}
+use Rattle.std.proofs.lemmas.Slice.Eq.{bytes_eq-Decides}
+use Rattle.std.specs.Str.{bytes_eq}
+use Rattle.std.specs.Prelude.{if◌then◌else◌}
 use Rattle.tough_schema.specs.Signature.{SignedDoc}
 use Rattle.tough_schema.specs.Root.{RootDoc}
 use Rattle.tough_schema.specs.Timestamp.{TimestampDoc}
+use Rattle.tough_schema.specs.Snapshot.{SnapshotDoc}
 use Rattle.tough_keys.specs.Same.{Verifies}
 use Rattle.tough_schema.specs.declared.role_type.RoleType.TheVariants as role
 use Rattle.tough_vault.specs.declared.entry.Receipt.{Receipt}
 use Rattle.tough_vault.specs.declared.parts.Prepared.{Prepared}
 use Rattle.tough_vault.specs.declared.checks.StepError.{StepError}
 use Rattle.tough_vault.specs.Stored.{Files}
-use Rattle.tough_vault.specs.Journal.{Pair, PairAtMost}
-use Rattle.tough_vault.specs.Checks.{Reason, SystemTimeSteppedBackward, later, time_after, OlderMetadata, OlderSnapshotInTimestamp, refuse, or_else, first_of, snapshot_version, expiry, timestamp_older, timestamp_below, timestamp_against, timestamp_tip, timestamp_after}
+use Rattle.tough_vault.specs.Journal.{Pair, PairAtMost, Item, Roles, KeepsNames, RolesAtMost, has_at_least, version_in}
+use Rattle.tough_vault.specs.Checks.{Reason, SnapshotRoleRollback, fallen_at, fallen, items_in, snapshot_older, snapshot_against, snapshot_tip, snapshot_after, SystemTimeSteppedBackward, later, time_after, OlderMetadata, OlderSnapshotInTimestamp, refuse, or_else, first_of, snapshot_version, expiry, timestamp_older, timestamp_below, timestamp_against, timestamp_tip, timestamp_after}
 use Rattle.tough_vault.specs.Step.{Step, Parts, Passes}
-use Rattle.tough_vault.specs.Steps.{versions_in, stored_time, stored_timestamp, time_text, needs, time_step, root_step, timestamp_step}
+use Rattle.tough_vault.specs.Steps.{versions_in, roles_in, stored_snapshot, snapshot_step, stored_time, stored_timestamp, time_text, needs, time_step, root_step, timestamp_step}
 use Rattle.tough_vault.specs.Parts.{NamesFree, Prepares, Concludes}
-use Rattle.tough_vault.proofs.Holding.{holds_noted, holds_root, holds_timestamp}
+use Rattle.tough_vault.proofs.Holding.{holds_noted, holds_root, holds_timestamp, holds_snapshot}
+use Rattle.tough_vault.proofs.Journals.{some_inj}
 use Rattle.tough_vault.proofs.Taking.{takes}
 use Rattle.tough_vault.proofs.Keeping.{Fits, Sound, kept}
 
@@ -50,6 +55,41 @@ timestamp_follows old tip t start enforced q h e =
       not_lt (snapshot_version t) q.snapshot (refuse_none (nat_lt (snapshot_version t) q.snapshot) (OlderSnapshotInTimestamp (snapshot_version t) t.head.version q.snapshot q.version) w.0),
     )
 
+-- names are kept where none fell
+le_true : (a b : ℕ) → nat_lt a b ≡ false → nat_le b a ≡ true
+le_true a b h = grind (arith, nat_tests)
+
+at_ok : (o : Item) (found : Option ℕ) (a b : ℕ) → fallen_at o found a b ≡ None → has_at_least o.version found ≡ true
+at_ok o None a b h = absurd (cc)
+at_ok o (Some w) a b h = le_true w o.version (refuse_none (nat_lt w o.version) (SnapshotRoleRollback o.name o.version a w b) h)
+
+same_name : (a b : List ℕ) → bytes_eq a b ≡ true → a ≡ b
+same_name a b h = search (rules, bytes_eq-Decides)
+
+one_name : (t : Bool) (o : Item) (rest : Option ℕ) (items : List Item) (name : List ℕ) (v : ℕ)
+    → bytes_eq name o.name ≡ t → has_at_least o.version (version_in items o.name) ≡ true → (rest ≡ Some v → has_at_least v (version_in items name) ≡ true)
+    → (if t then Some o.version else rest) ≡ Some v → has_at_least v (version_in items name) ≡ true
+one_name true o rest items name v t a r h =
+    ap (λ x. has_at_least x (version_in items name)) (sym (some_inj o.version v h)) ∙ (ap (λ x. has_at_least o.version (version_in items x)) (same_name name o.name t) ∙ a)
+one_name false o rest items name v t a r h = r h
+
+pub fallen_keeps : (olds items : List Item) (a b : ℕ) → fallen olds items a b ≡ None → KeepsNames olds items
+fallen_keeps [] items a b h name v e = absurd (cc)
+fallen_keeps (o ∷ olds) items a b h name v e =
+    let s = or_else_none (fallen_at o (version_in items o.name) a b) (fallen olds items a b) h in
+    one_name (bytes_eq name o.name) o (version_in olds name) items name v refl (at_ok o (version_in items o.name) a b s.0) (fallen_keeps olds items a b s.1 name v) e
+
+snapshot_follows : (old : Option SnapshotDoc) (tip : Option Roles) (s : SnapshotDoc) (start : ℤ) (enforced : Bool) (q : Roles)
+    → snapshot_after old tip s start enforced ≡ None → tip ≡ Some q → RolesAtMost q (roles_in s)
+snapshot_follows old tip s start enforced q h e =
+    let a = or_else_none (snapshot_against old s) (first_of (snapshot_tip tip s ∷ expiry role.Snapshot enforced start s.head.expires ∷ [])) h in
+    let b = or_else_none (snapshot_tip tip s) (first_of (expiry role.Snapshot enforced start s.head.expires ∷ [])) a.1 in
+    let c = or_else_none (snapshot_older q.version s) (first_of (fallen q.items (items_in s.meta) q.version s.head.version ∷ [])) (ap (λ o. snapshot_tip o s) (sym e) ∙ b.0) in
+    let d = or_else_none (fallen q.items (items_in s.meta) q.version s.head.version) None c.1 in (
+      not_lt s.head.version q.version (refuse_none (nat_lt s.head.version q.version) (OlderMetadata role.Snapshot q.version s.head.version) c.0),
+      fallen_keeps q.items (items_in s.meta) q.version s.head.version d.0,
+    )
+
 module _ {S : Type 0} (tells : Bool) (files : S → Files) (count : S → ℕ) (old : Parts S) (free : NamesFree old.notes) (now : Files) where
   pub fits_timestamp : (verifies : Verifies) (root : RootDoc) (new : SignedDoc TimestampDoc) (start : ℤ) (enforced : Bool) (found : Option (List ℕ))
       → Passes tells files count (timestamp_step verifies root old.tip new start enforced) old.store found → Fits tells files count (timestamp_step verifies root old.tip new start enforced) old now found
@@ -57,6 +97,14 @@ module _ {S : Type 0} (tells : Bool) (files : S → Files) (count : S → ℕ) (
     follows = λ q e. timestamp_follows (stored_timestamp verifies root found) old.tip.timestamp new.role start enforced q p.after e;
     free = λ name x. absurd (cc (x));
     holds = λ h same is there. holds_timestamp (files old.store) now old.notes old.tip h free new (is_some (stored_timestamp verifies root found)) same is there;
+  }
+
+  pub fits_snapshot : (verifies : Verifies) (root : RootDoc) (listed : ℕ) (new : SignedDoc SnapshotDoc) (start : ℤ) (enforced : Bool) (found : Option (List ℕ))
+      → Passes tells files count (snapshot_step verifies root old.tip listed new start enforced) old.store found → Fits tells files count (snapshot_step verifies root old.tip listed new start enforced) old now found
+  fits_snapshot verifies root listed new start enforced found p = record {
+    follows = λ q e. snapshot_follows (stored_snapshot verifies root found) old.tip.snapshot new.role start enforced q p.after e;
+    free = λ name x. absurd (cc (x));
+    holds = λ h same is there. holds_snapshot (files old.store) now old.notes old.tip h free new (is_some (stored_snapshot verifies root found)) same is there;
   }
 
   pub fits_time : (t : ℤ) (found : Option (List ℕ)) → Passes tells files count (time_step old.tip t) old.store found → Fits tells files count (time_step old.tip t) old now found

@@ -5,9 +5,10 @@ use Rattle.tough_vault.specs.Stored.{Files, SameElsewhere}
 use Rattle.tough_schema.specs.Signature.{SignedDoc}
 use Rattle.tough_schema.specs.Root.{RootDoc}
 use Rattle.tough_schema.specs.Timestamp.{TimestampDoc}
+use Rattle.tough_schema.specs.Snapshot.{SnapshotDoc}
 use Rattle.tough_vault.specs.Files.{time_file, root_file, timestamp_file, snapshot_file, IsFree}
-use Rattle.tough_vault.specs.Documents.{root_text, timestamp_text}
-use Rattle.tough_vault.specs.Steps.{time_text, versions_in}
+use Rattle.tough_vault.specs.Documents.{root_text, timestamp_text, snapshot_text}
+use Rattle.tough_vault.specs.Steps.{time_text, versions_in, roles_in}
 use Rattle.tough_vault.specs.Journal.{Pair, Note, Noted, Root, Timestamp, Snapshot, Cleared, Document, Last, Roles, applied, last_root}
 use Rattle.tough_vault.specs.Parts.{Holds, NamesFree}
 use Rattle.tough_vault.proofs.Journals.{some_inj, last_root-append, get_append}
@@ -28,6 +29,9 @@ module _ (files now : Files) (notes : List Note) (tip : Last)
     keep_timestamp : timestamp_file ≢ file → (p : Pair) → tip.timestamp ≡ Some p → (d : SignedDoc TimestampDoc) × (now timestamp_file ≡ timestamp_text d) × (now timestamp_file ≢ None) × (versions_in d.role ≡ p)
     keep_timestamp ne t e = let p = h.timestamp t e in (p.0, same timestamp_file ne ∙ p.1, λ x. p.2 (sym (same timestamp_file ne) ∙ x), p.3)
 
+    keep_snapshot : snapshot_file ≢ file → (r : Roles) → tip.snapshot ≡ Some r → (d : SignedDoc SnapshotDoc) × (now snapshot_file ≡ snapshot_text d) × (now snapshot_file ≢ None) × (roles_in d.role ≡ r)
+    keep_snapshot ne t e = let p = h.snapshot t e in (p.0, same snapshot_file ne ∙ p.1, λ x. p.2 (sym (same snapshot_file ne) ∙ x), p.3)
+
     keep_root : root_file ≢ file → (v : ℕ) → last_root None notes ≡ Some v → (r : SignedDoc RootDoc) × (now root_file ≡ root_text r) × (now root_file ≢ None) × (r.role.head.version ≡ v)
     keep_root ne v e = let p = h.root v e in (p.0, same root_file ne ∙ p.1, λ x. p.2 (sym (same root_file ne) ∙ x), p.3)
 
@@ -40,6 +44,7 @@ module _ (files now : Files) (notes : List Note) (tip : Last)
   holds_noted t same is there = record {
     time = λ u e. (is ∙ ap time_text (some_inj t u e), λ x. there (sym is ∙ x));
     timestamp = keep_timestamp time_file same (distinct _ _ refl);
+    snapshot = keep_snapshot time_file same (distinct _ _ refl);
     root = λ v e. keep_root time_file same (distinct _ _ refl) v (sym (last_root-append None notes (Noted t)) ∙ e);
     documents = λ k name e. elim (get_append notes (Noted t) k (Document name) e) [ inl a ↦ keep_document time_file same k name (free k name a).time a | inr b ↦ absurd (cc (b)) ];
   }
@@ -49,18 +54,19 @@ module _ (files now : Files) (notes : List Note) (tip : Last)
   holds_timestamp d had same is there = record {
     time = keep_time timestamp_file same (distinct _ _ refl);
     timestamp = λ p e. (d, is, λ x. there (sym is ∙ x), some_inj (versions_in d.role) p e);
+    snapshot = keep_snapshot timestamp_file same (distinct _ _ refl);
     root = λ v e. keep_root timestamp_file same (distinct _ _ refl) v (sym (last_root-append None notes (Timestamp (versions_in d.role) had)) ∙ e);
     documents = λ k name e. elim (get_append notes (Timestamp (versions_in d.role) had) k (Document name) e) [ inl a ↦ keep_document timestamp_file same k name (free k name a).timestamp a | inr b ↦ absurd (cc (b)) ];
   }
 
-  -- no file that is spoken of here is the snapshot's
-  pub holds_snapshot : (r : Roles) (had : Bool) → SameElsewhere snapshot_file files now
-      → Holds now (notes ++ Snapshot r had ∷ []) (applied tip (Snapshot r had))
-  holds_snapshot r had same = record {
+  pub holds_snapshot : (d : SignedDoc SnapshotDoc) (had : Bool) → SameElsewhere snapshot_file files now → now snapshot_file ≡ snapshot_text d → snapshot_text d ≢ None
+      → Holds now (notes ++ Snapshot (roles_in d.role) had ∷ []) (applied tip (Snapshot (roles_in d.role) had))
+  holds_snapshot d had same is there = record {
     time = keep_time snapshot_file same (distinct _ _ refl);
     timestamp = keep_timestamp snapshot_file same (distinct _ _ refl);
-    root = λ v e. keep_root snapshot_file same (distinct _ _ refl) v (sym (last_root-append None notes (Snapshot r had)) ∙ e);
-    documents = λ k name e. elim (get_append notes (Snapshot r had) k (Document name) e) [ inl a ↦ keep_document snapshot_file same k name (free k name a).snapshot a | inr b ↦ absurd (cc (b)) ];
+    snapshot = λ r e. (d, is, λ x. there (sym is ∙ x), some_inj (roles_in d.role) r e);
+    root = λ v e. keep_root snapshot_file same (distinct _ _ refl) v (sym (last_root-append None notes (Snapshot (roles_in d.role) had)) ∙ e);
+    documents = λ k name e. elim (get_append notes (Snapshot (roles_in d.role) had) k (Document name) e) [ inl a ↦ keep_document snapshot_file same k name (free k name a).snapshot a | inr b ↦ absurd (cc (b)) ];
   }
 
   pub holds_root : (r : SignedDoc RootDoc) → SameElsewhere root_file files now → now root_file ≡ root_text r → root_text r ≢ None
@@ -68,6 +74,7 @@ module _ (files now : Files) (notes : List Note) (tip : Last)
   holds_root r same is there = record {
     time = keep_time root_file same (distinct _ _ refl);
     timestamp = keep_timestamp root_file same (distinct _ _ refl);
+    snapshot = keep_snapshot root_file same (distinct _ _ refl);
     root = λ v e. (r, is, λ x. there (sym is ∙ x), some_inj r.role.head.version v (sym (last_root-append None notes (Root r.role.head.version)) ∙ e));
     documents = λ k name e. elim (get_append notes (Root r.role.head.version) k (Document name) e) [ inl a ↦ keep_document root_file same k name (free k name a).root a | inr b ↦ absurd (cc (b)) ];
   }
@@ -77,6 +84,7 @@ module _ (files now : Files) (notes : List Note) (tip : Last)
   holds_document name bytes f same is = record {
     time = keep_time name same (λ x. f.time (sym x));
     timestamp = keep_timestamp name same (λ x. f.timestamp (sym x));
+    snapshot = keep_snapshot name same (λ x. f.snapshot (sym x));
     root = λ v e. keep_root name same (λ x. f.root (sym x)) v (sym (last_root-append None notes (Document name)) ∙ e);
     documents = λ k other e gone.
         let ne : other ≢ name = λ x. cc (gone, is, ap now x) in
@@ -88,6 +96,7 @@ module _ (files now : Files) (notes : List Note) (tip : Last)
   holds_same same = record {
     time = λ t e. let p = h.time t e in (same time_file ∙ p.0, λ x. p.1 (sym (same time_file) ∙ x));
     timestamp = λ t e. let p = h.timestamp t e in (p.0, same timestamp_file ∙ p.1, λ x. p.2 (sym (same timestamp_file) ∙ x), p.3);
+    snapshot = λ t e. let p = h.snapshot t e in (p.0, same snapshot_file ∙ p.1, λ x. p.2 (sym (same snapshot_file) ∙ x), p.3);
     root = λ v e. let p = h.root v e in (p.0, same root_file ∙ p.1, λ x. p.2 (sym (same root_file) ∙ x), p.3);
     documents = λ k name e x. h.documents k name e (sym (same name) ∙ x);
   }
@@ -97,6 +106,7 @@ module _ (files now : Files) (notes : List Note) (tip : Last)
   holds_cleared same = record {
     time = λ t e. let p = h.time t e in let s = same time_file (distinct _ _ refl) (distinct _ _ refl) in (s ∙ p.0, λ x. p.1 (sym s ∙ x));
     timestamp = λ p e. absurd (cc (e));
+    snapshot = λ r e. absurd (cc (e));
     root = λ v e. let p = h.root v (sym (last_root-append None notes Cleared) ∙ e) in
         let s = same root_file (distinct _ _ refl) (distinct _ _ refl) in (p.0, s ∙ p.1, λ x. p.2 (sym s ∙ x), p.3);
     documents = λ k name e x. elim (get_append notes Cleared k (Document name) e) [ inl a ↦ h.documents k name a (sym (same name (free k name a).timestamp (free k name a).snapshot) ∙ x) | inr b ↦ absurd (cc (b)) ];

@@ -4,10 +4,12 @@ use Rattle.tough_vault.specs.Stored.{Files, SameFiles}
 use Rattle.tough_vault.specs.declared.parts.Prepared.{Prepared}
 use Rattle.tough_vault.specs.declared.checks.StepError.{StepError}
 use Rattle.tough_vault.specs.declared.checks.StepError.TheVariants.{Refused, DatastoreOpen, DatastoreCreate, DatastoreRemove, Memory}
-use Rattle.tough_vault.specs.Checks.{Reason, Checked, or_else, timestamp_where}
+use Rattle.tough_vault.specs.Checks.{Reason, Checked, or_else, timestamp_where, snapshot_where}
 use Rattle.tough_schema.specs.declared.timestamp.Timestamp.{Timestamp as TimestampFile}
 use Rattle.tough_schema.specs.Timestamp.{TimestampDoc}
-use Rattle.tough_vault.specs.Journal.{Timestamp, Last}
+use Rattle.tough_schema.specs.declared.snapshot.Snapshot.{Snapshot as SnapshotFile}
+use Rattle.tough_schema.specs.Snapshot.{SnapshotDoc}
+use Rattle.tough_vault.specs.Journal.{Timestamp, Snapshot, Roles, Last}
 use Rattle.tough_vault.specs.Steps.{needs}
 use Rattle.tough_vault.specs.Step.{Step, Finds}
 use Rattle.tough_vault.specs.Parts.{Carries, Prepares}
@@ -65,3 +67,11 @@ same_tip tip u v s w o p =
 
 pub or_second : (a b : Option Reason) (r : Reason) → a ≡ None → b ≡ Some r → or_else a b ≡ Some r
 or_second a b r p q = ap (λ x. or_else x b) p ∙ q
+
+pub had_snapshot : (o : Option SnapshotFile) (t : Option SnapshotDoc) (b : Bool) → b ≡ is_some o → snapshot_where o ≡ t → b ≡ is_some t
+had_snapshot None t b h e = h ∙ ap is_some e
+had_snapshot (Some d) t b h e = h ∙ ap is_some e
+
+-- what is noted, by whether a stored document was there
+pub carries_as : (r : Roles) (a b : Bool) (text : Option (List ℕ)) (p : Prepared) → a ≡ b → Carries (Snapshot r a) text p → Carries (Snapshot r b) text p
+carries_as r a b text p is h = subst (λ (x : Bool). Carries (Snapshot r x) text p) is h

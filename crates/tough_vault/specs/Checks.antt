@@ -1,10 +1,12 @@
 -- The checks of the steps (TUF specification 5.3 to 5.6). Each is the refusal that it gives, if any; of a list the first counts.
-use Rattle.std.specs.Prelude.{◌≡◌, ◌==◌, ℕ, ℤ, List, [], ◌∷◌, length, Option, None, Some, Result, Ok, Err, Bool, true, false, not, nat_lt, int_lt, is_some, string_bytes, ◌&&◌}
+use Rattle.std.specs.Prelude.{◌≡◌, ◌==◌, ℕ, ℤ, List, [], ◌∷◌, map, length, Option, None, Some, Result, Ok, Err, Bool, true, false, not, nat_lt, int_lt, is_some, string_bytes, ◌&&◌}
 use Rattle.jiff.specs.declared.timestamp.Timestamp.{Timestamp as Instant}
 use Rattle.tough_schema.specs.declared.role_type.RoleType.{RoleType}
 use Rattle.tough_schema.specs.declared.role_type.RoleType.TheVariants as role
 use Rattle.tough_schema.specs.Timestamp.{TimestampDoc, MetafileDoc, timestamp_doc}
 use Rattle.tough_schema.specs.declared.timestamp.Timestamp.{Timestamp as TimestampFile}
+use Rattle.tough_schema.specs.declared.snapshot.Snapshot.{Snapshot as SnapshotFile}
+use Rattle.tough_schema.specs.Snapshot.{SnapshotDoc, snapshot_doc}
 use Rattle.tough_vault.specs.declared.checks.ExpirationEnforcement.{ExpirationEnforcement}
 use Rattle.tough_vault.specs.declared.checks.ExpirationEnforcement.TheVariants.{Safe, Unsafe}
 use Rattle.tough_schema.specs.declared.error.Error.{Error}
@@ -117,6 +119,59 @@ timestamp_after old tip t start enforced = first_of
     ∷ expiry role.Timestamp enforced start t.head.expires
     ∷ [])
 
+-- ---- snapshots
+
+-- the names and versions that a snapshot lists, in order
+abbrev pub items_in : List (List ℕ × MetafileDoc) → List Item
+items_in meta = map (λ e. record { name = e.0; version = e.1.version }) meta
+
+-- a snapshot lists `targets.json`
+abbrev pub snapshot_form : SnapshotDoc → Option Reason
+snapshot_form s = refuse (not (is_some (metafile_in s.meta targets_file))) (SnapshotTargetsMetaMissing s.head.version)
+
+-- before the stored snapshot is read: it has the listed version, it is signed, and it has the form of a snapshot
+abbrev pub snapshot_first : ℕ → Result Unit Refused → SnapshotDoc → Option Reason
+snapshot_first listed verdict s = first_of
+    (refuse (not (s.head.version == listed)) (VersionMismatch role.Snapshot s.head.version listed)
+    ∷ verified role.Snapshot verdict
+    ∷ snapshot_form s
+    ∷ [])
+
+-- a name that an older snapshot (version `old`) lists with a version, against what a newer one (version `new`) lists for it
+abbrev pub fallen_at : Item → Option ℕ → ℕ → ℕ → Option Reason
+fallen_at item None old new = Some (SnapshotRoleMissing item.name old new)
+fallen_at item (Some now) old new = refuse (nat_lt now item.version) (SnapshotRoleRollback item.name item.version old now new)
+
+-- the first listed name, in order, that is missing or fell
+abbrev pub fallen : List Item → List Item → ℕ → ℕ → Option Reason
+fallen [] items old new = None
+fallen (item ∷ rest) items old new = or_else (fallen_at item (version_in items item.name) old new) (fallen rest items old new)
+
+abbrev pub snapshot_older : ℕ → SnapshotDoc → Option Reason
+snapshot_older old s = refuse (nat_lt s.head.version old) (OlderMetadata role.Snapshot old s.head.version)
+
+-- against the stored snapshot
+abbrev pub snapshot_against : Option SnapshotDoc → SnapshotDoc → Option Reason
+snapshot_against None s = None
+snapshot_against (Some old) s = first_of
+    (snapshot_older old.head.version s
+    ∷ snapshot_form old
+    ∷ fallen (items_in old.meta) (items_in s.meta) old.head.version s.head.version
+    ∷ [])
+
+-- against the tip
+abbrev pub snapshot_tip : Option Roles → SnapshotDoc → Option Reason
+snapshot_tip None s = None
+snapshot_tip (Some tip) s = first_of (snapshot_older tip.version s ∷ fallen tip.items (items_in s.meta) tip.version s.head.version ∷ [])
+
+-- after the stored snapshot was read: against it, then the tip, then expiry
+abbrev pub snapshot_after : Option SnapshotDoc → Option Roles → SnapshotDoc → ℤ → Bool → Option Reason
+snapshot_after old tip s start enforced = first_of
+    (snapshot_against old s
+    ∷ snapshot_tip tip s
+    ∷ expiry role.Snapshot enforced start s.head.expires
+    ∷ [])
+
 -- after the stored time was read
 abbrev pub time_after : Option ℤ → Option ℤ → ℤ → Option Reason
 time_after stored tip now = first_of (later stored now ∷ later tip now ∷ [])
@@ -158,3 +213,7 @@ timestamp_where (Some t) = Some (timestamp_doc t)
 abbrev pub enforces : ExpirationEnforcement → Bool
 enforces Safe = true
 enforces Unsafe = false
+
+abbrev pub snapshot_where : Option SnapshotFile → Option SnapshotDoc
+snapshot_where None = None
+snapshot_where (Some s) = Some (snapshot_doc s)

@@ -9,6 +9,7 @@ use Rattle.tough_json.specs.Results.{json_of}
 use Rattle.tough_schema.specs.Signature.{SignedDoc, signed_at, signed_json}
 use Rattle.tough_schema.specs.Root.{RootDoc, root_json}
 use Rattle.tough_schema.specs.Timestamp.{TimestampDoc, MetafileDoc, timestamp_at, timestamp_json}
+use Rattle.tough_schema.specs.Snapshot.{SnapshotDoc, snapshot_at, snapshot_json}
 use Rattle.tough_keys.specs.Same.{Verifies}
 use Rattle.tough_schema.specs.Policy.{policy}
 use Rattle.tough_schema.specs.Verdict.{Refused, verdict}
@@ -26,6 +27,9 @@ root_text d = option_and_then stored_text (signed_json root_json d)
 abbrev pub timestamp_text : SignedDoc TimestampDoc → Option (List ℕ)
 timestamp_text d = option_and_then stored_text (signed_json timestamp_json d)
 
+abbrev pub snapshot_text : SignedDoc SnapshotDoc → Option (List ℕ)
+snapshot_text d = option_and_then stored_text (signed_json snapshot_json d)
+
 -- the signed timestamp that bytes are
 abbrev pub timestamp_in : List ℕ → Option (SignedDoc TimestampDoc)
 timestamp_in bytes = option_and_then (signed_at timestamp_at) (json_of bytes)
@@ -33,6 +37,13 @@ timestamp_in bytes = option_and_then (signed_at timestamp_at) (json_of bytes)
 -- what a root's verification of a signed timestamp answers
 abbrev pub timestamp_verdict : Verifies → RootDoc → SignedDoc TimestampDoc → Result Unit Refused
 timestamp_verdict verifies root d = verdict verifies (policy root role.Timestamp) (option_and_then canonical_of (timestamp_json d.role)) d.signatures
+
+-- the same of a snapshot
+abbrev pub snapshot_in : List ℕ → Option (SignedDoc SnapshotDoc)
+snapshot_in bytes = option_and_then (signed_at snapshot_at) (json_of bytes)
+
+abbrev pub snapshot_verdict : Verifies → RootDoc → SignedDoc SnapshotDoc → Result Unit Refused
+snapshot_verdict verifies root d = verdict verifies (policy root role.Snapshot) (option_and_then canonical_of (snapshot_json d.role)) d.signatures
 
 -- what a document lists for a name
 abbrev pub metafile_in : List (List ℕ × MetafileDoc) → List ℕ → Option MetafileDoc

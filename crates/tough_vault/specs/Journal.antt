@@ -107,7 +107,7 @@ replay tip (n ∷ ns) = replay (applied tip n) ns
 -- the version that is listed for a name: that of the first item of the name
 abbrev pub version_in : List Item → List ℕ → Option ℕ
 version_in [] name = None
-version_in (item ∷ items) name = if bytes_eq item.name name then Some item.version else version_in items name
+version_in (item ∷ items) name = if bytes_eq name item.name then Some item.version else version_in items name
 
 -- a version is there, and is no lower
 abbrev pub has_at_least : ℕ → Option ℕ → Bool

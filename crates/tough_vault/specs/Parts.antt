@@ -3,6 +3,7 @@ use Rattle.std.specs.Prelude.{◌≡◌, ◌≢◌, ℕ, ℤ, List, [], ◌∷�
 use Rattle.tough_schema.specs.Signature.{SignedDoc}
 use Rattle.tough_schema.specs.Root.{RootDoc}
 use Rattle.tough_schema.specs.Timestamp.{TimestampDoc}
+use Rattle.tough_schema.specs.Snapshot.{SnapshotDoc}
 use Rattle.tough_vault.specs.Stored.{Files, SameFiles, SameElsewhere}
 use Rattle.tough_vault.specs.declared.entry.Receipt.{Receipt}
 use Rattle.tough_vault.specs.declared.entry.Entry.{Entry}
@@ -12,11 +13,11 @@ use Rattle.tough_vault.specs.declared.parts.Change.TheVariants as change
 use Rattle.tough_vault.specs.declared.parts.Prepared.{Prepared}
 use Rattle.tough_vault.specs.declared.checks.StepError.{StepError}
 use Rattle.tough_vault.specs.declared.checks.StepError.TheVariants.{DatastoreCreate, Memory}
-use Rattle.tough_vault.specs.Files.{time_file, root_file, timestamp_file, IsFree}
-use Rattle.tough_vault.specs.Documents.{root_text, timestamp_text}
+use Rattle.tough_vault.specs.Files.{time_file, root_file, timestamp_file, snapshot_file, IsFree}
+use Rattle.tough_vault.specs.Documents.{root_text, timestamp_text, snapshot_text}
 use Rattle.tough_vault.specs.Journal.{Pair, pair_of, Roles, roles_of, Note, Document, Broken, Last, applied, note_of, notes_of, tip_of, last_root}
 use Rattle.tough_vault.specs.Step.{Step, Parts, IsNoted, IsReceipt, Passes, Why}
-use Rattle.tough_vault.specs.Steps.{time_text, versions_in}
+use Rattle.tough_vault.specs.Steps.{time_text, versions_in, roles_in}
 
 abbrev pub parts : {S : Type 0} → S → List Entry → Tip → Parts S
 parts store journal tip = record { store = store; notes = notes_of journal; tip = tip_of tip }
@@ -27,6 +28,8 @@ pub record Holds (files : Files) (notes : List Note) (tip : Last) : Type 0 where
   pub time : (t : ℤ) → tip.time ≡ Some t → (files time_file ≡ time_text t) × (files time_file ≢ None)
   -- `timestamp.json` is the text of a signed timestamp with the tip's versions
   pub timestamp : (p : Pair) → tip.timestamp ≡ Some p → (d : SignedDoc TimestampDoc) × (files timestamp_file ≡ timestamp_text d) × (files timestamp_file ≢ None) × (versions_in d.role ≡ p)
+  -- `snapshot.json` is the text of a signed snapshot with the tip's versions
+  pub snapshot : (r : Roles) → tip.snapshot ≡ Some r → (d : SignedDoc SnapshotDoc) × (files snapshot_file ≡ snapshot_text d) × (files snapshot_file ≢ None) × (roles_in d.role ≡ r)
   -- `root.json` is the text of a signed root of the last Root entry's version
   pub root : (v : ℕ) → last_root None notes ≡ Some v → (d : SignedDoc RootDoc) × (files root_file ≡ root_text d) × (files root_file ≢ None) × (d.role.head.version ≡ v)
   -- each Document entry's file is there

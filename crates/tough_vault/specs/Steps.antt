@@ -3,6 +3,7 @@ use Rattle.std.specs.Prelude.{ℕ, ℤ, List, [], ◌∷◌, Option, None, Some,
 use Rattle.tough_schema.specs.Signature.{SignedDoc}
 use Rattle.tough_schema.specs.Root.{RootDoc}
 use Rattle.tough_schema.specs.Timestamp.{TimestampDoc}
+use Rattle.tough_schema.specs.Snapshot.{SnapshotDoc}
 use Rattle.tough_keys.specs.Same.{Verifies}
 use Rattle.tough_schema.specs.Verdict.{Refused}
 use Rattle.tough_json.specs.Results.{json_of}
@@ -10,10 +11,10 @@ use Rattle.tough_json.specs.Reading.{instant, ◌>>=◌}
 use Rattle.tough_json.specs.Moment.{moment_text}
 use Rattle.serde_json.specs.Data as Data
 use Rattle.serde_json.specs.Written.{compact_text}
-use Rattle.tough_vault.specs.Files.{time_file, root_file, timestamp_file}
-use Rattle.tough_vault.specs.Documents.{root_text, timestamp_text, timestamp_in, timestamp_verdict}
-use Rattle.tough_vault.specs.Journal.{Pair, Noted, Root as RootNote, Timestamp, Document, Last}
-use Rattle.tough_vault.specs.Checks.{Reason, DatastoreSerialize, first_of, time_after, timestamp_first, timestamp_after, snapshot_version}
+use Rattle.tough_vault.specs.Files.{time_file, root_file, timestamp_file, snapshot_file}
+use Rattle.tough_vault.specs.Documents.{root_text, timestamp_text, timestamp_in, timestamp_verdict, snapshot_text, snapshot_in, snapshot_verdict}
+use Rattle.tough_vault.specs.Journal.{Pair, Roles, Noted, Root as RootNote, Timestamp, Snapshot, Document, Last}
+use Rattle.tough_vault.specs.Checks.{Reason, DatastoreSerialize, first_of, time_after, timestamp_first, timestamp_after, snapshot_version, items_in, snapshot_first, snapshot_after}
 use Rattle.tough_vault.specs.Step.{Step}
 
 abbrev pub versions_in : TimestampDoc → Pair
@@ -42,6 +43,15 @@ stored_timestamp verifies root found = do
   bytes ← found
   d ← timestamp_in bytes
   if_verified (timestamp_verdict verifies root d) d.role
+
+abbrev pub roles_in : SnapshotDoc → Roles
+roles_in s = record { version = s.head.version; items = items_in s.meta }
+
+abbrev pub stored_snapshot : Verifies → RootDoc → Option (List ℕ) → Option SnapshotDoc
+stored_snapshot verifies root found = do
+  bytes ← found
+  d ← snapshot_in bytes
+  if_verified (snapshot_verdict verifies root d) d.role
 
 -- a document or an instant without a text is refused
 abbrev pub needs : Option (List ℕ) → Option Reason
@@ -79,4 +89,15 @@ timestamp_step verifies root tip new start enforced = record {
   after = λ found. timestamp_after (stored_timestamp verifies root found) tip.timestamp new.role start enforced;
   bytes = timestamp_text new;
   entry = λ found. Timestamp (versions_in new.role) (is_some (stored_timestamp verifies root found));
+}
+
+-- Accepts a snapshot of the version that the timestamp lists (TUF specification 5.5).
+abbrev pub snapshot_step : Verifies → RootDoc → Last → ℕ → SignedDoc SnapshotDoc → ℤ → Bool → Step
+snapshot_step verifies root tip listed new start enforced = record {
+  file = snapshot_file;
+  reads = true;
+  before = snapshot_first listed (snapshot_verdict verifies root new) new.role;
+  after = λ found. snapshot_after (stored_snapshot verifies root found) tip.snapshot new.role start enforced;
+  bytes = snapshot_text new;
+  entry = λ found. Snapshot (roles_in new.role) (is_some (stored_snapshot verifies root found));
 }

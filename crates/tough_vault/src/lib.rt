@@ -8,6 +8,8 @@ mod memory;
 mod parts;
 mod prepare;
 mod rotated;
+mod snapshot_checks;
+mod snapshot_step;
 mod store;
 mod vault;
 

@@ -4,22 +4,26 @@ ghost use Rattle.std.specs.Prelude.{◌≡◌, List, [], true, false};
 ghost use Rattle.tough_schema.specs.Signature.{signed_doc};
 ghost use Rattle.tough_schema.specs.Root.{root_doc};
 ghost use Rattle.tough_schema.specs.Timestamp.{timestamp_doc};
+ghost use Rattle.tough_schema.specs.Snapshot.{snapshot_doc};
 ghost use Rattle.tough_vault.specs.Checks.{enforces};
 ghost use Rattle.tough_vault.specs.Journal.{no_tip, replay, Rises, Legal, NothingGoesBack, has_broken, notes_of, tip_of};
 ghost use Rattle.tough_vault.specs.Step.{Takes, Clears};
-ghost use Rattle.tough_vault.specs.Steps.{time_step, root_step, timestamp_step};
+ghost use Rattle.tough_vault.specs.Steps.{time_step, root_step, timestamp_step, snapshot_step};
 ghost use Rattle.tough_vault.specs.Parts.{Holds, NamesFree};
 ghost use Rattle.tough_vault.specs.Props.{Rises-prop, replays-prop};
 
 use crate::checks::{ExpirationEnforcement, StepError};
 use crate::entry::{Entry, Receipt, Tip};
 use crate::parts::conclude;
-use crate::prepare::{ROOT, TIME, TIMESTAMP, prepare_root, prepare_time, prepare_timestamp};
+use crate::prepare::{
+    ROOT, SNAPSHOT, TIME, TIMESTAMP, prepare_root, prepare_time, prepare_timestamp,
+};
 use crate::rotated::clear;
+use crate::snapshot_step::prepare_snapshot;
 use crate::store::Store;
 use jiff::Timestamp as Instant;
 use std::alloc::Global;
-use tough_schema::{Root, Signed, Timestamp, Verify};
+use tough_schema::{Root, Signed, Snapshot, Timestamp, Verify};
 
 /// A store, what was accepted from it, and the tip of that.
 #[derive(Drop)]
@@ -150,6 +154,45 @@ impl<S: Store> Vault<S> {
         conclude(store, journal, tip, TIMESTAMP, prepared)
     }
 
+    /// Accepts a snapshot of the version that the timestamp lists (TUF specification 5.5), and stores it as
+    /// `snapshot.json`.
+    ///
+    /// It refuses, in this order: `VersionMismatch`; `VerifyMetadata`; `SnapshotTargetsMetaMissing`; `DatastoreOpen`;
+    /// against a stored snapshot that the root verifies `OlderMetadata`, the stored one's `SnapshotTargetsMetaMissing`,
+    /// and for its names in order `SnapshotRoleMissing` or `SnapshotRoleRollback`; against the tip `OlderMetadata` and
+    /// the same of its names; `ExpiredMetadata` where `start` is past its expiry and that is enforced;
+    /// `DatastoreCreate`.
+    pub fn advance_snapshot<V: Verify>(
+        &mut self,
+        root: &Root,
+        listed: u64,
+        new: &Signed<Snapshot>,
+        start: Instant,
+        enforcement: ExpirationEnforcement,
+        verifier: &V,
+    ) -> Result<Receipt, StepError>
+        ensures { Takes S.tells S.files S.count (snapshot_step (V.verifies verifier.now) (root_doc root.now) (tip_in self.old) listed (signed_doc snapshot_doc new.now) start.nanosecond (enforces enforcement)) (parts_of self.old) (parts_of self.new) result }
+    {
+        let Vault {
+            alloc,
+            store,
+            journal,
+            tip,
+        } = self;
+        let prepared = prepare_snapshot(
+            *alloc,
+            store,
+            tip,
+            verifier,
+            root,
+            listed,
+            new,
+            start,
+            enforcement,
+        );
+        conclude(store, journal, tip, SNAPSHOT, prepared)
+    }
+
     /// The store.
     pub fn into_store(self) -> S
         ensures { result ≡ store_of self }
@@ -163,5 +206,9 @@ impl<S: Store> Vault<S> {
 mod documents;
 #[cfg(test)]
 mod faulty;
+#[cfg(test)]
+mod snapshot_documents;
+#[cfg(test)]
+mod snapshot_tests;
 #[cfg(test)]
 mod tests;

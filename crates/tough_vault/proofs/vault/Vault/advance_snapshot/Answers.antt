@@ -1,0 +1,28 @@
+use Rattle.tough_schema.specs.Signature.{signed_doc}
+use Rattle.tough_schema.specs.Root.{root_doc}
+use Rattle.tough_schema.specs.Snapshot.{snapshot_doc}
+use Rattle.tough_vault.specs.Checks.{enforces}
+use Rattle.tough_vault.specs.Journal.{tip_of}
+use Rattle.tough_vault.specs.Steps.{snapshot_step}
+use Rattle.tough_vault.specs.Parts.{parts}
+use Rattle.tough_vault.proofs.Taking.{takes}
+use Rattle.tough_vault.proofs.Fitting.{after_step, fits_snapshot}
+use Rattle.tough_vault.proofs.vault.Vault.advance_snapshot.Goals as goal
+
+pub returns : goal.returns
+returns g c = takes _ _ _ _ _ _ _ _ _ c.prepare_snapshot-prepared.ensures c.conclude.ensures
+
+pub invariant_of-self : goal.invariant_of-self
+invariant_of-self g c =
+    let self = c.args.self.now in
+    let verifies = g.V.Verify.verifies c.args.verifier.now in
+    let root = root_doc c.args.root.now in
+    let new = signed_doc snapshot_doc c.args.new.now in
+    let before = parts c.args.self.now.store c.args.self.now.journal.items c.args.self.now.tip in
+    let after = parts c.conclude.new.store c.conclude.new.journal.items c.conclude.new.tip in
+    let s = after_step g.S.Store.tells g.S.Store.files g.S.Store.count
+    (snapshot_step verifies root (tip_of self.tip) c.args.listed new c.args.start.nanosecond (enforces c.args.enforcement)) before after _ c.prepare_snapshot-prepared.result c.conclude.result
+    (record { replays = self.replays; rises = self.rises; free = self.free; holds = self.holds })
+    c.prepare_snapshot-prepared.ensures c.conclude.ensures
+    (fits_snapshot g.S.Store.tells g.S.Store.files g.S.Store.count before self.free (g.S.Store.files c.conclude.new.store) verifies root c.args.listed new c.args.start.nanosecond (enforces c.args.enforcement)) in
+    record { replays = s.replays; rises = s.rises; free = s.free; holds = s.holds }

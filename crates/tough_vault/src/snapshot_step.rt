@@ -1,0 +1,109 @@
+//! The first part of a snapshot's step: it reads and checks, and makes all that the write needs.
+
+ghost use Rattle.std.specs.Prelude.{◌≡◌, IfOk};
+ghost use Rattle.tough_schema.specs.Signature.{signed_doc};
+ghost use Rattle.tough_schema.specs.Root.{root_doc};
+ghost use Rattle.tough_schema.specs.Snapshot.{snapshot_doc};
+ghost use Rattle.tough_vault.specs.Stored.{content};
+ghost use Rattle.tough_vault.specs.Documents.{snapshot_text};
+ghost use Rattle.tough_vault.specs.Journal.{tip_of, Snapshot as SnapshotNote};
+ghost use Rattle.tough_vault.specs.Checks.{snapshot_where, enforces};
+ghost use Rattle.tough_vault.specs.Steps.{snapshot_step, stored_snapshot, roles_in};
+ghost use Rattle.tough_vault.specs.Parts.{Prepares, Carries};
+
+use crate::checks::{ExpirationEnforcement, StepError};
+use crate::document::document_bytes;
+use crate::entry::{Entry, Tip};
+use crate::parts::{Change, Prepared};
+use crate::prepare::SNAPSHOT;
+use crate::snapshot_checks::{check_snapshot, check_snapshot_late, versions_of};
+use crate::store::{Store, StoreError};
+use jiff::Timestamp as Instant;
+use std::alloc::{AllocError, Global};
+use tough_schema::{Error, ReadError, Root, Signed, Snapshot, Verify};
+
+// The stored snapshot, where the file reads and the root verifies it. The only refusal is want of memory.
+fn read_snapshot<V: Verify>(
+    alloc: Global,
+    verifier: &V,
+    root: &Root,
+    found: &Option<Vec<u8>>,
+) -> Result<Option<Snapshot>, AllocError>
+    ensures { IfOk result (λ old. snapshot_where old ≡ stored_snapshot (V.verifies verifier.now) (root_doc root.now) (content found.now)) }
+{
+    let Some(bytes) = found else {
+        return Ok(None);
+    };
+    let signed = match Signed::<Snapshot>::read(alloc, bytes.as_slice()) {
+        Ok(signed) => signed,
+        Err(ReadError::Memory) => return Err(AllocError),
+        Err(_) => return Ok(None),
+    };
+    match root.verify_role(alloc, &signed, verifier) {
+        Ok(()) => Ok(Some(signed.signed)),
+        Err(Error::Memory) => Err(AllocError),
+        Err(_) => Ok(None),
+    }
+}
+
+// What a snapshot's step writes and notes.
+fn noted_snapshot(
+    alloc: Global,
+    new: &Signed<Snapshot>,
+    had_stored: bool,
+) -> Result<Prepared, AllocError>
+    ensures { IfOk result (Carries (SnapshotNote (roles_in (snapshot_doc new.now.signed)) had_stored) (snapshot_text (signed_doc snapshot_doc new.now))) }
+{
+    let Ok(bytes) = document_bytes(alloc, new) else {
+        return Err(AllocError);
+    };
+    let entry = versions_of(alloc, &new.signed)?;
+    let receipt = versions_of(alloc, &new.signed)?;
+    let change = versions_of(alloc, &new.signed)?;
+    Ok(Prepared {
+        bytes,
+        entry: Entry::Snapshot(entry, had_stored),
+        receipt: Entry::Snapshot(receipt, had_stored),
+        change: Change::Snapshot(change),
+    })
+}
+
+pub(crate) fn prepare_snapshot<S: Store, V: Verify>(
+    alloc: Global,
+    store: &mut S,
+    tip: &Tip,
+    verifier: &V,
+    root: &Root,
+    listed: u64,
+    new: &Signed<Snapshot>,
+    start: Instant,
+    enforcement: ExpirationEnforcement,
+) -> Result<Prepared, StepError>
+    ensures { Prepares S.tells S.files S.count (snapshot_step (V.verifies verifier.now) (root_doc root.now) (tip_of tip.now) listed (signed_doc snapshot_doc new.now) start.nanosecond (enforces enforcement)) store.old store.new result }
+{
+    if let Err(error) = check_snapshot(alloc, verifier, root, listed, new) {
+        return Err(error);
+    }
+    let found = match store.read(alloc, SNAPSHOT) {
+        Ok(found) => found,
+        Err(StoreError::Failed) => return Err(StepError::DatastoreOpen),
+        Err(StoreError::Memory) => return Err(StepError::Memory),
+    };
+    let Ok(old) = read_snapshot(alloc, verifier, root, &found) else {
+        return Err(StepError::Memory);
+    };
+    if let Err(error) = check_snapshot_late(
+        alloc,
+        &old,
+        &tip.snapshot,
+        &new.signed,
+        start,
+        enforcement,
+    ) {
+        return Err(error);
+    }
+    let Ok(prepared) = noted_snapshot(alloc, new, old.is_some()) else {
+        return Err(StepError::Memory);
+    };
+    Ok(prepared)
+}
