@@ -1,6 +1,6 @@
 //! One of the interleaved loads.
 
-use tough::schema::{DemoVerify, Root, Signed, Timestamp};
+use tough::schema::{self, DemoVerify, Root, Signed, Timestamp};
 use tough::{Error, ExpirationEnforcement, MemoryStore, Vault};
 
 /// A load that has verified its root.
@@ -14,6 +14,7 @@ impl<'a> Load<'a> {
     pub fn begin(rt: &HostRuntime, root: &'a Signed<Root>) -> Result<Load<'a>, Error> {
         match root.signed.verify_role(rt.alloc(), root, &DemoVerify) {
             Ok(()) => Ok(Load { root: &root.signed }),
+            Err(schema::Error::Memory) => Err(Error::Memory),
             Err(source) => Err(Error::VerifyTrustedMetadata { source }),
         }
     }
