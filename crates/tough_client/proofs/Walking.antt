@@ -1,11 +1,11 @@
 -- What verification of a root says of the walk.
 use Rattle.std.proofs.Common.{◌≡◌, ℕ, ◌+◌, Result, Ok, ap, sym, ◌∙◌, subst}
 use Rattle.tough_keys.specs.Same.{Verifies}
-use Rattle.tough_schema.specs.Signature.{SignedDoc}
-use Rattle.tough_schema.specs.Root.{RootDoc, root_json}
-use Rattle.tough_schema.specs.Chain.{ReachesUnder, IsNext}
-use Rattle.tough_schema.specs.declared.role_type.RoleType.TheVariants as role
-use Rattle.tough_schema.proofs.Reached.{ok-reaches}
+use Rattle.tough_roles.specs.Signature.{SignedDoc}
+use Rattle.tough_roles.specs.Root.{RootDoc, root_json}
+use Rattle.tough_roles.specs.Chain.{ReachesUnder, IsNext}
+use Rattle.tough_roles.specs.declared.role_type.RoleType.TheVariants as role
+use Rattle.tough_roles.proofs.Reached.{ok-reaches}
 use Rattle.tough_client.specs.Walk.{root_verdict}
 
 -- a verdict of Ok: the root's threshold is reached

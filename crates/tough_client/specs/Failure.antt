@@ -1,7 +1,7 @@
 -- Why an update failed, apart from the texts of causes.
 use Rattle.std.specs.Prelude.{◌≡◌, ℕ, ℤ, List, Option, Result, Ok, Err, string_bytes, ⊤}
-use Rattle.tough_schema.specs.declared.role_type.RoleType.{RoleType}
-use Rattle.tough_schema.specs.Verdict.{Refused}
+use Rattle.tough_roles.specs.declared.role_type.RoleType.{RoleType}
+use Rattle.tough_roles.specs.Verdict.{Refused}
 use Rattle.tough_vault.specs.Checks as check
 use Rattle.tough_vault.specs.Checks.{Reason, refused, reason_of}
 use Rattle.tough_vault.specs.declared.checks.StepError.{StepError}

@@ -2,12 +2,12 @@
 use Rattle.std.specs.Prelude.{◌≡◌, ◌⊎◌, ℕ, ◌+◌, ◌==◌, List, Option, Some, None, Result, Ok, Err, option_and_then, if◌then◌else◌}
 use Rattle.tough_json.specs.Results.{json_of}
 use Rattle.tough_keys.specs.Same.{Verifies}
-use Rattle.tough_schema.specs.Signature.{SignedDoc, signed_at}
-use Rattle.tough_schema.specs.Root.{RootDoc, root_at, root_json}
-use Rattle.tough_schema.specs.Policy.{policy}
-use Rattle.tough_schema.specs.Verdict.{Refused, verdict}
-use Rattle.tough_schema.specs.Chain.{text_by}
-use Rattle.tough_schema.specs.declared.role_type.RoleType.TheVariants as role
+use Rattle.tough_roles.specs.Signature.{SignedDoc, signed_at}
+use Rattle.tough_roles.specs.Root.{RootDoc, root_at, root_json}
+use Rattle.tough_roles.specs.Policy.{policy}
+use Rattle.tough_roles.specs.Verdict.{Refused, verdict}
+use Rattle.tough_roles.specs.Chain.{text_by}
+use Rattle.tough_roles.specs.declared.role_type.RoleType.TheVariants as role
 use Rattle.tough_vault.specs.Checks.{VerifyMetadata, OlderMetadata}
 use Rattle.tough_client.specs.declared.error.Error.{Error}
 use Rattle.tough_client.specs.Failure.{Failure, Memory, failure_of, ParseTrustedMetadata, VerifyTrustedMetadata, ParseMetadata, Checked}

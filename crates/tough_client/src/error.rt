@@ -5,7 +5,7 @@ ghost use Rattle.tough_client.specs.declared.error.Error.TheVariants.{Memory};
 
 use jiff::Timestamp as Instant;
 use std::alloc::AllocError;
-use tough_schema::{self as schema, ReadError, RoleType};
+use tough_roles::{self as schema, ReadError, RoleType};
 use tough_vault::{Refusal, StepError};
 
 /// Why an update, or a call on a repository, failed.

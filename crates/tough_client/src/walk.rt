@@ -1,15 +1,15 @@
 //! The walk from root to root (TUF specification 5.3).
 
 ghost use Rattle.std.specs.Prelude.{◌≡◌, [], List, IfOk, IfErr, OnOk};
-ghost use Rattle.tough_schema.specs.Signature.{SignedDoc, signed_doc};
-ghost use Rattle.tough_schema.specs.Root.{RootDoc, root_doc};
-ghost use Rattle.tough_schema.specs.Chain.{IsChain, IsNext};
+ghost use Rattle.tough_roles.specs.Signature.{SignedDoc, signed_doc};
+ghost use Rattle.tough_roles.specs.Root.{RootDoc, root_doc};
+ghost use Rattle.tough_roles.specs.Chain.{IsChain, IsNext};
 ghost use Rattle.tough_client.specs.Failure.{Gives};
 ghost use Rattle.tough_client.specs.Walk.{first_root, next_root, root_verdict, IsUnverified};
 
 use crate::error::Error;
 use std::alloc::Global;
-use tough_schema::{self as schema, ReadError, RoleType, Root, Signed, Verify};
+use tough_roles::{self as schema, ReadError, RoleType, Root, Signed, Verify};
 
 /// The root that was handed in: `ParseTrustedMetadata` where the bytes are no signed root, `VerifyTrustedMetadata`
 /// where it doesn't reach its own threshold.

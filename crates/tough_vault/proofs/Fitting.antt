@@ -4,12 +4,12 @@ use Rattle.std.proofs.lemmas.Bool.Decides.{nat_tests}
 use Rattle.std.proofs.lemmas.Slice.Eq.{bytes_eq-Decides}
 use Rattle.std.specs.Str.{bytes_eq}
 use Rattle.std.specs.Prelude.{if◌then◌else◌}
-use Rattle.tough_schema.specs.Signature.{SignedDoc}
-use Rattle.tough_schema.specs.Root.{RootDoc}
-use Rattle.tough_schema.specs.Timestamp.{TimestampDoc}
-use Rattle.tough_schema.specs.Snapshot.{SnapshotDoc}
+use Rattle.tough_roles.specs.Signature.{SignedDoc}
+use Rattle.tough_roles.specs.Root.{RootDoc}
+use Rattle.tough_roles.specs.Timestamp.{TimestampDoc}
+use Rattle.tough_roles.specs.Snapshot.{SnapshotDoc}
 use Rattle.tough_keys.specs.Same.{Verifies}
-use Rattle.tough_schema.specs.declared.role_type.RoleType.TheVariants as role
+use Rattle.tough_roles.specs.declared.role_type.RoleType.TheVariants as role
 use Rattle.tough_vault.specs.declared.entry.Receipt.{Receipt}
 use Rattle.tough_vault.specs.declared.parts.Prepared.{Prepared}
 use Rattle.tough_vault.specs.declared.checks.StepError.{StepError}

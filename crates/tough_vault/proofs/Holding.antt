@@ -2,10 +2,10 @@
 use Rattle.std.proofs.Common.{◌≡◌, ◌≢◌, ℕ, ℤ, List, [], ◌∷◌, ◌++◌, Option, None, Some, Bool, false, slice_get, refl, sym, ap, ◌∙◌, inl, inr, nat_eq, length, arith}
 use Rattle.std.proofs.lemmas.Bool.Decides.{nat_tests}
 use Rattle.tough_vault.specs.Stored.{Files, SameElsewhere}
-use Rattle.tough_schema.specs.Signature.{SignedDoc}
-use Rattle.tough_schema.specs.Root.{RootDoc}
-use Rattle.tough_schema.specs.Timestamp.{TimestampDoc}
-use Rattle.tough_schema.specs.Snapshot.{SnapshotDoc}
+use Rattle.tough_roles.specs.Signature.{SignedDoc}
+use Rattle.tough_roles.specs.Root.{RootDoc}
+use Rattle.tough_roles.specs.Timestamp.{TimestampDoc}
+use Rattle.tough_roles.specs.Snapshot.{SnapshotDoc}
 use Rattle.tough_vault.specs.Files.{time_file, root_file, timestamp_file, snapshot_file, IsFree}
 use Rattle.tough_vault.specs.Documents.{root_text, timestamp_text, snapshot_text}
 use Rattle.tough_vault.specs.Steps.{time_text, versions_in, roles_in}

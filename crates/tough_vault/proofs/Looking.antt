@@ -6,8 +6,8 @@ use Rattle.std.specs.Ordering.{is_eq}
 use Rattle.std.specs.Str.{bytes_eq}
 use Rattle.std.specs.Map.{lookup}
 use Rattle.std.proofs.lemmas.Map.Text.{is_eq-slice_cmp}
-use Rattle.tough_schema.specs.declared.timestamp.Metafile.{Metafile}
-use Rattle.tough_schema.specs.Timestamp.{MetafileDoc, metafile_doc, metafiles_doc}
+use Rattle.tough_roles.specs.declared.timestamp.Metafile.{Metafile}
+use Rattle.tough_roles.specs.Timestamp.{MetafileDoc, metafile_doc, metafiles_doc}
 use Rattle.std.specs.Prelude.{if◌then◌else◌}
 use Rattle.tough_vault.specs.Documents.{metafile_in}
 use Rattle.tough_vault.specs.Journal.{version_in}

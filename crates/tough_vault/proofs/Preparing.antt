@@ -5,10 +5,10 @@ use Rattle.tough_vault.specs.declared.parts.Prepared.{Prepared}
 use Rattle.tough_vault.specs.declared.checks.StepError.{StepError}
 use Rattle.tough_vault.specs.declared.checks.StepError.TheVariants.{Refused, DatastoreOpen, DatastoreCreate, DatastoreRemove, Memory}
 use Rattle.tough_vault.specs.Checks.{Reason, Checked, or_else, timestamp_where, snapshot_where}
-use Rattle.tough_schema.specs.declared.timestamp.Timestamp.{Timestamp as TimestampFile}
-use Rattle.tough_schema.specs.Timestamp.{TimestampDoc}
-use Rattle.tough_schema.specs.declared.snapshot.Snapshot.{Snapshot as SnapshotFile}
-use Rattle.tough_schema.specs.Snapshot.{SnapshotDoc}
+use Rattle.tough_roles.specs.declared.timestamp.Timestamp.{Timestamp as TimestampFile}
+use Rattle.tough_roles.specs.Timestamp.{TimestampDoc}
+use Rattle.tough_roles.specs.declared.snapshot.Snapshot.{Snapshot as SnapshotFile}
+use Rattle.tough_roles.specs.Snapshot.{SnapshotDoc}
 use Rattle.tough_vault.specs.Journal.{Timestamp, Snapshot, Roles, Last}
 use Rattle.tough_vault.specs.Steps.{needs}
 use Rattle.tough_vault.specs.Step.{Step, Finds}

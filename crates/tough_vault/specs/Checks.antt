@@ -1,17 +1,17 @@
 -- The checks of the steps (TUF specification 5.3 to 5.6). Each is the refusal that it gives, if any; of a list the first counts.
 use Rattle.std.specs.Prelude.{◌≡◌, ◌==◌, ℕ, ℤ, List, [], ◌∷◌, map, length, Option, None, Some, Result, Ok, Err, Bool, true, false, not, nat_lt, int_lt, is_some, string_bytes, ◌&&◌}
 use Rattle.jiff.specs.declared.timestamp.Timestamp.{Timestamp as Instant}
-use Rattle.tough_schema.specs.declared.role_type.RoleType.{RoleType}
-use Rattle.tough_schema.specs.declared.role_type.RoleType.TheVariants as role
-use Rattle.tough_schema.specs.Timestamp.{TimestampDoc, MetafileDoc, timestamp_doc}
-use Rattle.tough_schema.specs.declared.timestamp.Timestamp.{Timestamp as TimestampFile}
-use Rattle.tough_schema.specs.declared.snapshot.Snapshot.{Snapshot as SnapshotFile}
-use Rattle.tough_schema.specs.Snapshot.{SnapshotDoc, snapshot_doc}
+use Rattle.tough_roles.specs.declared.role_type.RoleType.{RoleType}
+use Rattle.tough_roles.specs.declared.role_type.RoleType.TheVariants as role
+use Rattle.tough_roles.specs.Timestamp.{TimestampDoc, MetafileDoc, timestamp_doc}
+use Rattle.tough_roles.specs.declared.timestamp.Timestamp.{Timestamp as TimestampFile}
+use Rattle.tough_roles.specs.declared.snapshot.Snapshot.{Snapshot as SnapshotFile}
+use Rattle.tough_roles.specs.Snapshot.{SnapshotDoc, snapshot_doc}
 use Rattle.tough_vault.specs.declared.checks.ExpirationEnforcement.{ExpirationEnforcement}
 use Rattle.tough_vault.specs.declared.checks.ExpirationEnforcement.TheVariants.{Safe, Unsafe}
-use Rattle.tough_schema.specs.declared.error.Error.{Error}
-use Rattle.tough_schema.specs.declared.error.Error.TheVariants as error
-use Rattle.tough_schema.specs.Verdict.{Refused, MissingRole, JsonSerialization, DuplicateKeyId, SignatureThreshold}
+use Rattle.tough_roles.specs.declared.error.Error.{Error}
+use Rattle.tough_roles.specs.declared.error.Error.TheVariants as error
+use Rattle.tough_roles.specs.Verdict.{Refused, MissingRole, JsonSerialization, DuplicateKeyId, SignatureThreshold}
 use Rattle.tough_vault.specs.declared.checks.Refusal.{Refusal}
 use Rattle.tough_vault.specs.declared.checks.Refusal.TheVariants as refusal
 use Rattle.tough_vault.specs.declared.checks.StepError.{StepError}

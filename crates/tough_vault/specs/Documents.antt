@@ -6,14 +6,14 @@ use Rattle.serde_json.specs.Data.{Data}
 use Rattle.serde_json.specs.Written.{has_float, compact_text}
 use Rattle.tough_base.specs.CanonicalText.{canonical_of}
 use Rattle.tough_json.specs.Results.{json_of}
-use Rattle.tough_schema.specs.Signature.{SignedDoc, signed_at, signed_json}
-use Rattle.tough_schema.specs.Root.{RootDoc, root_json}
-use Rattle.tough_schema.specs.Timestamp.{TimestampDoc, MetafileDoc, timestamp_at, timestamp_json}
-use Rattle.tough_schema.specs.Snapshot.{SnapshotDoc, snapshot_at, snapshot_json}
+use Rattle.tough_roles.specs.Signature.{SignedDoc, signed_at, signed_json}
+use Rattle.tough_roles.specs.Root.{RootDoc, root_json}
+use Rattle.tough_roles.specs.Timestamp.{TimestampDoc, MetafileDoc, timestamp_at, timestamp_json}
+use Rattle.tough_roles.specs.Snapshot.{SnapshotDoc, snapshot_at, snapshot_json}
 use Rattle.tough_keys.specs.Same.{Verifies}
-use Rattle.tough_schema.specs.Policy.{policy}
-use Rattle.tough_schema.specs.Verdict.{Refused, verdict}
-use Rattle.tough_schema.specs.declared.role_type.RoleType.TheVariants as role
+use Rattle.tough_roles.specs.Policy.{policy}
+use Rattle.tough_roles.specs.Verdict.{Refused, verdict}
+use Rattle.tough_roles.specs.declared.role_type.RoleType.TheVariants as role
 use Rattle.tough_vault.specs.Files.{snapshot_file}
 
 -- The text of a JSON value in a store: compact JSON (RFC 8259). A value that holds a float has none.

@@ -1,9 +1,9 @@
 -- What a vault holds, and the parts of a step's work.
 use Rattle.std.specs.Prelude.{◌≡◌, ◌≢◌, ℕ, ℤ, List, [], ◌∷◌, ◌++◌, length, Option, None, Some, Result, Err, Bool, true, IfOk, IfErr, OnOk, IsErrOf, slice_get}
-use Rattle.tough_schema.specs.Signature.{SignedDoc}
-use Rattle.tough_schema.specs.Root.{RootDoc}
-use Rattle.tough_schema.specs.Timestamp.{TimestampDoc}
-use Rattle.tough_schema.specs.Snapshot.{SnapshotDoc}
+use Rattle.tough_roles.specs.Signature.{SignedDoc}
+use Rattle.tough_roles.specs.Root.{RootDoc}
+use Rattle.tough_roles.specs.Timestamp.{TimestampDoc}
+use Rattle.tough_roles.specs.Snapshot.{SnapshotDoc}
 use Rattle.tough_vault.specs.Stored.{Files, SameFiles, SameElsewhere}
 use Rattle.tough_vault.specs.declared.entry.Receipt.{Receipt}
 use Rattle.tough_vault.specs.declared.entry.Entry.{Entry}

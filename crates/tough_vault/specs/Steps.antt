@@ -1,11 +1,11 @@
 -- The steps that write, each as the table of its refusals and what it writes and notes.
 use Rattle.std.specs.Prelude.{ℕ, ℤ, List, [], ◌∷◌, Option, None, Some, Bool, true, false, is_some, option_map, option_and_then, Result, Ok, Err}
-use Rattle.tough_schema.specs.Signature.{SignedDoc}
-use Rattle.tough_schema.specs.Root.{RootDoc}
-use Rattle.tough_schema.specs.Timestamp.{TimestampDoc}
-use Rattle.tough_schema.specs.Snapshot.{SnapshotDoc}
+use Rattle.tough_roles.specs.Signature.{SignedDoc}
+use Rattle.tough_roles.specs.Root.{RootDoc}
+use Rattle.tough_roles.specs.Timestamp.{TimestampDoc}
+use Rattle.tough_roles.specs.Snapshot.{SnapshotDoc}
 use Rattle.tough_keys.specs.Same.{Verifies}
-use Rattle.tough_schema.specs.Verdict.{Refused}
+use Rattle.tough_roles.specs.Verdict.{Refused}
 use Rattle.tough_json.specs.Results.{json_of}
 use Rattle.tough_json.specs.Reading.{instant, ◌>>=◌}
 use Rattle.tough_json.specs.Moment.{moment_text}

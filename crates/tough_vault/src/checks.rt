@@ -1,9 +1,9 @@
 //! The checks of the steps, in their order.
 
 ghost use Rattle.std.specs.Prelude.{◌≡◌, option_map, option_copied};
-ghost use Rattle.tough_schema.specs.Signature.{signed_doc};
-ghost use Rattle.tough_schema.specs.Root.{root_doc};
-ghost use Rattle.tough_schema.specs.Timestamp.{timestamp_doc, metafile_doc};
+ghost use Rattle.tough_roles.specs.Signature.{signed_doc};
+ghost use Rattle.tough_roles.specs.Root.{root_doc};
+ghost use Rattle.tough_roles.specs.Timestamp.{timestamp_doc, metafile_doc};
 ghost use Rattle.tough_vault.specs.Documents.{timestamp_verdict, metafile_in};
 ghost use Rattle.tough_vault.specs.Files.{snapshot_file};
 ghost use Rattle.tough_vault.specs.Journal.{pair_of, pair_where, time_where};
@@ -12,7 +12,7 @@ ghost use Rattle.tough_vault.specs.Checks.{Checked, expiry, later, time_after, s
 use crate::entry::TimestampVersions;
 use jiff::Timestamp as Instant;
 use std::alloc::Global;
-use tough_schema::{Error, Metafile, RoleType, Root, Signed, Timestamp, Verify};
+use tough_roles::{Error, Metafile, RoleType, Root, Signed, Timestamp, Verify};
 
 /// Whether a document that has expired is refused.
 #[derive(Clone, Copy, Debug, PartialEq, Eq, Drop)]

@@ -2,13 +2,13 @@
 
 ghost use Rattle.std.specs.Prelude.{◌≡◌, option_and_then};
 ghost use Rattle.tough_json.specs.Results.{Writes};
-ghost use Rattle.tough_schema.specs.Document.{document_json};
+ghost use Rattle.tough_roles.specs.Document.{document_json};
 ghost use Rattle.tough_vault.specs.Documents.{stored_text};
 
 use std::alloc::Global;
 use tough_base::holds_float;
 use tough_json::text::bytes_of;
-use tough_schema::{Role, Signed, WriteError};
+use tough_roles::{Role, Signed, WriteError};
 
 /// The document as compact JSON; `Unwritable` where it has none, or where that holds a float.
 pub(crate) fn document_bytes<T: Role>(

@@ -1,9 +1,9 @@
 //! The first part of each step: it reads and checks, and makes all that the write needs.
 
 ghost use Rattle.std.specs.Prelude.{◌≡◌, IfOk, Some};
-ghost use Rattle.tough_schema.specs.Signature.{signed_doc};
-ghost use Rattle.tough_schema.specs.Root.{root_doc};
-ghost use Rattle.tough_schema.specs.Timestamp.{timestamp_doc};
+ghost use Rattle.tough_roles.specs.Signature.{signed_doc};
+ghost use Rattle.tough_roles.specs.Root.{root_doc};
+ghost use Rattle.tough_roles.specs.Timestamp.{timestamp_doc};
 ghost use Rattle.tough_vault.specs.Stored.{content};
 ghost use Rattle.tough_vault.specs.Journal.{tip_of, time_where};
 ghost use Rattle.tough_vault.specs.Checks.{timestamp_where, enforces};
@@ -24,7 +24,7 @@ use serde_json::Value;
 use std::alloc::{AllocError, Global};
 use tough_json::text::{bytes_of, value_of};
 use tough_json::{MomentError, moment_text};
-use tough_schema::{Error, ReadError, Root, Signed, Timestamp, Verify, WriteError};
+use tough_roles::{Error, ReadError, Root, Signed, Timestamp, Verify, WriteError};
 
 pub(crate) const TIME: &str = "latest_known_time.json";
 

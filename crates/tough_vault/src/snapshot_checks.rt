@@ -1,10 +1,10 @@
 //! The checks of a snapshot's step, in their order.
 
 ghost use Rattle.std.specs.Prelude.{◌≡◌, option_map, option_copied, IfOk, map};
-ghost use Rattle.tough_schema.specs.Signature.{signed_doc};
-ghost use Rattle.tough_schema.specs.Root.{root_doc};
-ghost use Rattle.tough_schema.specs.Timestamp.{metafile_doc, metafiles_doc};
-ghost use Rattle.tough_schema.specs.Snapshot.{snapshot_doc};
+ghost use Rattle.tough_roles.specs.Signature.{signed_doc};
+ghost use Rattle.tough_roles.specs.Root.{root_doc};
+ghost use Rattle.tough_roles.specs.Timestamp.{metafile_doc, metafiles_doc};
+ghost use Rattle.tough_roles.specs.Snapshot.{snapshot_doc};
 ghost use Rattle.tough_vault.specs.Documents.{snapshot_verdict, metafile_in};
 ghost use Rattle.tough_vault.specs.Files.{targets_file};
 ghost use Rattle.tough_vault.specs.Journal.{roles_where, items_of, roles_of, version_in};
@@ -16,7 +16,7 @@ use crate::entry::{ListedVersion, SnapshotVersions};
 use jiff::Timestamp as Instant;
 use std::alloc::{AllocError, Global};
 use std::collections::BTreeMap;
-use tough_schema::{Error, Metafile, RoleType, Root, Signed, Snapshot, Verify};
+use tough_roles::{Error, Metafile, RoleType, Root, Signed, Snapshot, Verify};
 
 // A snapshot lists `targets.json`.
 fn check_form(snapshot: &Snapshot) -> Result<(), StepError>

@@ -1,9 +1,9 @@
 //! The first part of a snapshot's step: it reads and checks, and makes all that the write needs.
 
 ghost use Rattle.std.specs.Prelude.{◌≡◌, IfOk};
-ghost use Rattle.tough_schema.specs.Signature.{signed_doc};
-ghost use Rattle.tough_schema.specs.Root.{root_doc};
-ghost use Rattle.tough_schema.specs.Snapshot.{snapshot_doc};
+ghost use Rattle.tough_roles.specs.Signature.{signed_doc};
+ghost use Rattle.tough_roles.specs.Root.{root_doc};
+ghost use Rattle.tough_roles.specs.Snapshot.{snapshot_doc};
 ghost use Rattle.tough_vault.specs.Stored.{content};
 ghost use Rattle.tough_vault.specs.Documents.{snapshot_text};
 ghost use Rattle.tough_vault.specs.Journal.{tip_of, Snapshot as SnapshotNote};
@@ -20,7 +20,7 @@ use crate::snapshot_checks::{check_snapshot, check_snapshot_late, versions_of};
 use crate::store::{Store, StoreError};
 use jiff::Timestamp as Instant;
 use std::alloc::{AllocError, Global};
-use tough_schema::{Error, ReadError, Root, Signed, Snapshot, Verify};
+use tough_roles::{Error, ReadError, Root, Signed, Snapshot, Verify};
 
 // The stored snapshot, where the file reads and the root verifies it. The only refusal is want of memory.
 fn read_snapshot<V: Verify>(

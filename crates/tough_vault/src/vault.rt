@@ -1,10 +1,10 @@
 //! A store, with the journal of what was accepted from it.
 
 ghost use Rattle.std.specs.Prelude.{◌≡◌, List, [], true, false};
-ghost use Rattle.tough_schema.specs.Signature.{signed_doc};
-ghost use Rattle.tough_schema.specs.Root.{root_doc};
-ghost use Rattle.tough_schema.specs.Timestamp.{timestamp_doc};
-ghost use Rattle.tough_schema.specs.Snapshot.{snapshot_doc};
+ghost use Rattle.tough_roles.specs.Signature.{signed_doc};
+ghost use Rattle.tough_roles.specs.Root.{root_doc};
+ghost use Rattle.tough_roles.specs.Timestamp.{timestamp_doc};
+ghost use Rattle.tough_roles.specs.Snapshot.{snapshot_doc};
 ghost use Rattle.tough_vault.specs.Checks.{enforces};
 ghost use Rattle.tough_vault.specs.Journal.{no_tip, replay, Rises, Legal, NothingGoesBack, has_broken, notes_of, tip_of};
 ghost use Rattle.tough_vault.specs.Step.{Takes, Clears};
@@ -23,7 +23,7 @@ use crate::snapshot_step::prepare_snapshot;
 use crate::store::Store;
 use jiff::Timestamp as Instant;
 use std::alloc::Global;
-use tough_schema::{Root, Signed, Snapshot, Timestamp, Verify};
+use tough_roles::{Root, Signed, Snapshot, Timestamp, Verify};
 
 /// A store, what was accepted from it, and the tip of that.
 #[derive(Drop)]

@@ -2,7 +2,7 @@ use crate::error::Error;
 use crate::walk::documents::{FIRST, SECOND, SECOND_BY_FIRST, SECOND_BY_ITSELF, THIRD, UNSIGNED};
 use crate::walk::{first_root, next_root};
 use std::test::Fail;
-use tough_schema::{DemoVerify, RoleType, Root, Signed};
+use tough_roles::{DemoVerify, RoleType, Root, Signed};
 
 #[test]
 fn a_root_vouches_for_itself(rt: HostRuntime) -> Result<(), Fail> {

@@ -6,7 +6,7 @@ use crate::vault::snapshot_documents::{
 use crate::{Entry, ExpirationEnforcement, MemoryStore, Receipt, Refusal, StepError, Vault};
 use jiff::Timestamp as Instant;
 use std::test::Fail;
-use tough_schema::{DemoVerify, RoleType, Root, Signed, Snapshot, Timestamp};
+use tough_roles::{DemoVerify, RoleType, Root, Signed, Snapshot, Timestamp};
 
 // Puts a snapshot on the vault, in the year 1970.
 fn offer(

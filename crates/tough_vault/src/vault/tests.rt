@@ -9,7 +9,7 @@ use crate::{
 };
 use jiff::Timestamp as Instant;
 use std::test::Fail;
-use tough_schema::{DemoVerify, RoleType, Root, Signed, Timestamp};
+use tough_roles::{DemoVerify, RoleType, Root, Signed, Timestamp};
 
 fn root(rt: &HostRuntime) -> Result<Signed<Root>, Fail> {
     Ok(Signed::<Root>::read(rt.alloc(), ROOT.as_bytes())?)

@@ -1,5 +1,5 @@
-use Rattle.tough_schema.specs.Signature.{signed_doc}
-use Rattle.tough_schema.specs.Root.{root_doc}
+use Rattle.tough_roles.specs.Signature.{signed_doc}
+use Rattle.tough_roles.specs.Root.{root_doc}
 use Rattle.tough_client.proofs.Walking.{under}
 use Rattle.tough_client.proofs.walk.first_root.Goals as goal
 

@@ -1,6 +1,6 @@
 use Rattle.std.proofs.Common.{◌+◌, ap, sym, ◌∙◌}
-use Rattle.tough_schema.specs.Signature.{signed_doc}
-use Rattle.tough_schema.specs.Root.{root_doc}
+use Rattle.tough_roles.specs.Signature.{signed_doc}
+use Rattle.tough_roles.specs.Root.{root_doc}
 use Rattle.tough_client.proofs.Walking.{follows}
 use Rattle.tough_client.proofs.walk.next_root.Goals as goal
 

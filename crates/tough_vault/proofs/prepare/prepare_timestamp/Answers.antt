@@ -1,5 +1,5 @@
 use Rattle.std.proofs.Common.{Some, sym, ap, ◌∙◌}
-use Rattle.tough_schema.specs.Timestamp.{timestamp_doc}
+use Rattle.tough_roles.specs.Timestamp.{timestamp_doc}
 use Rattle.tough_vault.specs.Stored.{content}
 use Rattle.tough_vault.specs.Journal.{pair_where}
 use Rattle.tough_vault.specs.Checks.{timestamp_after, enforces}

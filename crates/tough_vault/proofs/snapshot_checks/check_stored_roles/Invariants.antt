@@ -1,6 +1,6 @@
 use Rattle.std.proofs.Common.{◌≡◌}
-use Rattle.tough_schema.specs.Timestamp.{metafiles_doc}
-use Rattle.tough_schema.specs.Snapshot.{snapshot_doc}
+use Rattle.tough_roles.specs.Timestamp.{metafiles_doc}
+use Rattle.tough_roles.specs.Snapshot.{snapshot_doc}
 use Rattle.tough_vault.specs.Checks.{fallen, items_in}
 use Rattle.tough_vault.proofs.snapshot_checks.check_stored_roles.Given as goal
 

@@ -1,5 +1,5 @@
 use Rattle.std.proofs.Common.{◌≡◌, drop}
-use Rattle.tough_schema.specs.Snapshot.{snapshot_doc}
+use Rattle.tough_roles.specs.Snapshot.{snapshot_doc}
 use Rattle.tough_vault.specs.Journal.{items_of}
 use Rattle.tough_vault.specs.Checks.{fallen, items_in}
 use Rattle.tough_vault.proofs.snapshot_checks.check_tip_roles.Given as goal

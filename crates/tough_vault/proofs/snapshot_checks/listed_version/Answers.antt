@@ -1,5 +1,5 @@
 use Rattle.std.proofs.Common.{Some, option_map, sym, ap, ◌∙◌}
-use Rattle.tough_schema.specs.Timestamp.{metafile_doc}
+use Rattle.tough_roles.specs.Timestamp.{metafile_doc}
 use Rattle.tough_vault.proofs.Looking.{versioned}
 use Rattle.tough_vault.proofs.snapshot_checks.listed_version.Goals as goal
 

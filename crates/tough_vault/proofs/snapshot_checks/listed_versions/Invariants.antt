@@ -1,5 +1,5 @@
 use Rattle.std.proofs.Common.{◌≡◌, ◌++◌}
-use Rattle.tough_schema.specs.Timestamp.{metafiles_doc}
+use Rattle.tough_roles.specs.Timestamp.{metafiles_doc}
 use Rattle.tough_vault.specs.Journal.{items_of}
 use Rattle.tough_vault.specs.Checks.{items_in}
 use Rattle.tough_vault.proofs.snapshot_checks.listed_versions.Given as goal

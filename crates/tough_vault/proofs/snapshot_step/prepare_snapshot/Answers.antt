@@ -1,5 +1,5 @@
 use Rattle.std.proofs.Common.{Some, sym, ap, ◌∙◌}
-use Rattle.tough_schema.specs.Snapshot.{snapshot_doc}
+use Rattle.tough_roles.specs.Snapshot.{snapshot_doc}
 use Rattle.tough_vault.specs.Stored.{content}
 use Rattle.tough_vault.specs.Journal.{roles_where}
 use Rattle.tough_vault.specs.Checks.{snapshot_after, enforces}

@@ -1,5 +1,5 @@
-use Rattle.tough_schema.specs.Signature.{signed_doc}
-use Rattle.tough_schema.specs.Root.{root_doc}
+use Rattle.tough_roles.specs.Signature.{signed_doc}
+use Rattle.tough_roles.specs.Root.{root_doc}
 use Rattle.tough_vault.specs.Steps.{root_step}
 use Rattle.tough_vault.specs.Parts.{parts}
 use Rattle.tough_vault.proofs.Taking.{takes}

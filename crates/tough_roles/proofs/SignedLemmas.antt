@@ -1,0 +1,43 @@
+-- What is written for a signed document is read as it.
+use Rattle.std.proofs.Common.{◌≡◌, List, codes, Option, Some, None, inl, inr, refl}
+use Rattle.serde_json.specs.Data.{Data, array, object, no_members}
+use Rattle.tough_json.specs.Reading.{◌>>=◌, hexadecimal, listing}
+use Rattle.tough_json.specs.Writing.{with, hexadecimal_json, all_json}
+use Rattle.tough_json.proofs.WriteLemmas.{bind_ok, some-inj, required-with, hexadecimal-back, all-back}
+use Rattle.tough_roles.specs.Signature.{SignatureDoc, signature_at, signature_json, signed_parts, signed_parts_json, signed_at, signed_doc}
+use Rattle.tough_roles.specs.declared.signed.Signed.{Signed}
+use Rattle.tough_roles.specs.Document.{IsSigned, IsNotSigned}
+
+pub signature-back : (s : SignatureDoc) (d : Data) → signature_json s ≡ Some d → signature_at d ≡ Some s
+unfolding signature_json signature_at
+signature-back s d w =
+    let a = bind_ok (hexadecimal_json s.sig) (λ x. with (codes "sig") x no_members >>= λ m. hexadecimal_json s.keyid >>= λ id. with (codes "keyid") id m >>= λ ms. Some (object ms)) d w in
+    let b = bind_ok (with (codes "sig") a.0 no_members) (λ m. hexadecimal_json s.keyid >>= λ id. with (codes "keyid") id m >>= λ ms. Some (object ms)) d a.2 in
+    let c = bind_ok (hexadecimal_json s.keyid) (λ id. with (codes "keyid") id b.0 >>= λ ms. Some (object ms)) d b.2 in
+    let e = bind_ok (with (codes "keyid") c.0 b.0) (λ ms. Some (object ms)) d c.2 in
+    rw (
+      ← some-inj e.2,
+      required-with (codes "keyid") hexadecimal c.0 b.0 e.0 s.keyid e.1 (hexadecimal-back s.keyid c.0 c.1),
+      required-with (codes "sig") hexadecimal a.0 no_members b.0 s.sig b.1 (hexadecimal-back s.sig a.0 a.1),
+    ) refl
+
+pub signed-back : (role : Data) (ss : List SignatureDoc) (d : Data) → signed_parts_json role ss ≡ Some d → signed_parts d ≡ Some (role, ss)
+unfolding signed_parts_json signed_parts
+signed-back role ss d w =
+    let a = bind_ok (all_json signature_json ss) (λ ds. with (codes "signatures") (array ds) no_members >>= λ m. with (codes "signed") role m >>= λ ms. Some (object ms)) d w in
+    let b = bind_ok (with (codes "signatures") (array a.0) no_members) (λ m. with (codes "signed") role m >>= λ ms. Some (object ms)) d a.2 in
+    let c = bind_ok (with (codes "signed") role b.0) (λ ms. Some (object ms)) d b.2 in
+    rw (
+      ← some-inj c.2,
+      required-with (codes "signed") Some role b.0 c.0 role c.1 refl,
+      required-with (codes "signatures") (listing signature_at) (array a.0) no_members b.0 ss b.1 (all-back signature_at signature_json ss a.0 signature-back a.1),
+    ) refl
+
+-- ---- a signed document as an equation on its plain form
+
+pub signed-read : {T A : Type 0} (f : Data → Option A) (doc : T → A) (d : Data) (s : Signed T) → IsSigned (λ e x. f e ≡ Some (doc x)) d s → signed_at f d ≡ Some (signed_doc doc s)
+signed-read f doc d s h = rw (h.found, h.read) refl
+
+pub signed-refused : {A : Type 0} (f : Data → Option A) (d : Data) → IsNotSigned (λ e. f e ≡ None) d → signed_at f d ≡ None
+signed-refused f d (inl none) = rw none refl
+signed-refused f d (inr (role, ss, found, none)) = rw (found, none) refl

@@ -1,0 +1,13 @@
+use Rattle.std.proofs.Common.{refl}
+use Rattle.tough_roles.specs.Snapshot.{snapshot_at, snapshot_doc}
+use Rattle.tough_roles.proofs.SignedLemmas.{signed-read, signed-refused}
+use Rattle.tough_roles.proofs.laws.signed_snapshot.Goals as goal
+
+pub returns-clause-read : goal.returns-clause-read
+returns-clause-read c = λ d s h. signed-read snapshot_at snapshot_doc d s h
+
+pub returns-clause-refused : goal.returns-clause-refused
+returns-clause-refused c = signed-refused snapshot_at
+
+pub returns-clause-written : goal.returns-clause-written
+returns-clause-written c = λ s. refl

@@ -1,0 +1,5 @@
+use Rattle.tough_roles.proofs.Reached.{reaches-from, reaches-to}
+use Rattle.tough_roles.proofs.laws.verified_exactly.Goals as goal
+
+pub returns : goal.returns
+returns c = λ v p text ss. (reaches-from v p text ss, reaches-to v p text ss)

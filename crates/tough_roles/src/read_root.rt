@@ -1,0 +1,192 @@
+//! Roots, read from JSON.
+
+ghost use Rattle.std.specs.Prelude.{◌≡◌, [], option_and_then};
+ghost use Rattle.serde_json.specs.View.{view, items_view, members_view};
+ghost use Rattle.serde_json.specs.Find.{as_object};
+ghost use Rattle.tough_keys.specs.Key.{key_doc};
+ghost use Rattle.tough_json.specs.Reading.{required, listing, all_at, hexadecimal};
+ghost use Rattle.tough_json.specs.Results.{Reads, Takes};
+ghost use Rattle.tough_roles.specs.Root.{keys_doc, key_entry_at, keys_from, keys_at, role_keys_doc, roles_doc, role_keys_at, role_entry_at, roles_from, roles_at, root_doc, root_at};
+
+use crate::head::head_of;
+use crate::role_type::RoleType;
+use crate::root::{RoleKeys, Root};
+use serde_json::{Map, Value};
+use std::alloc::Global;
+use std::collections::BTreeMap;
+use tough_base::{DecodeError, Decoded, Hex};
+use tough_json::error::{ReadError, WriteError, shape};
+use tough_json::member::{positive, take, truth};
+use tough_keys::Key;
+
+// A member as a key under its own identifier.
+#[tactic(auto, unfolding(crate::specs::Root::key_entry_at))]
+fn key_entry(alloc: Global, name: &str, value: Value) -> Result<(Decoded<Hex>, Key), ReadError>
+    ensures { Reads (λ p. (p.0, key_doc p.1)) result (key_entry_at name.now (view value)) }
+{
+    let id = match Decoded::from_str(alloc, name) {
+        Ok(id) => id,
+        Err(DecodeError::Memory) => return Err(ReadError::Memory),
+        Err(_) => return Err(shape(alloc, "keys")),
+    };
+    let key = Key::from_value(alloc, value)?;
+    match key.digest(alloc) {
+        Ok(own) => {
+            if own.as_slice() == id.as_slice() {
+                Ok((id, key))
+            } else {
+                Err(shape(alloc, "keys"))
+            }
+        }
+        Err(WriteError::Memory) => Err(ReadError::Memory),
+        Err(WriteError::Unwritable) => Err(shape(alloc, "keys")),
+    }
+}
+
+// The members as keys, each under its own identifier.
+fn keys_of(
+    alloc: Global,
+    members: Map<String, Value>,
+) -> Result<BTreeMap<Decoded<Hex>, Key>, ReadError>
+    ensures { Reads (λ m. keys_doc m.entries) result (keys_from [] (members_view members.entries)) }
+{
+    let mut keys = BTreeMap::new(alloc);
+    for (name, value) in members {
+        let (id, key) = key_entry(alloc, name.as_str(), value)?;
+        if keys.contains_key(&id) {
+            return Err(shape(alloc, "keys"));
+        }
+        drop(keys.insert(id, key)?);
+    }
+    Ok(keys)
+}
+
+fn keys(
+    alloc: Global,
+    members: &mut Map<String, Value>,
+    name: &str,
+) -> Result<BTreeMap<Decoded<Hex>, Key>, ReadError>
+    ensures { Takes (λ m. keys_doc m.entries) result (members_view members.new.entries) (required name.now keys_at (members_view members.old.entries)) }
+{
+    match take(members, name) {
+        Some(Value::Object(inner)) => keys_of(alloc, inner),
+        _ => Err(shape(alloc, name)),
+    }
+}
+
+// Each item as an identifier.
+fn keyids_of(alloc: Global, values: Vec<Value>) -> Result<Vec<Decoded<Hex>>, ReadError>
+    ensures { Reads (λ v. v.items) result (all_at hexadecimal (items_view values.items)) }
+{
+    let mut keyids = Vec::new(alloc);
+    for value in values {
+        let keyid = keyid_of(alloc, value)?;
+        keyids.push(keyid)?;
+    }
+    Ok(keyids)
+}
+
+fn keyid_of(alloc: Global, value: Value) -> Result<Decoded<Hex>, ReadError>
+    ensures { Reads (λ d. d) result (hexadecimal (view value)) }
+{
+    match value {
+        Value::String(text) => match Decoded::from_str(alloc, text.as_str()) {
+            Ok(decoded) => Ok(decoded),
+            Err(DecodeError::Memory) => Err(ReadError::Memory),
+            Err(_) => Err(shape(alloc, "keyids")),
+        },
+        _ => Err(shape(alloc, "keyids")),
+    }
+}
+
+fn keyids(
+    alloc: Global,
+    members: &mut Map<String, Value>,
+    name: &str,
+) -> Result<Vec<Decoded<Hex>>, ReadError>
+    ensures { Takes (λ v. v.items) result (members_view members.new.entries) (required name.now (listing hexadecimal) (members_view members.old.entries)) }
+{
+    match take(members, name) {
+        Some(Value::Array(items)) => keyids_of(alloc, items),
+        _ => Err(shape(alloc, name)),
+    }
+}
+
+#[tactic(auto, unfolding(crate::specs::Root::role_keys_at))]
+fn role_keys_of(alloc: Global, value: Value) -> Result<RoleKeys, ReadError>
+    ensures { Reads role_keys_doc result (role_keys_at (view value)) }
+{
+    let Value::Object(mut members) = value else {
+        return Err(shape(alloc, "roles"));
+    };
+    let keyids = keyids(alloc, &mut members, "keyids")?;
+    let threshold = positive(alloc, &mut members, "threshold")?;
+    Ok(RoleKeys {
+        keyids,
+        threshold,
+        _extra: members,
+    })
+}
+
+// A member as a role and its keys.
+#[tactic(auto, unfolding(crate::specs::Root::role_entry_at))]
+fn role_entry(alloc: Global, name: &str, value: Value) -> Result<(RoleType, RoleKeys), ReadError>
+    ensures { Reads (λ p. (p.0, role_keys_doc p.1)) result (role_entry_at name.now (view value)) }
+{
+    let Some(role) = RoleType::of(name) else {
+        return Err(shape(alloc, "roles"));
+    };
+    let keys = role_keys_of(alloc, value)?;
+    Ok((role, keys))
+}
+
+// The members as roles.
+fn roles_of(
+    alloc: Global,
+    members: Map<String, Value>,
+) -> Result<BTreeMap<RoleType, RoleKeys>, ReadError>
+    ensures { Reads (λ m. roles_doc m.entries) result (roles_from [] (members_view members.entries)) }
+{
+    let mut roles = BTreeMap::new(alloc);
+    for (name, value) in members {
+        let (role, keys) = role_entry(alloc, name.as_str(), value)?;
+        drop(roles.insert(role, keys)?);
+    }
+    Ok(roles)
+}
+
+fn roles(
+    alloc: Global,
+    members: &mut Map<String, Value>,
+    name: &str,
+) -> Result<BTreeMap<RoleType, RoleKeys>, ReadError>
+    ensures { Takes (λ m. roles_doc m.entries) result (members_view members.new.entries) (required name.now roles_at (members_view members.old.entries)) }
+{
+    match take(members, name) {
+        Some(Value::Object(inner)) => roles_of(alloc, inner),
+        _ => Err(shape(alloc, name)),
+    }
+}
+
+/// The root that the value is; `Shape` where it is none.
+#[tactic(auto, unfolding(crate::specs::Root::root_at))]
+pub(crate) fn root_of(alloc: Global, value: Value) -> Result<Root, ReadError>
+    ensures { Reads root_doc result (root_at (view value)) }
+{
+    let Value::Object(mut members) = value else {
+        return Err(shape(alloc, "root"));
+    };
+    let (spec_version, version, expires) = head_of(alloc, &mut members)?;
+    let consistent_snapshot = truth(alloc, &mut members, "consistent_snapshot")?;
+    let keys = keys(alloc, &mut members, "keys")?;
+    let roles = roles(alloc, &mut members, "roles")?;
+    Ok(Root {
+        spec_version,
+        consistent_snapshot,
+        version,
+        expires,
+        keys,
+        roles,
+        _extra: members,
+    })
+}

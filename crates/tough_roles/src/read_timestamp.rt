@@ -1,0 +1,106 @@
+//! Timestamps, read from JSON.
+
+ghost use Rattle.std.specs.Prelude.{◌≡◌, option_map, Some};
+ghost use Rattle.serde_json.specs.View.{view, members_view};
+ghost use Rattle.tough_json.specs.Reading.{each, mapping, required, optional};
+ghost use Rattle.tough_json.specs.Results.{Reads, Takes};
+ghost use Rattle.tough_roles.specs.Timestamp.{hashes_doc, metafile_doc, metafiles_doc, timestamp_doc, hashes_at, metafile_at, timestamp_at};
+
+use crate::head::head_of;
+use crate::timestamp::{Hashes, Metafile, Timestamp};
+use serde_json::{Map, Value};
+use std::alloc::Global;
+use std::collections::BTreeMap;
+use tough_json::error::{ReadError, shape};
+use tough_json::member::{hexadecimal, length, positive, present, take};
+
+#[tactic(auto, unfolding(crate::specs::Timestamp::hashes_at))]
+fn hashes_of(alloc: Global, value: Value) -> Result<Hashes, ReadError>
+    ensures { Reads hashes_doc result (hashes_at (view value)) }
+{
+    let Value::Object(mut members) = value else {
+        return Err(shape(alloc, "hashes"));
+    };
+    let sha256 = hexadecimal(alloc, &mut members, "sha256")?;
+    Ok(Hashes {
+        sha256,
+        _extra: members,
+    })
+}
+
+fn hashes(
+    alloc: Global,
+    members: &mut Map<String, Value>,
+    name: &str,
+) -> Result<Option<Hashes>, ReadError>
+    ensures { Takes (option_map hashes_doc) result (members_view members.new.entries) (optional name.now hashes_at (members_view members.old.entries)) }
+{
+    match present(members, name) {
+        None => Ok(None),
+        Some(value) => Ok(Some(hashes_of(alloc, value)?)),
+    }
+}
+
+#[tactic(auto, unfolding(crate::specs::Timestamp::metafile_at))]
+fn metafile_of(alloc: Global, value: Value) -> Result<Metafile, ReadError>
+    ensures { Reads metafile_doc result (metafile_at (view value)) }
+{
+    let Value::Object(mut members) = value else {
+        return Err(shape(alloc, "meta"));
+    };
+    let version = positive(alloc, &mut members, "version")?;
+    let length = length(alloc, &mut members, "length")?;
+    let hashes = hashes(alloc, &mut members, "hashes")?;
+    Ok(Metafile {
+        length,
+        hashes,
+        version,
+        _extra: members,
+    })
+}
+
+// Each member of an object as a metafile, under its name.
+fn metafiles_of(
+    alloc: Global,
+    members: Map<String, Value>,
+) -> Result<BTreeMap<String, Metafile>, ReadError>
+    ensures { Reads (λ m. metafiles_doc m.entries) result (each metafile_at (members_view members.entries)) }
+{
+    let mut metafiles = BTreeMap::new(alloc);
+    for (name, value) in members {
+        let metafile = metafile_of(alloc, value)?;
+        drop(metafiles.insert(name, metafile)?);
+    }
+    Ok(metafiles)
+}
+
+pub(crate) fn metafiles(
+    alloc: Global,
+    members: &mut Map<String, Value>,
+    name: &str,
+) -> Result<BTreeMap<String, Metafile>, ReadError>
+    ensures { Takes (λ m. metafiles_doc m.entries) result (members_view members.new.entries) (required name.now (mapping metafile_at) (members_view members.old.entries)) }
+{
+    match take(members, name) {
+        Some(Value::Object(inner)) => metafiles_of(alloc, inner),
+        _ => Err(shape(alloc, name)),
+    }
+}
+
+#[tactic(auto, unfolding(crate::specs::Timestamp::timestamp_at))]
+pub(crate) fn timestamp_of(alloc: Global, value: Value) -> Result<Timestamp, ReadError>
+    ensures { Reads timestamp_doc result (timestamp_at (view value)) }
+{
+    let Value::Object(mut members) = value else {
+        return Err(shape(alloc, "timestamp"));
+    };
+    let (spec_version, version, expires) = head_of(alloc, &mut members)?;
+    let meta = metafiles(alloc, &mut members, "meta")?;
+    Ok(Timestamp {
+        spec_version,
+        version,
+        expires,
+        meta,
+        _extra: members,
+    })
+}

@@ -1,0 +1,53 @@
+ghost use Rattle.std.specs.Prelude.{◌≡◌, Option, IfOk};
+ghost use Rattle.std.specs.Int.NonZero.{non_zero_u64_get};
+ghost use Rattle.serde_json.specs.Data.{Data};
+ghost use Rattle.serde_json.specs.View.{view};
+ghost use Rattle.tough_json.specs.Results.{Writes};
+ghost use Rattle.tough_roles.specs.Document.{ReadsValue};
+ghost use Rattle.tough_roles.specs.Head.{Head};
+ghost use Rattle.tough_roles.specs.declared.role_type.RoleType.{RoleType as RoleKind};
+
+use crate::role_type::RoleType;
+use serde_json::Value;
+use std::alloc::Global;
+use std::num::NonZeroU64;
+use tough_json::error::{ReadError, WriteError};
+
+/// What a signed document holds. `is_read d x` says that the JSON `d` is read as `x`; `json x` is the JSON that is
+/// written for it, none where it can't be written; `is_kept x` says what else holds of each value that was read.
+pub trait Role {
+    ghost TYPE: { RoleKind };
+
+    ghost head: { Self → Head };
+
+    ghost is_read: { Data → Self → Type 0 };
+
+    ghost is_refused: { Data → Type 0 };
+
+    ghost json: { Self → Option Data };
+
+    ghost is_kept: { Self → Type 0 };
+
+    /// The role that the value is; `Shape` where it is none.
+    fn from_value(alloc: Global, value: Value) -> Result<Self, ReadError>
+        ensures read { ReadsValue is_read is_refused result (view value) }
+        ensures kept { IfOk result is_kept };
+
+    /// The role as JSON, which is read as it; `Unwritable` where it has none.
+    fn to_value(&self, alloc: Global) -> Result<Value, WriteError>
+        ensures written { Writes view result (json self.now) }
+        ensures back { is_kept self.now → IfOk result (λ v. is_read (view v) self.now) };
+
+    /// The version of the document.
+    fn version(&self) -> NonZeroU64
+        ensures { non_zero_u64_get result ≡ (head self.now).version };
+
+    /// When the document expires.
+    fn expires(&self) -> jiff::Timestamp
+        ensures { result.nanosecond ≡ (head self.now).expires };
+
+    ghost apart: { (x : Self) (d : Data) → is_read d x → is_refused d → ⊥ };
+
+    /// Which role of a root signs it.
+    const TYPE: RoleType;
+}

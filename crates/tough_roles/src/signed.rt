@@ -1,0 +1,51 @@
+ghost use Rattle.std.specs.Prelude.{◌≡◌, ◌≤◌, Some, IfOk, false};
+ghost use Rattle.serde_json.specs.Data as Data;
+ghost use Rattle.serde_json.specs.Data.{depth};
+ghost use Rattle.serde_json.specs.Read.{max_depth};
+ghost use Rattle.serde_json.specs.View.{view};
+ghost use Rattle.serde_json.specs.Written.{has_float, compact_text};
+ghost use Rattle.tough_json.specs.Results.{json_of, Writes};
+ghost use Rattle.tough_roles.specs.Document.{ReadsText, WritesBytes, IsSigned, IsNotSigned, document_json};
+
+use crate::read_signed::signed_of;
+use crate::role::Role;
+use crate::signature::Signature;
+use crate::write_signed::signed_value;
+use serde_json::Value;
+use std::alloc::Global;
+use tough_json::error::{ReadError, WriteError};
+use tough_json::text::{bytes_of, value_of};
+
+/// A role with its signatures.
+#[derive(Drop)]
+pub struct Signed<T> {
+    pub signed: T,
+    pub signatures: Vec<Signature>,
+}
+
+impl<T: Role> Signed<T> {
+    /// The document that the bytes are; `Json` where they are no JSON, `Shape` where that is no document.
+    pub fn read(alloc: Global, bytes: &[u8]) -> Result<Signed<T>, ReadError>
+        ensures { ReadsText (IsSigned T.is_read) (IsNotSigned T.is_refused) result bytes.now }
+    {
+        let value = value_of(alloc, bytes)?;
+        signed_of(alloc, value)
+    }
+
+    /// The document as JSON, which is read as it; `Unwritable` where its role has none.
+    pub fn to_value(&self, alloc: Global) -> Result<Value, WriteError>
+        ensures written { Writes view result (document_json T.json self.now) }
+        ensures back { T.is_kept self.now.signed → IfOk result (λ v. IsSigned T.is_read (view v) self.now) }
+    {
+        let role = self.signed.to_value(alloc)?;
+        Ok(signed_value(alloc, role, &self.signatures)?)
+    }
+
+    /// The document as compact JSON, with the members in the order of their names' bytes.
+    pub fn to_bytes(&self, alloc: Global) -> Result<Vec<u8>, WriteError>
+        ensures { WritesBytes result (document_json T.json self.now) }
+    {
+        let value = self.to_value(alloc)?;
+        Ok(bytes_of(alloc, &value)?)
+    }
+}

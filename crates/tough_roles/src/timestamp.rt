@@ -1,0 +1,109 @@
+ghost use Rattle.std.specs.Prelude.{◌≡◌, Some, None, ⊤, string_bytes};
+ghost use Rattle.tough_json.specs.Results.{ReadsBytes};
+ghost use Rattle.tough_roles.specs.Timestamp.{timestamp_doc, timestamp_at, timestamp_json, bare_timestamp};
+ghost use Rattle.std.specs.Int.NonZero.{non_zero_u64_get};
+ghost use Rattle.std.proofs.Common.{rules};
+ghost use Rattle.tough_roles.specs.declared.role_type.RoleType.TheVariants as types;
+
+use crate::read_timestamp::timestamp_of;
+use crate::role::Role;
+use crate::role_type::RoleType;
+use crate::write_timestamp::timestamp_value;
+use serde_json::{Map, Value};
+use std::alloc::Global;
+use std::collections::BTreeMap;
+use std::num::NonZeroU64;
+use tough_base::{Decoded, Hex};
+use tough_json::error::{ReadError, WriteError};
+use tough_json::text::value_of;
+
+/// The digest of a file.
+#[derive(Drop)]
+pub struct Hashes {
+    pub sha256: Decoded<Hex>,
+    pub _extra: Map<String, Value>,
+}
+
+/// What is said of a metadata file: its version, and its length and digest where they are stated.
+#[derive(Drop)]
+pub struct Metafile {
+    pub length: Option<u64>,
+    pub hashes: Option<Hashes>,
+    pub version: NonZeroU64,
+    pub _extra: Map<String, Value>,
+}
+
+/// Which snapshot is current (TUF specification 1.0, section 4.6).
+#[derive(Drop)]
+pub struct Timestamp {
+    pub spec_version: String,
+    pub version: NonZeroU64,
+    pub expires: jiff::Timestamp,
+    pub meta: BTreeMap<String, Metafile>,
+    pub _extra: Map<String, Value>,
+}
+
+impl Timestamp {
+    /// A timestamp that tells of no file yet.
+    pub fn new(
+        alloc: Global,
+        spec_version: String,
+        version: NonZeroU64,
+        expires: jiff::Timestamp,
+    ) -> Timestamp
+        ensures { timestamp_doc result ≡ bare_timestamp (record { spec_version = string_bytes spec_version; version = non_zero_u64_get version; expires = expires.nanosecond }) }
+    {
+        Timestamp {
+            spec_version,
+            version,
+            expires,
+            meta: BTreeMap::new(alloc),
+            _extra: Map::new(alloc),
+        }
+    }
+}
+
+impl Timestamp {
+    /// The timestamp that the bytes are; `Json` where they are no JSON, `Shape` where that is none.
+    pub fn read(alloc: Global, bytes: &[u8]) -> Result<Timestamp, ReadError>
+        ensures { ReadsBytes timestamp_doc result bytes.now timestamp_at }
+    {
+        let value = value_of(alloc, bytes)?;
+        timestamp_of(alloc, value)
+    }
+}
+
+impl Role for Timestamp {
+    ghost TYPE = { types.Timestamp };
+
+    const TYPE: RoleType = RoleType::Timestamp;
+
+    ghost head = { λ x. (timestamp_doc x).head };
+
+    ghost is_read = { λ d x. timestamp_at d ≡ Some (timestamp_doc x) };
+
+    ghost is_refused = { λ d. timestamp_at d ≡ None };
+
+    ghost json = { λ x. timestamp_json (timestamp_doc x) };
+
+    ghost is_kept = { λ x. ⊤ };
+
+    fn from_value(alloc: Global, value: Value) -> Result<Timestamp, ReadError> {
+        timestamp_of(alloc, value)
+    }
+
+    fn to_value(&self, alloc: Global) -> Result<Value, WriteError> {
+        let value = timestamp_value(alloc, self)?;
+        Ok(value)
+    }
+
+    fn version(&self) -> NonZeroU64 {
+        self.version
+    }
+
+    fn expires(&self) -> jiff::Timestamp {
+        self.expires
+    }
+
+    ghost apart = { Prim.search rules };
+}

@@ -1,0 +1,184 @@
+//! Whether a role is signed by enough keys.
+
+ghost use Rattle.std.specs.Prelude.{◌≡◌, ◌≤◌, ◌<◌, ◌&&◌, Some, true, false, IfErr, IfOk, MatchOption, count_by, drop, length};
+ghost use Rattle.std.specs.List.{list_any};
+ghost use Rattle.std.specs.Str.{bytes_eq};
+ghost use Rattle.tough_json.specs.Results.{Writes};
+ghost use Rattle.tough_roles.specs.Signature.{signature_doc, signatures_doc, signed_doc};
+ghost use Rattle.tough_roles.specs.Root.{root_doc, keys_doc, role_keys_doc};
+ghost use Rattle.tough_roles.specs.Policy.{policy, policy_of};
+ghost use Rattle.tough_roles.specs.Verdict.{verdict, Answers, Names, IsOkOrMemory, some_twice};
+ghost use Rattle.tough_roles.specs.Counting.{bytes_of, key_of, under, is_valid};
+ghost use Rattle.tough_roles.specs.Chain.{text_by, ReachesUnder};
+
+use crate::error::Error;
+use crate::role::Role;
+use crate::role_type::RoleType;
+use crate::root::{RoleKeys, Root};
+use crate::signature::Signature;
+use crate::signed::Signed;
+use std::alloc::Global;
+use std::collections::BTreeMap;
+use tough_base::{Decoded, Hex};
+use tough_json::error::WriteError;
+use tough_keys::{Key, Verify, text_of};
+
+/// The canonical text of a role as it is kept, which is what is signed; `Unwritable` where it has none.
+pub fn canonical_form<T: Role>(alloc: Global, role: &T) -> Result<Vec<u8>, WriteError>
+    ensures { Writes (λ t. t.items) result (text_by T.json role.now) }
+{
+    let value = role.to_value(alloc)?;
+    text_of(alloc, &value)
+}
+
+// Whether an identifier is listed.
+fn is_listed(keyids: &[Decoded<Hex>], keyid: &Decoded<Hex>) -> bool
+    ensures { result ≡ list_any (λ id. bytes_eq id.bytes keyid.now.bytes) keyids.now }
+{
+    keyids.iter().any(|id| id == keyid)
+}
+
+// Whether a signature is by a known key.
+fn is_signed<V: Verify>(
+    keys: &BTreeMap<Decoded<Hex>, Key>,
+    text: &[u8],
+    signature: &Signature,
+    verifier: &V,
+) -> bool
+    ensures { result ≡ under (V.verifies verifier.now) text.now signature.now.sig.bytes (key_of (keys_doc keys.now.entries) signature.now.keyid.bytes) }
+{
+    match keys.get(&signature.keyid) {
+        Some(key) => verifier.verify(key, text, signature.sig.as_slice()),
+        None => false,
+    }
+}
+
+// Whether a signature is by a listed and known key.
+fn counts<V: Verify>(
+    keys: &BTreeMap<Decoded<Hex>, Key>,
+    keyids: &[Decoded<Hex>],
+    text: &[u8],
+    signature: &Signature,
+    verifier: &V,
+) -> bool
+    ensures { result ≡ is_valid (V.verifies verifier.now) (keys_doc keys.now.entries) (bytes_of keyids.now) text.now (signature_doc signature.now) }
+{
+    is_listed(keyids, &signature.keyid) && is_signed(keys, text, signature, verifier)
+}
+
+// How many signatures are by listed and known keys.
+fn valid_count<V: Verify>(
+    keys: &BTreeMap<Decoded<Hex>, Key>,
+    keyids: &[Decoded<Hex>],
+    text: &[u8],
+    signatures: &[Signature],
+    verifier: &V,
+) -> usize
+    ensures { result ≡ count_by (λ s. is_valid (V.verifies verifier.now) (keys_doc keys.now.entries) (bytes_of keyids.now) text.now (signature_doc s)) signatures.now }
+{
+    signatures
+        .iter()
+        .filter(|signature| counts(keys, keyids, text, signature, verifier))
+        .count()
+}
+
+// The place of an identifier that stands again later.
+fn repeated(signatures: &[Signature]) -> Option<usize>
+    ensures { MatchOption result (some_twice (signatures_doc signatures.now) ≡ false) (λ i. (i < length signatures.now) × (some_twice (signatures_doc signatures.now) ≡ true)) }
+{
+    for (i, signature) in signatures.iter().enumerate() {
+        if stands_from(signatures, i + 1, &signature.keyid) {
+            return Some(i);
+        }
+    }
+    None
+}
+
+// Whether a signature from that place on has the identifier.
+fn stands_from(signatures: &[Signature], from: usize, keyid: &Decoded<Hex>) -> bool
+    requires { from ≤ length signatures.now }
+    ensures { result ≡ list_any (λ s. bytes_eq s.keyid.bytes keyid.now.bytes) (drop from signatures.now) }
+{
+    signatures
+        .iter()
+        .skip(from)
+        .any(|signature| signature.keyid == *keyid)
+}
+
+// Whether the signatures over the text reach the threshold that the role asks for.
+fn judge<V: Verify>(
+    alloc: Global,
+    known: &BTreeMap<Decoded<Hex>, Key>,
+    role: RoleType,
+    keys: &RoleKeys,
+    text: &[u8],
+    signatures: &[Signature],
+    verifier: &V,
+) -> Result<(), Error>
+    ensures verdict { Answers result (verdict (V.verifies verifier.now) (Some (policy_of (keys_doc known.now.entries) (role_keys_doc keys.now))) (Some text.now) (signatures_doc signatures.now)) }
+    ensures named { IfErr result (λ e. Names role (signatures_doc signatures.now) e) }
+{
+    if let Some(place) = repeated(signatures) {
+        let keyid = String::from_str(alloc, signatures[place].keyid.as_str())?;
+        return Err(Error::DuplicateKeyId { keyid });
+    }
+    let threshold = keys.threshold.get();
+    let valid = valid_count(known, &keys.keyids, text, signatures, verifier) as u64;
+    if valid < threshold {
+        return Err(Error::SignatureThreshold {
+            role,
+            threshold,
+            valid,
+        });
+    }
+    Ok(())
+}
+
+// The verdict on the document's signatures under the root.
+fn answer<T: Role, V: Verify>(
+    alloc: Global,
+    root: &Root,
+    role: &Signed<T>,
+    verifier: &V,
+) -> Result<(), Error>
+    ensures verdict { Answers result (verdict (V.verifies verifier.now) (policy (root_doc root.now) T.TYPE) (text_by T.json role.now.signed) (signatures_doc role.now.signatures.items)) }
+    ensures named { IfErr result (λ e. Names T.TYPE (signatures_doc role.now.signatures.items) e) }
+{
+    let Some(keys) = root.roles.get(&T::TYPE) else {
+        return Err(Error::MissingRole { role: T::TYPE });
+    };
+    match canonical_form(alloc, &role.signed) {
+        Ok(text) => {
+            let text = text.as_slice();
+            judge(
+                alloc,
+                &root.keys,
+                T::TYPE,
+                keys,
+                text,
+                &role.signatures,
+                verifier,
+            )
+        }
+        Err(WriteError::Memory) => Err(Error::Memory),
+        Err(WriteError::Unwritable) => Err(Error::JsonSerialization { role: T::TYPE }),
+    }
+}
+
+impl Root {
+    /// Whether the document's signatures reach the threshold of its role in this root. The refusals, in this order:
+    /// `MissingRole`, `JsonSerialization`, `DuplicateKeyId`, `SignatureThreshold`.
+    pub fn verify_role<T: Role, V: Verify>(
+        &self,
+        alloc: Global,
+        role: &Signed<T>,
+        verifier: &V,
+    ) -> Result<(), Error>
+        ensures verdict { Answers result (verdict (V.verifies verifier.now) (policy (root_doc self.now) T.TYPE) (text_by T.json role.now.signed) (signatures_doc role.now.signatures.items)) }
+        ensures ok { IfOk result (λ u. ReachesUnder (V.verifies verifier.now) (root_doc self.now) T.TYPE T.json (signed_doc (λ x. x) role.now)) }
+        ensures only { ReachesUnder (V.verifies verifier.now) (root_doc self.now) T.TYPE T.json (signed_doc (λ x. x) role.now) → IsOkOrMemory result }
+        ensures named { IfErr result (λ e. Names T.TYPE (signatures_doc role.now.signatures.items) e) }
+    {
+        answer(alloc, self, role, verifier)
+    }
+}

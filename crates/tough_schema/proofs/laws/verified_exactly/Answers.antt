@@ -1,5 +1,0 @@
-use Rattle.tough_schema.proofs.Reached.{reaches-from, reaches-to}
-use Rattle.tough_schema.proofs.laws.verified_exactly.Goals as goal
-
-pub returns : goal.returns
-returns c = λ v p text ss. (reaches-from v p text ss, reaches-to v p text ss)
