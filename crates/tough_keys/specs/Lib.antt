@@ -3,3 +3,5 @@ pub mod Same
 pub mod Demo
 pub mod Parsed
 pub mod Results
+pub mod Equal
+pub mod Equals

@@ -3,6 +3,7 @@
 
 mod clone;
 mod demo;
+mod equal;
 mod id;
 mod key;
 mod kind;

@@ -130,3 +130,31 @@ fn refuses_other_keys(rt: HostRuntime) -> Result<(), Fail> {
     assert!(rt; read.key_id(rt.alloc()).is_err());
     Ok(())
 }
+
+#[test]
+fn compares_keys(rt: HostRuntime) -> Result<(), Fail> {
+    let first = key(
+        &rt,
+        "{\"keytype\":\"ed25519\",\"scheme\":\"ed25519\",\"keyval\":{\"public\":\"6a\"},\"a\":[1.5,{\"b\":-1}]}",
+    )?;
+    let equal = [
+        "{\"keytype\":\"ed25519\",\"scheme\":\"ed25519\",\"keyval\":{\"public\":\"6A\"},\"a\":[1.5,{\"b\":-1}]}",
+        "{\"keytype\":\"ed25519\",\"scheme\":\"ed25519\",\"keyval\":{\"public\":\"6a\"},\"a\":[2.5,{\"b\":-1}]}",
+    ];
+    for text in equal {
+        assert!(rt; key(&rt, text)? == first, "{text}");
+    }
+    let others = [
+        "{\"keytype\":\"ed25519\",\"scheme\":\"ed25519\",\"keyval\":{\"public\":\"6b\"},\"a\":[1.5,{\"b\":-1}]}",
+        "{\"keytype\":\"ecdsa\",\"scheme\":\"ecdsa-sha2-nistp256\",\"keyval\":{\"public\":\"6a\"},\"a\":[1.5,{\"b\":-1}]}",
+        "{\"keytype\":\"ed25519\",\"scheme\":\"ed25519\",\"keyval\":{\"public\":\"6a\"},\"a\":[1,{\"b\":-1}]}",
+        "{\"keytype\":\"ed25519\",\"scheme\":\"ed25519\",\"keyval\":{\"public\":\"6a\"},\"a\":[1.5,{\"c\":-1}]}",
+        "{\"keytype\":\"ed25519\",\"scheme\":\"ed25519\",\"keyval\":{\"public\":\"6a\"},\"a\":[1.5,{\"b\":-2}]}",
+        "{\"keytype\":\"ed25519\",\"scheme\":\"ed25519\",\"keyval\":{\"public\":\"6a\"},\"a\":[1.5]}",
+        "{\"keytype\":\"ed25519\",\"scheme\":\"ed25519\",\"keyval\":{\"public\":\"6a\",\"b\":true},\"a\":[1.5,{\"b\":-1}]}",
+    ];
+    for text in others {
+        assert!(rt; key(&rt, text)? != first, "{text}");
+    }
+    Ok(())
+}

@@ -14,12 +14,13 @@ use Rattle.tough_vault.specs.declared.entry.Receipt.{Receipt}
 use Rattle.tough_vault.specs.declared.parts.Prepared.{Prepared}
 use Rattle.tough_vault.specs.declared.checks.StepError.{StepError}
 use Rattle.tough_vault.specs.Stored.{Files}
+use Rattle.tough_vault.specs.Files.{IsFree}
 use Rattle.tough_vault.specs.Journal.{Pair, PairAtMost, Item, Roles, KeepsNames, RolesAtMost, has_at_least, version_in}
 use Rattle.tough_vault.specs.Checks.{Reason, SnapshotRoleRollback, fallen_at, fallen, items_in, snapshot_older, snapshot_against, snapshot_tip, snapshot_after, SystemTimeSteppedBackward, later, time_after, OlderMetadata, OlderSnapshotInTimestamp, refuse, or_else, first_of, snapshot_version, expiry, timestamp_older, timestamp_below, timestamp_against, timestamp_tip, timestamp_after}
 use Rattle.tough_vault.specs.Step.{Step, Parts, Passes}
-use Rattle.tough_vault.specs.Steps.{versions_in, roles_in, stored_snapshot, snapshot_step, stored_time, stored_timestamp, time_text, needs, time_step, root_step, timestamp_step}
+use Rattle.tough_vault.specs.Steps.{versions_in, roles_in, stored_snapshot, snapshot_step, stored_time, stored_timestamp, time_text, needs, time_step, root_step, timestamp_step, document_step}
 use Rattle.tough_vault.specs.Parts.{NamesFree, Prepares, Concludes}
-use Rattle.tough_vault.proofs.Holding.{holds_noted, holds_root, holds_timestamp, holds_snapshot}
+use Rattle.tough_vault.proofs.Holding.{holds_noted, holds_root, holds_timestamp, holds_snapshot, holds_document}
 use Rattle.tough_vault.proofs.Journals.{some_inj}
 use Rattle.tough_vault.proofs.Taking.{takes}
 use Rattle.tough_vault.proofs.Keeping.{Fits, Sound, kept}
@@ -121,6 +122,14 @@ module _ {S : Type 0} (tells : Bool) (files : S → Files) (count : S → ℕ) (
     follows = tt;
     free = λ name x. absurd (cc (x));
     holds = λ h same is there. holds_root (files old.store) now old.notes old.tip h free root same is there;
+  }
+
+  pub fits_document : (name : List ℕ) (text : Option (List ℕ)) → IsFree name → (found : Option (List ℕ))
+      → Passes tells files count (document_step name text) old.store found → Fits tells files count (document_step name text) old now found
+  fits_document name text f found p = record {
+    follows = tt;
+    free = λ other x. subst (λ (n : List ℕ). IsFree n) (cc (x)) f;
+    holds = λ h same is there. holds_document (files old.store) now old.notes old.tip h free name text f same is there;
   }
 
 module _ {S : Type 0} (tells : Bool) (files : S → Files) (count : S → ℕ) where

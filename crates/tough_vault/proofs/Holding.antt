@@ -79,15 +79,15 @@ module _ (files now : Files) (notes : List Note) (tip : Last)
     documents = λ k name e. elim (get_append notes (Root r.role.head.version) k (Document name) e) [ inl a ↦ keep_document root_file same k name (free k name a).root a | inr b ↦ absurd (cc (b)) ];
   }
 
-  pub holds_document : (name bytes : List ℕ) → IsFree name → SameElsewhere name files now → now name ≡ Some bytes
+  pub holds_document : (name : List ℕ) (text : Option (List ℕ)) → IsFree name → SameElsewhere name files now → now name ≡ text → text ≢ None
       → Holds now (notes ++ Document name ∷ []) (applied tip (Document name))
-  holds_document name bytes f same is = record {
+  holds_document name text f same is there = record {
     time = keep_time name same (λ x. f.time (sym x));
     timestamp = keep_timestamp name same (λ x. f.timestamp (sym x));
     snapshot = keep_snapshot name same (λ x. f.snapshot (sym x));
     root = λ v e. keep_root name same (λ x. f.root (sym x)) v (sym (last_root-append None notes (Document name)) ∙ e);
     documents = λ k other e gone.
-        let ne : other ≢ name = λ x. cc (gone, is, ap now x) in
+        let ne : other ≢ name = λ x. there (sym is ∙ (sym (ap now x) ∙ gone)) in
         elim (get_append notes (Document name) k (Document other) e) [ inl a ↦ keep_document name same k other ne a gone | inr b ↦ absurd (ne (cc (b))) ];
   }
 

@@ -7,6 +7,8 @@ use Rattle.serde_json.specs.Written.{has_float, compact_text}
 use Rattle.tough_base.specs.CanonicalText.{canonical_of}
 use Rattle.tough_json.specs.Results.{json_of}
 use Rattle.tough_roles.specs.Signature.{SignedDoc, signed_at, signed_json}
+use Rattle.tough_roles.specs.declared.signed.Signed.{Signed}
+use Rattle.tough_roles.specs.Document.{document_json}
 use Rattle.tough_roles.specs.Root.{RootDoc, root_json}
 use Rattle.tough_roles.specs.Timestamp.{TimestampDoc, MetafileDoc, timestamp_at, timestamp_json}
 use Rattle.tough_roles.specs.Snapshot.{SnapshotDoc, snapshot_at, snapshot_json}
@@ -29,6 +31,10 @@ timestamp_text d = option_and_then stored_text (signed_json timestamp_json d)
 
 abbrev pub snapshot_text : SignedDoc SnapshotDoc → Option (List ℕ)
 snapshot_text d = option_and_then stored_text (signed_json snapshot_json d)
+
+-- the same of a document of any role, by what its JSON is
+abbrev pub role_text : {T : Type 0} → (T → Option Data) → Signed T → Option (List ℕ)
+role_text json s = option_and_then stored_text (document_json json s)
 
 -- the signed timestamp that bytes are
 abbrev pub timestamp_in : List ℕ → Option (SignedDoc TimestampDoc)

@@ -9,3 +9,4 @@ pub mod Steps
 pub mod Parts
 pub mod Props
 pub mod Vault
+pub mod DocumentName

@@ -101,3 +101,14 @@ snapshot_step verifies root tip listed new start enforced = record {
   bytes = snapshot_text new;
   entry = λ found. Snapshot (roles_in new.role) (is_some (stored_snapshot verifies root found));
 }
+
+-- Stores targets or a delegated document, of this text, in the file of this name.
+abbrev pub document_step : List ℕ → Option (List ℕ) → Step
+document_step name text = record {
+  file = name;
+  reads = false;
+  before = needs text;
+  after = λ found. None;
+  bytes = text;
+  entry = λ found. Document name;
+}

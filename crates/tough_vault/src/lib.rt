@@ -3,6 +3,7 @@
 
 mod checks;
 mod document;
+mod document_name;
 mod entry;
 mod memory;
 mod parts;
@@ -14,6 +15,7 @@ mod store;
 mod vault;
 
 pub use checks::{ExpirationEnforcement, Refusal, StepError};
+pub use document_name::DocumentName;
 pub use entry::{Entry, ListedVersion, Receipt, SnapshotVersions, TimestampVersions, Tip};
 pub use memory::MemoryStore;
 pub use store::{Store, StoreError};

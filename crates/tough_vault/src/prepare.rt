@@ -7,7 +7,9 @@ ghost use Rattle.tough_roles.specs.Timestamp.{timestamp_doc};
 ghost use Rattle.tough_vault.specs.Stored.{content};
 ghost use Rattle.tough_vault.specs.Journal.{tip_of, time_where};
 ghost use Rattle.tough_vault.specs.Checks.{timestamp_where, enforces};
-ghost use Rattle.tough_vault.specs.Steps.{time_step, root_step, timestamp_step, stored_timestamp, stored_time, time_text};
+ghost use Rattle.tough_vault.specs.Documents.{role_text};
+ghost use Rattle.tough_vault.specs.DocumentName.{name_of};
+ghost use Rattle.tough_vault.specs.Steps.{time_step, root_step, timestamp_step, document_step, stored_timestamp, stored_time, time_text};
 ghost use Rattle.tough_json.specs.Results.{Writes};
 ghost use Rattle.tough_vault.specs.Parts.{Prepares};
 
@@ -16,6 +18,7 @@ use crate::checks::{
     snapshot_version,
 };
 use crate::document::document_bytes;
+use crate::document_name::DocumentName;
 use crate::entry::{Entry, TimestampVersions, Tip};
 use crate::parts::{Change, Prepared};
 use crate::store::{Store, StoreError};
@@ -24,7 +27,7 @@ use serde_json::Value;
 use std::alloc::{AllocError, Global};
 use tough_json::text::{bytes_of, value_of};
 use tough_json::{MomentError, moment_text};
-use tough_roles::{Error, ReadError, Root, Signed, Timestamp, Verify, WriteError};
+use tough_roles::{Error, ReadError, Role, Root, Signed, Timestamp, Verify, WriteError};
 
 pub(crate) const TIME: &str = "latest_known_time.json";
 
@@ -183,5 +186,32 @@ pub(crate) fn prepare_timestamp<S: Store, V: Verify>(
         entry: Entry::Timestamp(versions, had_stored),
         receipt: Entry::Timestamp(versions, had_stored),
         change: Change::Timestamp(versions),
+    })
+}
+
+pub(crate) fn prepare_document<S: Store, T: Role>(
+    alloc: Global,
+    store: &mut S,
+    name: &DocumentName,
+    role: &Signed<T>,
+) -> Result<Prepared, StepError>
+    ensures { Prepares S.tells S.files S.count (document_step (name_of name.now) (role_text T.json role.now)) store.old store.new result }
+{
+    let bytes = match document_bytes(alloc, role) {
+        Ok(bytes) => bytes,
+        Err(WriteError::Unwritable) => return Err(StepError::Refused(Refusal::DatastoreSerialize)),
+        Err(WriteError::Memory) => return Err(StepError::Memory),
+    };
+    let Ok(entry) = String::from_str(alloc, name.as_str()) else {
+        return Err(StepError::Memory);
+    };
+    let Ok(receipt) = String::from_str(alloc, name.as_str()) else {
+        return Err(StepError::Memory);
+    };
+    Ok(Prepared {
+        bytes,
+        entry: Entry::Document(entry),
+        receipt: Entry::Document(receipt),
+        change: Change::Nothing,
     })
 }

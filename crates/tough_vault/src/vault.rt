@@ -8,22 +8,26 @@ ghost use Rattle.tough_roles.specs.Snapshot.{snapshot_doc};
 ghost use Rattle.tough_vault.specs.Checks.{enforces};
 ghost use Rattle.tough_vault.specs.Journal.{no_tip, replay, Rises, Legal, NothingGoesBack, has_broken, notes_of, tip_of};
 ghost use Rattle.tough_vault.specs.Step.{Takes, Clears};
-ghost use Rattle.tough_vault.specs.Steps.{time_step, root_step, timestamp_step, snapshot_step};
+ghost use Rattle.tough_vault.specs.Steps.{time_step, root_step, timestamp_step, snapshot_step, document_step};
+ghost use Rattle.tough_vault.specs.Documents.{role_text};
+ghost use Rattle.tough_vault.specs.DocumentName.{name_of};
 ghost use Rattle.tough_vault.specs.Parts.{Holds, NamesFree};
 ghost use Rattle.tough_vault.specs.Props.{Rises-prop, replays-prop};
 
 use crate::checks::{ExpirationEnforcement, StepError};
+use crate::document_name::DocumentName;
 use crate::entry::{Entry, Receipt, Tip};
 use crate::parts::conclude;
 use crate::prepare::{
-    ROOT, SNAPSHOT, TIME, TIMESTAMP, prepare_root, prepare_time, prepare_timestamp,
+    ROOT, SNAPSHOT, TIME, TIMESTAMP, prepare_document, prepare_root, prepare_time,
+    prepare_timestamp,
 };
 use crate::rotated::clear;
 use crate::snapshot_step::prepare_snapshot;
 use crate::store::Store;
 use jiff::Timestamp as Instant;
 use std::alloc::Global;
-use tough_roles::{Root, Signed, Snapshot, Timestamp, Verify};
+use tough_roles::{Role, Root, Signed, Snapshot, Timestamp, Verify};
 
 /// A store, what was accepted from it, and the tip of that.
 #[derive(Drop)]
@@ -191,6 +195,25 @@ impl<S: Store> Vault<S> {
             enforcement,
         );
         conclude(store, journal, tip, SNAPSHOT, prepared)
+    }
+
+    /// Stores targets, or a delegated document, under its name. It refuses `DatastoreSerialize` where the document has
+    /// no text, then `DatastoreCreate`.
+    pub fn put_document<T: Role>(
+        &mut self,
+        name: &DocumentName,
+        role: &Signed<T>,
+    ) -> Result<Receipt, StepError>
+        ensures { Takes S.tells S.files S.count (document_step (name_of name.now) (role_text T.json role.now)) (parts_of self.old) (parts_of self.new) result }
+    {
+        let Vault {
+            alloc,
+            store,
+            journal,
+            tip,
+        } = self;
+        let prepared = prepare_document(*alloc, store, name, role);
+        conclude(store, journal, tip, name.as_str(), prepared)
     }
 
     /// The store.

@@ -4,7 +4,7 @@ use crate::vault::documents::{
 };
 use crate::vault::faulty::{Fault, FaultyStore};
 use crate::{
-    Entry, ExpirationEnforcement, MemoryStore, Receipt, Refusal, StepError, Store,
+    DocumentName, Entry, ExpirationEnforcement, MemoryStore, Receipt, Refusal, StepError, Store,
     TimestampVersions, Vault,
 };
 use jiff::Timestamp as Instant;
@@ -330,5 +330,50 @@ fn the_other_steps(rt: HostRuntime) -> Result<(), Fail> {
         _ => Vec::new(rt.alloc()),
     };
     assert_eq!(rt; time.as_slice(), b"\"2026-07-13T12:00:00Z\"".as_slice());
+    Ok(())
+}
+
+#[test]
+fn stores_documents_under_free_names(rt: HostRuntime) -> Result<(), Fail> {
+    let root = root(&rt)?;
+    let mut vault = Vault::new(rt.alloc(), MemoryStore::new(rt.alloc()));
+    assert!(rt; vault.put_root(&root).is_ok());
+    let timestamp = Signed::<Timestamp>::read(rt.alloc(), TIMESTAMP_5.as_bytes())?;
+    let targets = DocumentName::targets(rt.alloc())?;
+    assert!(rt; vault.put_document(&targets, &timestamp).is_ok());
+    let Some(other) = DocumentName::delegated(String::from_str(rt.alloc(), "5.a.json")?) else {
+        return Err(Fail::new("no name"));
+    };
+    assert!(rt; vault.put_document(&other, &timestamp).is_ok());
+    let names = [
+        "root.json",
+        "timestamp.json",
+        "snapshot.json",
+        "targets.json",
+        "latest_known_time.json",
+    ];
+    for name in names {
+        assert!(rt;
+            DocumentName::delegated(String::from_str(rt.alloc(), name)?).is_none(),
+            "{name}"
+        );
+    }
+    let [
+        Entry::Root(1),
+        Entry::Document(first),
+        Entry::Document(second),
+    ] = vault.journal()
+    else {
+        return Err(Fail::new("another journal"));
+    };
+    assert_eq!(rt; first.as_str(), "targets.json");
+    assert_eq!(rt; second.as_str(), "5.a.json");
+    let mut store = vault.into_store();
+    let stored = store.read(rt.alloc(), "5.a.json");
+    let Ok(Some(bytes)) = stored else {
+        return Err(Fail::new("no file"));
+    };
+    let read = Signed::<Timestamp>::read(rt.alloc(), bytes.as_slice())?;
+    assert_eq!(rt; read.signed.version.get(), 5);
     Ok(())
 }
