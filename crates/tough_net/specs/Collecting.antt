@@ -1,5 +1,5 @@
 -- The whole of what a URL serves, bounded and checked.
-use Rattle.std.specs.Prelude.{◌≡◌, ◌≢◌, ℕ, ◌≤◌, ◌<◌, List, [], ◌++◌, length, map, Option, Some, None, Result, Ok, Err, Vec, IfSome, IsSomeAnd, ◌⊎◌, string_bytes}
+use Rattle.std.specs.Prelude.{◌≡◌, ◌≢◌, ℕ, ◌≤◌, ◌<◌, List, [], ◌++◌, length, map, option_map, Option, Some, None, Result, Ok, Err, Vec, IfSome, IsSomeAnd, ◌⊎◌, string_bytes}
 use Rattle.std.specs.declared.alloc.Global.{Global}
 use Rattle.sha2.specs.Sha256.{sha256}
 use Rattle.futures.specs.Runs.{Runs}
@@ -51,7 +51,7 @@ module _ {S : Type 0} where
   collected m = m.stream
 
   abbrev pub bounds_of : Collect S → Bounds
-  bounds_of m = record { url = string_bytes m.url; max = m.max_size; specifier = m.specifier.now; digest = m.sha256 }
+  bounds_of m = record { url = string_bytes m.url; max = m.max_size; specifier = m.specifier.now; digest = option_map (λ d. d.items) m.sha256 }
 
   -- the bytes so far
   abbrev pub held_by : Collect S → List ℕ

@@ -1,5 +1,5 @@
 //! The whole of what a URL serves.
-ghost use Rattle.std.specs.Prelude.{◌≡◌, ◌≤◌, ◌++◌, ◌⊎◌, [], length, IfOk, IfErr, OnOk, string_bytes};
+ghost use Rattle.std.specs.Prelude.{◌≡◌, ◌≤◌, ◌++◌, ◌⊎◌, [], length, option_map, IfOk, IfErr, OnOk, string_bytes};
 ghost use Rattle.futures.specs.Runs.{Within};
 ghost use Rattle.url.specs.Parts.{serialize};
 ghost use Rattle.tough_net.specs.Errors.{IsMemory};
@@ -26,23 +26,24 @@ pub struct Collect<S> {
     url: String,
     max_size: u64,
     specifier: &'static str,
-    sha256: Option<[u8; 32]>,
+    sha256: Option<Vec<u8>>,
     bytes: Vec<u8>,
 }
 
-/// Fetches a URL, to hand on its bytes as a whole. The specifier says where the limit of `max_size` bytes comes from.
+/// Fetches a URL, to hand on its bytes as a whole. The specifier says where the limit of `max_size` bytes comes from. A digest that
+/// hasn't 32 bytes is that of nothing.
 pub fn fetch_whole<T: Transport>(
     alloc: Global,
     transport: &T,
     url: &Url,
     max_size: u64,
     specifier: &'static str,
-    sha256: Option<[u8; 32]>,
+    sha256: Option<Vec<u8>>,
 ) -> Result<Collect<T::Stream>, TransportError>
     ensures refused { IfErr result (λ e. T.refuses transport.now url.now e ⊎ IsMemory e) }
     ensures can_poll { IfOk result (λ m. T.Stream.can_poll (collected m)) }
     ensures bounds { IfOk result (λ m. bounds_of m
-        ≡ record { url = serialize url.now; max = max_size; specifier = specifier.now; digest = sha256 }) }
+        ≡ record { url = serialize url.now; max = max_size; specifier = specifier.now; digest = option_map (λ d. d.items) sha256 }) }
     ensures fresh { IfOk result (λ m. held_by m ≡ []) }
     ensures served { IfOk result (λ m. Within (T.serves transport.now url.now) (T.Stream.yields (collected m))) }
 {

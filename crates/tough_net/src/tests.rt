@@ -182,7 +182,10 @@ fn collects_what_fits(rt: HostRuntime) -> Result<(), Fail> {
         (Some(OTHER), 4, "exceeded"),
         (None, 4, "exceeded"),
     ] {
-        let sha256 = text.map(|text| digest(text));
+        let sha256 = match text {
+            Some(text) => Some(Vec::from_slice(alloc, digest(text).as_slice())?),
+            None => None,
+        };
         let whole = fetch_whole(alloc, &transport, &url, limit, "a limit", sha256)?;
         match block_on(&rt, whole)? {
             Ok(bytes) => assert_eq!(rt; bytes.as_slice(), wanted.as_bytes()),

@@ -1,0 +1,6 @@
+//! Loads a repository.
+#![tactic(auto)]
+
+mod keeper;
+
+pub use keeper::Keeper;
