@@ -1,1 +1,4 @@
 pub mod Walking
+pub mod Sound
+pub mod Whole
+pub mod Rotated

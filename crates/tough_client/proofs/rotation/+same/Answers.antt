@@ -1,0 +1,9 @@
+use Rattle.std.proofs.Common.{sym}
+use Rattle.tough_client.proofs.Rotated.{unequal-items, unequal-members}
+use Rattle.tough_client.proofs.rotation.+same.Goals as goal
+
+pub are_same_items-returns-then-len : goal.are_same_items-returns-then-len
+are_same_items-returns-then-len t c = sym (unequal-items c.args.one.now.items c.args.other.now.items ?)
+
+pub are_same_members-returns-then-len : goal.are_same_members-returns-then-len
+are_same_members-returns-then-len t c = sym (unequal-members c.args.one.now.entries c.args.other.now.entries ?)
