@@ -13,7 +13,7 @@ use crate::limits::Limits;
 use crate::request::{Answer, Ask};
 use crate::stage::{Known, Stage};
 use crate::turns::{
-    Setting, take_bytes, take_cut, take_moment, take_not_started, take_refusal, take_success,
+    Setting, take_bytes, take_cut, take_moment, take_not_started, take_step,
 };
 use std::alloc::Global;
 use std::mem;
@@ -41,11 +41,10 @@ fn turn<V: Verify>(
 {
     match answer {
         Answer::Moment(now) => take_moment(stage, now),
-        Answer::Bytes(bytes) => take_bytes(setting.alloc, stage, &bytes, verifier),
+        Answer::Bytes(bytes) => take_bytes(setting.alloc, stage, bytes.as_slice(), verifier),
         Answer::NotStarted(fault) => take_not_started(stage, fault),
         Answer::Cut(fault) => take_cut(stage, fault),
-        Answer::Step(Ok(())) => take_success(setting, stage, verifier),
-        Answer::Step(Err(error)) => take_refusal(stage, error),
+        Answer::Step(taken) => take_step(setting, stage, taken, verifier),
     }
 }
 

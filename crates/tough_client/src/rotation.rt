@@ -113,8 +113,10 @@ fn is_same_key(one: &Key, other: &Key) -> bool
 fn key_at<'a>(root: &'a Root, ids: &[Decoded<Hex>], place: usize) -> Option<&'a Key>
     ensures { option_map key_doc (option_copied result) ≡ key_in (root_doc root.now).keys (drop place ids.now) }
 {
-    let id = ids.get(place)?;
-    root.keys.get(id)
+    match ids.get(place) {
+        Some(id) => root.keys.get(id),
+        None => None,
+    }
 }
 
 // Whether the keys of these identifiers, up to the first that has none, are the same.

@@ -11,8 +11,9 @@ ghost use Rattle.tough_vault.specs.Documents.{metafile_in, timestamp_in, snapsho
 ghost use Rattle.tough_vault.specs.Files.{snapshot_file};
 ghost use Rattle.tough_client.specs.Failure.{Gives, failure_of, step_failure};
 ghost use Rattle.tough_client.specs.Walk.{if_read};
-ghost use Rattle.tough_client.specs.Machine.{walked, began, new_root, walk_ended, new_timestamp, want_snapshot, new_snapshot, fault_failure, root_not_started, root_cut, timed, fetched, not_started, cut, stepped, refused};
-ghost use Rattle.tough_client.specs.View.{walk_doc, base_doc, known_doc, stage_doc, request_doc, fault_doc, setting_doc};
+ghost use Rattle.tough_client.specs.Machine.{walked, began, new_root, walk_ended, new_timestamp, want_snapshot, new_snapshot, fault_failure, root_not_started, root_cut, timed, fetched, not_started, cut, stepped, refused, stage_after};
+ghost use Rattle.tough_client.specs.Answered as got;
+ghost use Rattle.tough_client.specs.View.{walk_doc, base_doc, known_doc, stage_doc, request_doc, fault_doc, setting_doc, step_doc};
 
 use crate::error::Error;
 use crate::limits::Limits;
@@ -295,7 +296,7 @@ pub(crate) fn take_cut(stage: Stage, fault: Fault) -> Result<Stage, Error>
 }
 
 /// A step that succeeded.
-pub(crate) fn take_success<V: Verify>(
+fn take_success<V: Verify>(
     setting: &Setting<'_>,
     stage: Stage,
     verifier: &V,
@@ -319,7 +320,7 @@ pub(crate) fn take_success<V: Verify>(
 }
 
 /// A step that was refused.
-pub(crate) fn take_refusal(stage: Stage, error: StepError) -> Result<Stage, Error>
+fn take_refusal(stage: Stage, error: StepError) -> Result<Stage, Error>
     ensures { Gives stage_doc (refused (stage_doc stage) (step_failure error)) result }
 {
     match stage {
@@ -330,5 +331,20 @@ pub(crate) fn take_refusal(stage: Stage, error: StepError) -> Result<Stage, Erro
         | Stage::PutTimestamp(_, _)
         | Stage::PutSnapshot(_, _) => Err(Error::from(error)),
         stage => Ok(stage),
+    }
+}
+
+/// The answer of a step.
+pub(crate) fn take_step<V: Verify>(
+    setting: &Setting<'_>,
+    stage: Stage,
+    taken: Result<(), StepError>,
+    verifier: &V,
+) -> Result<Stage, Error>
+    ensures { Gives stage_doc (stage_after (V.verifies verifier.now) (setting_doc setting.now) (stage_doc stage) (got.Step (step_doc taken))) result }
+{
+    match taken {
+        Ok(()) => take_success(setting, stage, verifier),
+        Err(error) => take_refusal(stage, error),
     }
 }
