@@ -2,3 +2,4 @@ pub mod Walking
 pub mod Sound
 pub mod Whole
 pub mod Rotated
+pub mod Settling

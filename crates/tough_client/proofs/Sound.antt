@@ -232,10 +232,19 @@ module _ (verifies : Verifies) (s : SettingDoc) (E : SignedDoc RootDoc → Type 
     new_snapshot-fine b t listed r bytes None is fit h k a = tt
     new_snapshot-fine b t listed r bytes (Some d) is fit h k a =
         let fit1 : IsTrue (fits_request (snapshot_request s.limits b.root.role.consistent_snapshot a.0) bytes) = subst (λ q. IsTrue (fits_request q bytes)) a.3 fit in
-        let both : IsTrue (nat_le (length bytes) (bound a.0.length s.limits.max_snapshot_size)) × IsTrue (has_digest (stated_digest a.0.hashes) bytes) = has-true _ _ fit1 in
-        (h, k, record { entry = a.0; there = a.1; version = a.2; bytes = bytes; reading = is;
-        digest = digest-stated (stated_digest a.0.hashes) bytes both.1;
-        size = size-stated a.0.length s.limits.max_snapshot_size (length bytes) (leb-true _ _ both.0) })
+        let both : IsTrue (nat_le (length bytes) (bound a.0.length s.limits.max_snapshot_size)) × IsTrue (has_digest (stated_digest a.0.hashes) bytes) = has-true _ _ fit1 in (
+          h,
+          k,
+          record {
+            entry = a.0;
+            there = a.1;
+            version = a.2;
+            bytes = bytes;
+            reading = is;
+            digest = digest-stated (stated_digest a.0.hashes) bytes both.1;
+            size = size-stated a.0.length s.limits.max_snapshot_size (length bytes) (leb-true _ _ both.0);
+          },
+        )
 
     -- the snapshot was accepted
     known-fine : (k : KnownDoc) (listed : ℕ) → BaseFine k.start k.root → TimestampFine k.start k.root k.timestamp → Fetched k.timestamp k.snapshot listed
@@ -281,4 +290,9 @@ module _ (verifies : Verifies) (s : SettingDoc) (E : SignedDoc RootDoc → Type 
     answer-fine (at.Clear b) (got.Step (Err f)) keeps asked h = tt
     answer-fine (at.PutTimestamp b t) (got.Step (Err f)) keeps asked h = tt
     answer-fine (at.PutSnapshot k listed) (got.Step (Err f)) keeps asked h = tt
-    answer-fine stage a keeps asked h = h
+    answer-fine stage (got.Moment now) keeps asked h = h
+    answer-fine stage (got.Bytes bytes) keeps asked h = h
+    answer-fine stage (got.NotStarted f) keeps asked h = h
+    answer-fine stage (got.Cut f) keeps asked h = h
+    answer-fine stage (got.Step (Ok u)) keeps asked h = h
+    answer-fine stage (got.Step (Err f)) keeps asked h = h

@@ -6,7 +6,11 @@ use Rattle.tough_client.specs.Requests.{fits_request}
 use Rattle.tough_client.specs.Stages.{KnownDoc, StageDoc, CoreDoc, Done}
 use Rattle.tough_client.specs.Questions.{Question, Fetch}
 use Rattle.tough_client.specs.Answered.{AnswerDoc}
-use Rattle.tough_client.specs.Machine.{answered, question}
+use Rattle.tough_client.specs.Machine.{settled, answered, question}
+
+-- the stage is what the answer makes, or memory was wanting
+abbrev pub Settles : Result StageDoc Failure → StageDoc → Type 0
+Settles r stage = (stage ≡ settled r) ⊎ (stage ≡ Done (Err Memory))
 
 -- the machine went as the answer says, or memory was wanting
 abbrev pub Goes : Verifies → CoreDoc → AnswerDoc → CoreDoc → Type 0

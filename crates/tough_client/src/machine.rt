@@ -6,15 +6,13 @@ ghost use Rattle.tough_client.specs.Stages as at;
 ghost use Rattle.tough_client.specs.Machine.{question, stage_after};
 ghost use Rattle.tough_client.specs.Failure.{Gives};
 ghost use Rattle.tough_client.specs.View.{core_doc, stage_doc, answer_doc, question_of, setting_doc, outcome_doc};
-ghost use Rattle.tough_client.specs.Promises.{Goes, fits, ended};
+ghost use Rattle.tough_client.specs.Promises.{Settles, Goes, fits, ended};
 
 use crate::error::Error;
 use crate::limits::Limits;
 use crate::request::{Answer, Ask};
 use crate::stage::{Known, Stage};
-use crate::turns::{
-    Setting, take_bytes, take_cut, take_moment, take_not_started, take_step,
-};
+use crate::turns::{Setting, take_bytes, take_cut, take_moment, take_not_started, take_step};
 use std::alloc::Global;
 use std::mem;
 use tough_roles::Verify;
@@ -45,6 +43,16 @@ fn turn<V: Verify>(
         Answer::NotStarted(fault) => take_not_started(stage, fault),
         Answer::Cut(fault) => take_cut(stage, fault),
         Answer::Step(taken) => take_step(setting, stage, taken, verifier),
+    }
+}
+
+// The stage after an answer.
+fn next<V: Verify>(setting: &Setting<'_>, stage: Stage, answer: Answer, verifier: &V) -> Stage
+    ensures { Settles (stage_after (V.verifies verifier.now) (setting_doc setting.now) (stage_doc stage) (answer_doc answer)) (stage_doc result) }
+{
+    match turn(setting, stage, answer, verifier) {
+        Ok(stage) => stage,
+        Err(error) => Stage::Done(Err(error)),
     }
 }
 
@@ -112,10 +120,7 @@ impl Core {
             limits: self.limits,
             enforcement: self.enforcement,
         };
-        self.stage = match turn(&setting, stage, answer, verifier) {
-            Ok(stage) => stage,
-            Err(error) => Stage::Done(Err(error)),
-        };
+        self.stage = next(&setting, stage, answer, verifier);
     }
 
     /// How the update ended, once it has.

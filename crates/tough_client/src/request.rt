@@ -102,16 +102,14 @@ impl Request {
 fn versioned(alloc: Global, version: u64, name: &str) -> Result<String, AllocError>
     ensures { IfOk result (λ s. string_bytes s ≡ versioned version name.now) }
 {
-    format!(in alloc; "{version}.{name}")
+    let mut text = version.to_string(alloc)?;
+    text.push_str(".")?;
+    text.push_str(name)?;
+    Ok(text)
 }
 
 // A file's name: with consistent snapshots its version stands before it.
-fn name_at(
-    alloc: Global,
-    consistent: bool,
-    version: u64,
-    name: &str,
-) -> Result<String, AllocError>
+fn name_at(alloc: Global, consistent: bool, version: u64, name: &str) -> Result<String, AllocError>
     ensures { IfOk result (λ s. string_bytes s ≡ name_at consistent version name.now) }
 {
     if consistent {

@@ -120,12 +120,7 @@ fn key_at<'a>(root: &'a Root, ids: &[Decoded<Hex>], place: usize) -> Option<&'a 
 }
 
 // Whether the keys of these identifiers, up to the first that has none, are the same.
-fn are_same_keys(
-    old: &Root,
-    old_ids: &[Decoded<Hex>],
-    new: &Root,
-    new_ids: &[Decoded<Hex>],
-) -> bool
+fn are_same_keys(old: &Root, old_ids: &[Decoded<Hex>], new: &Root, new_ids: &[Decoded<Hex>]) -> bool
     ensures { result ≡ same_keys (keys_under (root_doc old.now).keys old_ids.now) (keys_under (root_doc new.now).keys new_ids.now) }
 {
     for place in 0..old_ids.len() {

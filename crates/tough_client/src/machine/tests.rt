@@ -45,7 +45,12 @@ fn begun(
 }
 
 fn safely(alloc: Global, trusted: &str) -> Result<Core, Fail> {
-    begun(alloc, trusted, Limits::default(), ExpirationEnforcement::Safe)
+    begun(
+        alloc,
+        trusted,
+        Limits::default(),
+        ExpirationEnforcement::Safe,
+    )
 }
 
 // The file that is asked for.
