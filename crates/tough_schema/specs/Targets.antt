@@ -88,13 +88,18 @@ targets_at d = do
   delegations ← optional (codes "delegations") delegations_at targets.1
   Some (record { head = head.0; targets = targets.0; delegations = delegations.0; extra = delegations.1 })
 
+-- the members with the delegations and the targets
+unfoldable pub parts_json : TargetsDoc → Members → Option Members
+parts_json t members = do
+  inner ← optional_json delegations_json t.delegations
+  delegations ← with_optional (codes "delegations") inner members
+  listed ← listing_json t.targets no_members
+  with (codes "targets") (object listed) delegations
+
 unfoldable pub targets_json : TargetsDoc → Option Data
 targets_json t = do
-  inner ← optional_json delegations_json t.delegations
-  delegations ← with_optional (codes "delegations") inner t.extra
-  listed ← listing_json t.targets no_members
-  targets ← with (codes "targets") (object listed) delegations
-  members ← head_json (codes "targets") t.head targets
+  parts ← parts_json t t.extra
+  members ← head_json (codes "targets") t.head parts
   Some (object members)
 
 -- each key stands under its own identifier, and each pattern is one, as in each document that was read

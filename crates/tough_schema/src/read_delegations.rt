@@ -1,10 +1,10 @@
 //! Delegations, read from JSON.
 
-ghost use Rattle.std.specs.Prelude.{◌≡◌, map, option_map};
+ghost use Rattle.std.specs.Prelude.{◌≡◌, map, option_map, string_bytes};
 ghost use Rattle.serde_json.specs.View.{view, items_view, members_view};
 ghost use Rattle.tough_json.specs.Reading.{required, optional, listing, all_at, text};
 ghost use Rattle.tough_json.specs.Results.{Reads, Takes};
-ghost use Rattle.tough_schema.specs.Paths.{paths_doc, pattern, either_at, paths_at};
+ghost use Rattle.tough_schema.specs.Paths.{paths_doc, if_pattern, pattern, either_at, paths_at};
 ghost use Rattle.tough_schema.specs.Delegations.{delegated_role_doc, delegations_doc, delegated_role_at, delegations_at};
 
 use crate::delegations::{DelegatedRole, Delegations, PathSet};
@@ -16,15 +16,23 @@ use tough_json::member::{positive, present, take, text, truth};
 use tough_roles::read_root::{keyids, keys};
 
 // A text as a pattern.
+#[tactic(auto, using(crate::proofs::PathLemmas::if_pattern_is))]
+fn pattern_in(alloc: Global, text: String) -> Result<PathPattern, ReadError>
+    ensures { Reads (λ p. p) result (if_pattern (string_bytes text)) }
+{
+    match PathPattern::new(alloc, text) {
+        Ok(pattern) => Ok(pattern),
+        Err(PatternError::Memory) => Err(ReadError::Memory),
+        Err(PatternError::Glob) => Err(shape(alloc, "paths")),
+    }
+}
+
+// A value as a pattern.
 fn pattern_of(alloc: Global, value: Value) -> Result<PathPattern, ReadError>
     ensures { Reads (λ p. p) result (pattern (view value)) }
 {
     match value {
-        Value::String(text) => match PathPattern::new(alloc, text) {
-            Ok(pattern) => Ok(pattern),
-            Err(PatternError::Memory) => Err(ReadError::Memory),
-            Err(_) => Err(shape(alloc, "paths")),
-        },
+        Value::String(text) => pattern_in(alloc, text),
         _ => Err(shape(alloc, "paths")),
     }
 }

@@ -1,11 +1,12 @@
 //! Targets' entries, read from JSON.
 
 ghost use Rattle.std.specs.Prelude.{◌≡◌, option_map};
+ghost use Rattle.serde_json.specs.Find.{as_object};
 ghost use Rattle.serde_json.specs.View.{view, members_view};
 ghost use Rattle.tough_json.specs.Reading.{required, whole};
 ghost use Rattle.tough_json.specs.Results.{Reads, Takes};
 ghost use Rattle.tough_roles.specs.Timestamp.{hashes_doc, hashes_at};
-ghost use Rattle.tough_schema.specs.Target.{target_doc, target_at, custom_at};
+ghost use Rattle.tough_schema.specs.Target.{target_doc, target_at, custom_at, object_or_empty};
 
 use crate::target::Target;
 use serde_json::{Map, Value};
@@ -39,15 +40,32 @@ fn hashes(
     }
 }
 
+// An object that may be absent.
+fn object_of(alloc: Global, found: Option<Value>) -> Result<Map<String, Value>, ReadError>
+    ensures { Reads (λ m. members_view m.entries) result (object_or_empty (option_map view found)) }
+{
+    match found {
+        None => Ok(Map::new(alloc)),
+        Some(value) => object_in(alloc, value),
+    }
+}
+
+fn object_in(alloc: Global, value: Value) -> Result<Map<String, Value>, ReadError>
+    ensures { Reads (λ m. members_view m.entries) result (as_object (view value)) }
+{
+    match value {
+        Value::Object(inner) => Ok(inner),
+        _ => Err(shape(alloc, "custom")),
+    }
+}
+
 // What an application says of the target, which may be absent.
 fn custom(alloc: Global, members: &mut Map<String, Value>) -> Result<Map<String, Value>, ReadError>
     ensures { Takes (λ m. members_view m.entries) result (members_view members.new.entries) (custom_at (members_view members.old.entries)) }
 {
-    match take(members, "custom") {
-        None => Ok(Map::new(alloc)),
-        Some(Value::Object(inner)) => Ok(inner),
-        Some(_) => Err(shape(alloc, "custom")),
-    }
+    let found = take(members, "custom");
+    let custom = object_of(alloc, found)?;
+    Ok(custom)
 }
 
 /// The target that the value is; `Shape` where it is none.

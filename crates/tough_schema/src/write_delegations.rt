@@ -30,8 +30,8 @@ fn pattern_values(alloc: Global, patterns: &[PathPattern]) -> Result<Vec<Value>,
 {
     let mut values = Vec::new(alloc);
     for pattern in patterns {
-        let value = text_value(alloc, pattern.value())?;
-        values.push(value)?;
+        let item = text_value(alloc, pattern.value())?;
+        values.push(item)?;
     }
     Ok(values)
 }
@@ -42,8 +42,8 @@ fn prefix_values(alloc: Global, prefixes: &[PathHashPrefix]) -> Result<Vec<Value
 {
     let mut values = Vec::new(alloc);
     for prefix in prefixes {
-        let value = text_value(alloc, prefix.value())?;
-        values.push(value)?;
+        let item = text_value(alloc, prefix.value())?;
+        values.push(item)?;
     }
     Ok(values)
 }

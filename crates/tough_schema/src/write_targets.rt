@@ -7,7 +7,7 @@ ghost use Rattle.serde_json.specs.Data.{no_members};
 ghost use Rattle.serde_json.specs.View.{view, members_view};
 ghost use Rattle.tough_names.specs.Named.{by_raw_then_resolved};
 ghost use Rattle.tough_json.specs.Results.{Writes};
-ghost use Rattle.tough_schema.specs.Targets.{listing_doc, listing_json, targets_doc, targets_json, AreSorted};
+ghost use Rattle.tough_schema.specs.Targets.{listing_doc, listing_json, targets_doc, parts_json, targets_json, AreSorted};
 
 use crate::target::Target;
 use crate::targets::Targets;
@@ -37,17 +37,32 @@ fn listing_value(
     Ok(members)
 }
 
+// The members with the delegations and the targets.
+#[tactic(auto, unfolding(crate::specs::Targets::parts_json))]
+fn with_parts(
+    alloc: Global,
+    members: Map<String, Value>,
+    targets: &Targets,
+) -> Result<Map<String, Value>, WriteError>
+    ensures written { Writes (λ m. members_view m.entries) result (parts_json (targets_doc targets.now) (members_view members.entries)) }
+    ensures ordered { IfOk result (λ m. AreSorted (targets_doc targets.now)) }
+{
+    let inner = optional_delegations(alloc, &targets.delegations)?;
+    let delegations = with_optional(alloc, members, "delegations", inner)?;
+    let listed = listing_value(alloc, &targets.targets)?;
+    let parts = with(alloc, delegations, "targets", Value::Object(listed))?;
+    Ok(parts)
+}
+
+/// The JSON of the targets.
 #[tactic(auto, unfolding(crate::specs::Targets::targets_json))]
 pub(crate) fn targets_value(alloc: Global, targets: &Targets) -> Result<Value, WriteError>
     ensures written { Writes view result (targets_json (targets_doc targets.now)) }
     ensures ordered { IfOk result (λ v. AreSorted (targets_doc targets.now)) }
 {
     let extra = copy_members(alloc, &targets._extra)?;
-    let inner = optional_delegations(alloc, &targets.delegations)?;
-    let delegations = with_optional(alloc, extra, "delegations", inner)?;
-    let listed = listing_value(alloc, &targets.targets)?;
-    let listing = with(alloc, delegations, "targets", Value::Object(listed))?;
+    let parts = with_parts(alloc, extra, targets)?;
     let name = targets.spec_version.as_str();
-    let members = with_head(alloc, listing, "targets", name, targets.version, targets.expires)?;
+    let members = with_head(alloc, parts, "targets", name, targets.version, targets.expires)?;
     Ok(Value::Object(members))
 }
