@@ -1,1 +1,5 @@
 pub mod Walking
+pub mod Sound
+pub mod Whole
+pub mod Rotated
+pub mod Settling

@@ -16,6 +16,12 @@ pub data Failure : Type 0 where
   VerifyTrustedMetadata : Option Refused → Failure
   -- the bytes are no signed document of the role
   ParseMetadata : RoleType → Failure
+  -- so many new roots were met
+  MaxUpdatesExceeded : ℕ → Failure
+  -- the file's name can't be joined to the base URL
+  JoinUrl : Failure
+  -- the file couldn't be fetched
+  Transport : Failure
   -- a check refused
   Checked : Reason → Failure
   DatastoreOpen : Failure
@@ -27,6 +33,9 @@ abbrev pub failure_of : Error → Failure
 failure_of (error.ParseTrustedMetadata source) = ParseTrustedMetadata
 failure_of (error.VerifyTrustedMetadata source) = VerifyTrustedMetadata (refused source)
 failure_of (error.ParseMetadata role source) = ParseMetadata role
+failure_of (error.MaxUpdatesExceeded n) = MaxUpdatesExceeded n
+failure_of (error.JoinUrl path source) = JoinUrl
+failure_of (error.Transport source) = Transport
 failure_of (error.SystemTimeSteppedBackward now later) = Checked (check.SystemTimeSteppedBackward now.nanosecond later.nanosecond)
 failure_of error.DatastoreSerialize = Checked check.DatastoreSerialize
 failure_of (error.VerifyMetadata role source) = Checked (check.VerifyMetadata role (refused source))

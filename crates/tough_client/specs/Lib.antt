@@ -1,2 +1,12 @@
 pub mod Failure
 pub mod Walk
+pub mod Requests
+pub mod Rotation
+pub mod Stages
+pub mod Questions
+pub mod Answered
+pub mod Machine
+pub mod View
+pub mod Promises
+pub mod Trusted
+pub mod Runs

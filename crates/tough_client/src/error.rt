@@ -5,8 +5,10 @@ ghost use Rattle.tough_client.specs.declared.error.Error.TheVariants.{Memory};
 
 use jiff::Timestamp as Instant;
 use std::alloc::AllocError;
+use tough_net::TransportError;
 use tough_roles::{self as schema, ReadError, RoleType};
 use tough_vault::{Refusal, StepError};
+use url::ParseError;
 
 /// Why an update, or a call on a repository, failed.
 #[derive(Debug, Drop, thiserror::Error)]
@@ -30,6 +32,26 @@ pub enum Error {
         role: RoleType,
         /// What was wrong.
         source: ReadError,
+    },
+    /// More new roots than the limit allows.
+    #[error("Maximum root updates exceeded: {max_root_updates}")]
+    MaxUpdatesExceeded {
+        /// The limit.
+        max_root_updates: u64,
+    },
+    /// A file's name can't be joined to the base URL.
+    #[error("Failed to join '{path}' to the base URL: {source}")]
+    JoinUrl {
+        /// The file's name.
+        path: String,
+        /// What was wrong.
+        source: ParseError,
+    },
+    /// A file couldn't be fetched.
+    #[error("Failed to fetch: {source}")]
+    Transport {
+        /// What was wrong.
+        source: TransportError,
     },
     /// A later time than this moment was noted before.
     #[error("System time stepped backward: {sys_time} is before {latest_known_time}")]

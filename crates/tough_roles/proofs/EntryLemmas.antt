@@ -116,15 +116,15 @@ own_eq : (own id : List ℕ) (a e : Spelled × KeyDoc) (t : Bool) → bytes_eq o
 own_eq own id a e true s h = (ap Some ((bytes_eq-Decides own id).0 s), some-inj h)
 own_eq own id a e false s h = cc
 
-and_then_ok : {A B : Type 0} (o : Option A) (f : A → Option B) (b : B) → option_and_then f o ≡ Some b → (a : A) × (f a ≡ Some b)
+pub and_then_ok : {A B : Type 0} (o : Option A) (f : A → Option B) (b : B) → option_and_then f o ≡ Some b → (a : A) × (f a ≡ Some b)
 and_then_ok None f b h = cc
 and_then_ok (Some a) f b h = (a, h)
 
-map_ok : {A B : Type 0} (f : A → B) (o : Option A) (b : B) → option_map f o ≡ Some b → (a : A) × (o ≡ Some a) × (f a ≡ b)
+pub map_ok : {A B : Type 0} (f : A → B) (o : Option A) (b : B) → option_map f o ≡ Some b → (a : A) × (o ≡ Some a) × (f a ≡ b)
 map_ok f None b h = cc
 map_ok f (Some a) b h = (a, refl, some-inj h)
 
-required_ok : {A : Type 0} (k : List ℕ) (f : Data → Option A) (ms : Members) (p : A × Members) → required k f ms ≡ Some p → (d : Data) × (f d ≡ Some p.0)
+pub required_ok : {A : Type 0} (k : List ℕ) (f : Data → Option A) (ms : Members) (p : A × Members) → required k f ms ≡ Some p → (d : Data) × (f d ≡ Some p.0)
 required_ok k f ms p h =
     let a = map_ok (λ x. (x, without k ms)) (option_and_then f (get_member k ms)) p h in
     let b = and_then_ok (get_member k ms) f a.0 a.1 in
@@ -171,7 +171,7 @@ keys-own (member name d ms) found es own h =
     let put = with_at (is_none (key_under found a.0.0)) (insert_entry by_bytes found a.0.0 a.0.1) b.0 b.1 in
     keys-own ms b.0 es (subst AreOwn put (own_insert found a.0.0 a.0.1 (entry-own name d a.0 a.1) own)) b.2
 
-own_keys : (d : Data) (es : List (Spelled × KeyDoc)) → keys_at d ≡ Some es → AreOwn es
+pub own_keys : (d : Data) (es : List (Spelled × KeyDoc)) → keys_at d ≡ Some es → AreOwn es
 own_keys d es h = let a = and_then_ok (as_object d) (keys_from []) es h in keys-own a.0 [] es tt a.1
 
 pub root-own : (d : Data) (r : RootDoc) → root_at d ≡ Some r → AreOwn r.keys

@@ -206,6 +206,10 @@ reached_ok v holder role json s r =
     ap (λ p. verdict v p (text_by json s.role) s.signatures) r.there ∙ ap (λ t. verdict v (Some r.asked) t s.signatures) r.canonical ∙ reaches-to v r.asked r.text s.signatures r.reached
 
 no_refusal : (e : Error) → IsRefusal e (Ok tt) → IsOkOrMemory (Err e)
+no_refusal (errors.RoleNotFound name) h = cc
+no_refusal (errors.TargetNotFound name) h = h
+no_refusal errors.NoDelegations h = h
+no_refusal errors.NoTargets h = h
 no_refusal (errors.MissingRole role) h = cc
 no_refusal (errors.JsonSerialization role) h = cc
 no_refusal (errors.DuplicateKeyId keyid) h = cc

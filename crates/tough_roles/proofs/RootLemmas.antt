@@ -21,7 +21,7 @@ use Rattle.tough_roles.specs.declared.role_type.RoleType.TheVariants as types
 use Rattle.tough_roles.proofs.HeadLemmas.{head-back}
 use Rattle.tough_roles.proofs.Tables.{AreBack, table-back}
 
-by_bytes_total : IsTotalOrder by_bytes
+pub by_bytes_total : IsTotalOrder by_bytes
 by_bytes_total = on_texts (λ (s : Spelled). s.bytes)
 
 role_cmp_total : IsTotalOrder role_cmp
@@ -48,7 +48,7 @@ entry-back : (id : Spelled) (key : KeyDoc) (n : List ℕ) (d : Data) → id_name
 unfolding key_entry_at
 entry-back id key n d name own w = rw (spelled-is id n (name-is id n name), key-back key d w) (own-is id key (key_id_of key) own)
 
-keys_back : (es : List (Spelled × KeyDoc)) → AreOwn es → AreBack key_entry_at id_name key_json es
+pub keys_back : (es : List (Spelled × KeyDoc)) → AreOwn es → AreBack key_entry_at id_name key_json es
 keys_back [] o = tt
 keys_back (e ∷ es) o = (λ n d name w. entry-back e.0 e.1 n d name o.0 w, keys_back es o.1)
 

@@ -52,6 +52,10 @@ verdict verifies (Some p) (Some text) signatures =
 
 -- which refusal an error is; want of memory says nothing
 abbrev pub IsRefusal : Error → Result Unit Refused → Type 0
+IsRefusal (errors.RoleNotFound name) v = v ≡ Err MissingRole
+IsRefusal (errors.TargetNotFound name) v = ⊥
+IsRefusal errors.NoDelegations v = ⊥
+IsRefusal errors.NoTargets v = ⊥
 IsRefusal (errors.MissingRole role) v = v ≡ Err MissingRole
 IsRefusal (errors.JsonSerialization role) v = v ≡ Err JsonSerialization
 IsRefusal (errors.DuplicateKeyId keyid) v = v ≡ Err DuplicateKeyId
@@ -65,6 +69,10 @@ Answers (Err e) v = IsRefusal e v
 
 -- An error names the role, and an identifier that stands twice as the document spells it.
 abbrev pub Names : RoleType → List SignatureDoc → Error → Type 0
+Names asked signatures (errors.RoleNotFound name) = ⊥
+Names asked signatures (errors.TargetNotFound name) = ⊥
+Names asked signatures errors.NoDelegations = ⊥
+Names asked signatures errors.NoTargets = ⊥
 Names asked signatures (errors.MissingRole role) = role ≡ asked
 Names asked signatures (errors.JsonSerialization role) = role ≡ asked
 Names asked signatures (errors.DuplicateKeyId keyid) = (i : ℕ) × (i < length signatures) × HoldsAt (λ s. s.keyid.spelling ≡ string_bytes keyid) signatures i
@@ -74,6 +82,10 @@ Names asked signatures errors.Memory = ⊤
 -- no refusal but want of memory
 abbrev pub IsOkOrMemory : Result Unit Error → Type 0
 IsOkOrMemory (Ok u) = ⊤
+IsOkOrMemory (Err (errors.RoleNotFound name)) = ⊥
+IsOkOrMemory (Err (errors.TargetNotFound name)) = ⊥
+IsOkOrMemory (Err errors.NoDelegations) = ⊥
+IsOkOrMemory (Err errors.NoTargets) = ⊥
 IsOkOrMemory (Err (errors.MissingRole role)) = ⊥
 IsOkOrMemory (Err (errors.JsonSerialization role)) = ⊥
 IsOkOrMemory (Err (errors.DuplicateKeyId keyid)) = ⊥

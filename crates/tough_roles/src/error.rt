@@ -1,10 +1,27 @@
 use crate::role_type::RoleType;
 use std::alloc::AllocError;
+use tough_base::TargetName;
 use thiserror::Error as ThisError;
 
-/// Why a role isn't verified.
+/// Why a role isn't verified, or a query of a tree of targets has no answer.
 #[derive(Debug, Drop, ThisError)]
 pub enum Error {
+    /// No delegated role has the name.
+    #[error("Role not found: {name}")]
+    RoleNotFound {
+        name: String,
+    },
+    /// No document that the search comes to lists the name.
+    #[error("Target file not delegated: {}", .name.raw())]
+    TargetNotFound {
+        name: TargetName,
+    },
+    /// The document delegates to no role.
+    #[error("Targets doesn't contain delegations field")]
+    NoDelegations,
+    /// The delegated role has no document.
+    #[error("Delegation doesn't contain targets field")]
+    NoTargets,
     /// The root hasn't the role.
     #[error("Role {role} missing from root metadata")]
     MissingRole {

@@ -18,7 +18,7 @@ use tough_json::write::{positive_value, with, with_text};
 
 /// The version of the specification, the version, and when the role expires; the member `_type` is dropped.
 #[tactic(auto, unfolding(crate::specs::Head::head_at))]
-pub(crate) fn head_of(
+pub fn head_of(
     alloc: Global,
     members: &mut Map<String, Value>,
 ) -> Result<(String, NonZeroU64, jiff::Timestamp), ReadError>
@@ -49,7 +49,7 @@ fn with_instant(
 
 /// The members with those of a role's head, and the role's name as `_type`.
 #[tactic(auto, unfolding(crate::specs::Head::head_json))]
-pub(crate) fn with_head(
+pub fn with_head(
     alloc: Global,
     members: Map<String, Value>,
     kind: &str,

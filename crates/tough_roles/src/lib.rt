@@ -2,12 +2,12 @@
 #![tactic(auto)]
 
 mod error;
-mod head;
+pub mod head;
 pub mod laws;
-mod read_root;
+pub mod read_root;
 mod read_signed;
 mod read_snapshot;
-mod read_timestamp;
+pub mod read_timestamp;
 mod role;
 mod role_type;
 mod root;
@@ -15,11 +15,11 @@ mod signature;
 mod signed;
 mod snapshot;
 mod timestamp;
-mod verify;
-mod write_root;
+pub mod verify;
+pub mod write_root;
 mod write_signed;
 mod write_snapshot;
-mod write_timestamp;
+pub mod write_timestamp;
 
 pub use error::Error;
 pub use role::Role;

@@ -61,7 +61,8 @@ fn keys_of(
     Ok(keys)
 }
 
-fn keys(
+/// The member of the name, as keys under their own identifiers, which must be there.
+pub fn keys(
     alloc: Global,
     members: &mut Map<String, Value>,
     name: &str,
@@ -99,7 +100,8 @@ fn keyid_of(alloc: Global, value: Value) -> Result<Decoded<Hex>, ReadError>
     }
 }
 
-fn keyids(
+/// The member of the name, as a list of identifiers, which must be there.
+pub fn keyids(
     alloc: Global,
     members: &mut Map<String, Value>,
     name: &str,

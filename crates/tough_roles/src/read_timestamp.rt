@@ -14,8 +14,9 @@ use std::collections::BTreeMap;
 use tough_json::error::{ReadError, shape};
 use tough_json::member::{hexadecimal, length, positive, present, take};
 
+/// The hashes that the value is; `Shape` where it is none.
 #[tactic(auto, unfolding(crate::specs::Timestamp::hashes_at))]
-fn hashes_of(alloc: Global, value: Value) -> Result<Hashes, ReadError>
+pub fn hashes_of(alloc: Global, value: Value) -> Result<Hashes, ReadError>
     ensures { Reads hashes_doc result (hashes_at (view value)) }
 {
     let Value::Object(mut members) = value else {

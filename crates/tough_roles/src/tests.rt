@@ -42,6 +42,7 @@ fn verify_name(error: &Error) -> &'static str {
         Error::DuplicateKeyId { .. } => "DuplicateKeyId",
         Error::SignatureThreshold { .. } => "SignatureThreshold",
         Error::Memory => "Memory",
+        _ => "another",
     }
 }
 

@@ -105,8 +105,9 @@ fn stands_from(signatures: &[Signature], from: usize, keyid: &Decoded<Hex>) -> b
         .any(|signature| signature.keyid == *keyid)
 }
 
-// Whether the signatures over the text reach the threshold that the role asks for.
-fn judge<V: Verify>(
+/// Whether the signatures over the text reach the threshold that the role asks for. The refusals, in this order:
+/// `DuplicateKeyId`, `SignatureThreshold`.
+pub fn judge<V: Verify>(
     alloc: Global,
     known: &BTreeMap<Decoded<Hex>, Key>,
     role: RoleType,

@@ -21,8 +21,8 @@ use tough_json::error::WriteError;
 use tough_json::write::{copy_members, digits, positive_value, with};
 use tough_keys::Key;
 
-// Each identifier as an item.
-fn keyid_values(alloc: Global, keyids: &[Decoded<Hex>]) -> Result<Vec<Value>, AllocError>
+/// Each identifier as an item.
+pub fn keyid_values(alloc: Global, keyids: &[Decoded<Hex>]) -> Result<Vec<Value>, AllocError>
     ensures { IfOk result (λ v. all_json hexadecimal_json keyids.now ≡ Some (items_view v.items)) }
 {
     let mut values = Vec::new(alloc);
@@ -61,8 +61,8 @@ fn roles_value(
     Ok(members)
 }
 
-// Each key under its identifier.
-fn keys_value(
+/// Each key under its identifier.
+pub fn keys_value(
     alloc: Global,
     keys: &BTreeMap<Decoded<Hex>, Key>,
 ) -> Result<Map<String, Value>, WriteError>

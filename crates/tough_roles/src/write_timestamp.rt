@@ -14,8 +14,9 @@ use std::collections::BTreeMap;
 use tough_json::error::WriteError;
 use tough_json::write::{copy_members, digits, positive_value, with, with_optional};
 
+/// The JSON of the hashes.
 #[tactic(auto, unfolding(crate::specs::Timestamp::hashes_json))]
-fn hashes_value(alloc: Global, hashes: &Hashes) -> Result<Value, WriteError>
+pub fn hashes_value(alloc: Global, hashes: &Hashes) -> Result<Value, WriteError>
     ensures { Writes view result (hashes_json (hashes_doc hashes.now)) }
 {
     let digits = digits(alloc, &hashes.sha256)?;

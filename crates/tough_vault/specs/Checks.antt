@@ -178,6 +178,10 @@ time_after stored tip now = first_of (later stored now ∷ later tip now ∷ [])
 
 -- what verification refused, in an error
 abbrev pub refused : Error → Option Refused
+refused (error.RoleNotFound name) = Some MissingRole
+refused (error.TargetNotFound name) = None
+refused error.NoDelegations = None
+refused error.NoTargets = None
 refused (error.MissingRole role) = Some MissingRole
 refused (error.JsonSerialization role) = Some JsonSerialization
 refused (error.DuplicateKeyId keyid) = Some DuplicateKeyId

@@ -1,0 +1,169 @@
+-- An update as a machine (TUF specification 1.0, section 5): what is asked next, and what an answer makes of it. An answer of a kind that
+-- isn't waited for changes nothing.
+use Rattle.std.specs.Prelude.{ℕ, ℤ, ◌+◌, ◌-◌, ◌^◌, ◌==◌, List, Option, Some, None, Bool, not, nat_lt, if◌then◌else◌, Result, Ok, Err}
+use Rattle.tough_keys.specs.Same.{Verifies}
+use Rattle.tough_roles.specs.Signature.{SignedDoc}
+use Rattle.tough_roles.specs.Root.{RootDoc}
+use Rattle.tough_roles.specs.Timestamp.{TimestampDoc, MetafileDoc}
+use Rattle.tough_roles.specs.Snapshot.{SnapshotDoc}
+use Rattle.tough_roles.specs.declared.role_type.RoleType.TheVariants as role
+use Rattle.tough_vault.specs.Checks.{MissingSnapshotMeta, SnapshotTargetsMetaMissing, ExpiredMetadata, is_expired}
+use Rattle.tough_vault.specs.Documents.{timestamp_in, snapshot_in, metafile_in}
+use Rattle.tough_vault.specs.Files.{snapshot_file, targets_file}
+use Rattle.tough_client.specs.declared.limits.Limits.{Limits}
+use Rattle.tough_client.specs.Failure.{Failure, ParseMetadata, MaxUpdatesExceeded, JoinUrl, Transport, Checked, Memory}
+use Rattle.tough_client.specs.Walk.{if_read, first_root, next_root}
+use Rattle.tough_client.specs.Requests.{RequestDoc, root_request, timestamp_request, snapshot_request}
+use Rattle.tough_client.specs.Rotation.{is_rotated}
+use Rattle.tough_client.specs.Stages.{WalkDoc, BaseDoc, KnownDoc, StageDoc, SettingDoc, CoreDoc}
+use Rattle.tough_client.specs.Stages as at
+use Rattle.tough_client.specs.Questions.{Question}
+use Rattle.tough_client.specs.Questions as ask
+use Rattle.tough_client.specs.Answered.{FaultDoc, Unjoined, NotFound, Faulty, NoMemory, AnswerDoc}
+use Rattle.tough_client.specs.Answered as got
+
+abbrev pub unless : {A : Type 0} → Failure → Bool → Result A Failure → Result A Failure
+unless f b next = if b then next else Err f
+
+abbrev pub and_then : {A B : Type 0} → Result A Failure → (A → Result B Failure) → Result B Failure
+and_then (Ok a) f = f a
+and_then (Err e) f = Err e
+
+-- ---- roots (sections 5.2, 5.3)
+
+-- the walk goes on from a root, or ends where there is no later version
+abbrev pub walked : Limits → WalkDoc → Result StageDoc Failure
+walked l w = unless (MaxUpdatesExceeded l.max_root_updates) (nat_lt (w.last.role.head.version - w.first.role.head.version) l.max_root_updates)
+    (if w.last.role.head.version == 2 ^ 64 - 1 then Ok (at.PutLast w) else Ok (at.FetchRoot w (root_request l (w.last.role.head.version + 1))))
+
+-- the walk begins with the root that was handed in
+abbrev pub began : Verifies → Limits → List ℕ → ℤ → Result StageDoc Failure
+began verifies l trusted start = and_then (first_root verifies trusted) (λ root. walked l (record { start = start; first = root; last = root }))
+
+abbrev pub new_root : Verifies → WalkDoc → List ℕ → Result StageDoc Failure
+new_root verifies w bytes = and_then (next_root verifies w.last.role bytes) (λ root. Ok (at.PutRoot (record { start = w.start; first = w.first; last = root })))
+
+abbrev pub base_of : WalkDoc → BaseDoc
+base_of w = record { start = w.start; root = w.last }
+
+-- the last root was stored: its expiry, and whether keys were rotated
+abbrev pub walk_ended : Limits → Bool → WalkDoc → Result StageDoc Failure
+walk_ended l enforced w = unless (Checked (ExpiredMetadata role.Root)) (not (is_expired enforced w.start w.last.role.head.expires))
+    (if is_rotated w.first.role w.last.role then Ok (at.Clear (base_of w)) else Ok (at.FetchTimestamp (base_of w) (timestamp_request l)))
+
+-- ---- the timestamp (section 5.4)
+
+abbrev pub new_timestamp : BaseDoc → List ℕ → Result StageDoc Failure
+new_timestamp b bytes = if_read (ParseMetadata role.Timestamp) (timestamp_in bytes) (λ t. Ok (at.PutTimestamp b t))
+
+-- the snapshot is to be fetched as the timestamp's entry says
+abbrev pub want_snapshot : Limits → BaseDoc → SignedDoc TimestampDoc → Option MetafileDoc → Result StageDoc Failure
+want_snapshot l b t None = Err (Checked (MissingSnapshotMeta t.role.head.version))
+want_snapshot l b t (Some m) = Ok (at.FetchSnapshot b t m.version (snapshot_request l b.root.role.consistent_snapshot m))
+
+-- ---- the snapshot (section 5.5)
+
+abbrev pub known_of : BaseDoc → SignedDoc TimestampDoc → SignedDoc SnapshotDoc → KnownDoc
+known_of b t s = record { start = b.start; root = b.root; timestamp = t; snapshot = s }
+
+abbrev pub new_snapshot : BaseDoc → SignedDoc TimestampDoc → ℕ → List ℕ → Result StageDoc Failure
+new_snapshot b t listed bytes = if_read (ParseMetadata role.Snapshot) (snapshot_in bytes) (λ s. Ok (at.PutSnapshot (known_of b t s) listed))
+
+-- ---- faults
+
+abbrev pub fault_failure : FaultDoc → Failure
+fault_failure Unjoined = JoinUrl
+fault_failure NotFound = Transport
+fault_failure Faulty = Transport
+fault_failure NoMemory = Memory
+
+-- any error of starting ends the walk, save want of memory and a name that can't be joined
+abbrev pub root_not_started : WalkDoc → FaultDoc → Result StageDoc Failure
+root_not_started w Unjoined = Err JoinUrl
+root_not_started w NoMemory = Err Memory
+root_not_started w _ = Ok (at.PutLast w)
+
+-- a file that the stream doesn't find ends the walk
+abbrev pub root_cut : WalkDoc → FaultDoc → Result StageDoc Failure
+root_cut w NotFound = Ok (at.PutLast w)
+root_cut w f = Err (fault_failure f)
+
+-- ---- answers, by their kind
+
+abbrev pub timed : StageDoc → ℤ → Result StageDoc Failure
+timed at.Moment now = Ok (at.NoteTime now)
+timed stage now = Ok stage
+
+abbrev pub fetched : Verifies → StageDoc → List ℕ → Result StageDoc Failure
+fetched verifies (at.FetchRoot w r) bytes = new_root verifies w bytes
+fetched verifies (at.FetchTimestamp b r) bytes = new_timestamp b bytes
+fetched verifies (at.FetchSnapshot b t listed r) bytes = new_snapshot b t listed bytes
+fetched verifies stage bytes = Ok stage
+
+abbrev pub not_started : StageDoc → FaultDoc → Result StageDoc Failure
+not_started (at.FetchRoot w r) f = root_not_started w f
+not_started (at.FetchTimestamp b r) f = Err (fault_failure f)
+not_started (at.FetchSnapshot b t listed r) f = Err (fault_failure f)
+not_started stage f = Ok stage
+
+abbrev pub cut : StageDoc → FaultDoc → Result StageDoc Failure
+cut (at.FetchRoot w r) f = root_cut w f
+cut (at.FetchTimestamp b r) f = Err (fault_failure f)
+cut (at.FetchSnapshot b t listed r) f = Err (fault_failure f)
+cut stage f = Ok stage
+
+-- the step that was asked for succeeded
+abbrev pub stepped : Verifies → SettingDoc → StageDoc → Result StageDoc Failure
+stepped verifies s (at.NoteTime now) = began verifies s.limits s.trusted now
+stepped verifies s (at.PutRoot w) = walked s.limits w
+stepped verifies s (at.PutLast w) = walk_ended s.limits s.enforced w
+stepped verifies s (at.Clear b) = Ok (at.FetchTimestamp b (timestamp_request s.limits))
+stepped verifies s (at.PutTimestamp b t) = want_snapshot s.limits b t (metafile_in t.role.meta snapshot_file)
+stepped verifies s (at.PutSnapshot k listed) = Ok (at.Done (Ok k))
+stepped verifies s stage = Ok stage
+
+-- the step that was asked for was refused
+abbrev pub refused : StageDoc → Failure → Result StageDoc Failure
+refused (at.NoteTime now) f = Err f
+refused (at.PutRoot w) f = Err f
+refused (at.PutLast w) f = Err f
+refused (at.Clear b) f = Err f
+refused (at.PutTimestamp b t) f = Err f
+refused (at.PutSnapshot k listed) f = Err f
+refused stage f = Ok stage
+
+abbrev pub stage_after : Verifies → SettingDoc → StageDoc → AnswerDoc → Result StageDoc Failure
+stage_after verifies s stage (got.Moment now) = timed stage now
+stage_after verifies s stage (got.Bytes bytes) = fetched verifies stage bytes
+stage_after verifies s stage (got.NotStarted f) = not_started stage f
+stage_after verifies s stage (got.Cut f) = cut stage f
+stage_after verifies s stage (got.Step (Ok u)) = stepped verifies s stage
+stage_after verifies s stage (got.Step (Err f)) = refused stage f
+
+-- a failure ends the update
+abbrev pub settled : Result StageDoc Failure → StageDoc
+settled (Ok stage) = stage
+settled (Err f) = at.Done (Err f)
+
+-- what an answer makes of the machine
+abbrev pub answered : Verifies → CoreDoc → AnswerDoc → CoreDoc
+answered verifies c a = record { setting = c.setting; stage = settled (stage_after verifies c.setting c.stage a) }
+
+-- ---- questions
+
+abbrev pub question_at : Bool → StageDoc → Question
+question_at enforced at.Moment = ask.Moment
+question_at enforced (at.NoteTime now) = ask.NoteTime now
+question_at enforced (at.FetchRoot w r) = ask.Fetch r
+question_at enforced (at.PutRoot w) = ask.PutRoot w.last
+question_at enforced (at.PutLast w) = ask.PutRoot w.last
+question_at enforced (at.Clear b) = ask.ClearRotated
+question_at enforced (at.FetchTimestamp b r) = ask.Fetch r
+question_at enforced (at.PutTimestamp b t) = ask.AdvanceTimestamp b.root.role t b.start enforced
+question_at enforced (at.FetchSnapshot b t listed r) = ask.Fetch r
+question_at enforced (at.PutSnapshot k listed) = ask.AdvanceSnapshot k.root.role listed k.snapshot k.start enforced
+question_at enforced (at.Done r) = ask.Ready
+
+-- what is asked next
+abbrev pub question : CoreDoc → Question
+question c = question_at c.setting.enforced c.stage

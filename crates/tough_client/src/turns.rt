@@ -1,0 +1,350 @@
+//! What an answer makes of a stage.
+
+ghost use Rattle.std.specs.Prelude.{◌≡◌, option_map, option_copied, Ok, Err};
+ghost use Rattle.tough_keys.specs.Same.{Verifies};
+ghost use Rattle.tough_roles.specs.Signature.{signed_doc};
+ghost use Rattle.tough_roles.specs.Root.{root_doc};
+ghost use Rattle.tough_roles.specs.Timestamp.{timestamp_doc, metafile_doc, metafiles_doc};
+ghost use Rattle.tough_roles.specs.Snapshot.{snapshot_doc};
+ghost use Rattle.tough_vault.specs.Checks.{enforces, is_expired};
+ghost use Rattle.tough_vault.specs.Documents.{metafile_in, timestamp_in, snapshot_in};
+ghost use Rattle.tough_vault.specs.Files.{snapshot_file};
+ghost use Rattle.tough_client.specs.Failure.{Gives, failure_of, step_failure};
+ghost use Rattle.tough_client.specs.Walk.{if_read};
+ghost use Rattle.tough_client.specs.Machine.{walked, began, new_root, walk_ended, new_timestamp, want_snapshot, new_snapshot, fault_failure, root_not_started, root_cut, timed, fetched, not_started, cut, stepped, refused, stage_after};
+ghost use Rattle.tough_client.specs.Answered as got;
+ghost use Rattle.tough_client.specs.View.{walk_doc, base_doc, known_doc, stage_doc, request_doc, fault_doc, setting_doc, step_doc};
+
+use crate::error::Error;
+use crate::limits::Limits;
+use crate::request::{Fault, Request, root_request, snapshot_request, timestamp_request};
+use crate::rotation::is_rotated;
+use crate::stage::{Base, Known, Stage, Walk};
+use crate::walk::{first_root, next_root};
+use jiff::Timestamp as Instant;
+use std::alloc::Global;
+use std::collections::BTreeMap;
+use tough_net::TransportErrorKind;
+use tough_roles::{Metafile, ReadError, RoleType, Root, Signed, Snapshot, Timestamp, Verify};
+use tough_vault::{ExpirationEnforcement, StepError};
+use url::ParseError;
+
+/// What the caller set.
+#[derive(Clone, Copy, Drop)]
+pub(crate) struct Setting<'a> {
+    pub(crate) alloc: Global,
+    pub(crate) trusted: &'a [u8],
+    pub(crate) limits: Limits,
+    pub(crate) enforcement: ExpirationEnforcement,
+}
+
+/// The walk goes on from a root, or ends where there is no later version.
+fn go_on(alloc: Global, limits: &Limits, walk: Walk) -> Result<Stage, Error>
+    ensures { Gives stage_doc (walked limits.now (walk_doc walk)) result }
+{
+    let version = walk.last().signed.version.get();
+    let first = walk.first.signed.version.get();
+    if version.saturating_sub(first) >= limits.max_root_updates {
+        return Err(Error::MaxUpdatesExceeded {
+            max_root_updates: limits.max_root_updates,
+        });
+    }
+    if version == u64::MAX {
+        return Ok(Stage::PutLast(walk));
+    }
+    let request = root_request(alloc, limits, version + 1)?;
+    Ok(Stage::FetchRoot(walk, request))
+}
+
+/// The walk begins.
+fn begin<V: Verify>(
+    alloc: Global,
+    limits: &Limits,
+    trusted: &[u8],
+    start: Instant,
+    verifier: &V,
+) -> Result<Stage, Error>
+    ensures { Gives stage_doc (began (V.verifies verifier.now) limits.now trusted.now start.nanosecond) result }
+{
+    let first = match first_root(alloc, trusted, verifier) {
+        Ok(first) => first,
+        Err(error) => return Err(error),
+    };
+    let walk = Walk {
+        start,
+        first,
+        later: None,
+    };
+    go_on(alloc, limits, walk)
+}
+
+fn take_root<V: Verify>(
+    alloc: Global,
+    walk: Walk,
+    bytes: &[u8],
+    verifier: &V,
+) -> Result<Stage, Error>
+    ensures { Gives stage_doc (new_root (V.verifies verifier.now) (walk_doc walk) bytes.now) result }
+{
+    let root = match next_root(alloc, &walk.last().signed, bytes, verifier) {
+        Ok(root) => root,
+        Err(error) => return Err(error),
+    };
+    let Walk {
+        start,
+        first,
+        later: _,
+    } = walk;
+    Ok(Stage::PutRoot(Walk {
+        start,
+        first,
+        later: Some(root),
+    }))
+}
+
+// Whether the update began after this moment, where that counts.
+fn is_expired(enforcement: ExpirationEnforcement, start: Instant, expires: Instant) -> bool
+    ensures { result ≡ is_expired (enforces enforcement) start.nanosecond expires.nanosecond }
+{
+    match enforcement {
+        ExpirationEnforcement::Safe => expires < start,
+        ExpirationEnforcement::Unsafe => false,
+    }
+}
+
+/// The last root was stored.
+fn end_walk(
+    alloc: Global,
+    limits: &Limits,
+    enforcement: ExpirationEnforcement,
+    walk: Walk,
+) -> Result<Stage, Error>
+    ensures { Gives stage_doc (walk_ended limits.now (enforces enforcement) (walk_doc walk)) result }
+{
+    let last = &walk.last().signed;
+    if is_expired(enforcement, walk.start, last.expires) {
+        return Err(Error::ExpiredMetadata {
+            role: RoleType::Root,
+        });
+    }
+    if is_rotated(&walk.first.signed, last) {
+        return Ok(Stage::Clear(walk.into_base()));
+    }
+    let request = timestamp_request(alloc, limits)?;
+    Ok(Stage::FetchTimestamp(walk.into_base(), request))
+}
+
+fn take_timestamp(alloc: Global, base: Base, bytes: &[u8]) -> Result<Stage, Error>
+    ensures { Gives stage_doc (new_timestamp (base_doc base) bytes.now) result }
+{
+    match Signed::<Timestamp>::read(alloc, bytes) {
+        Ok(timestamp) => Ok(Stage::PutTimestamp(base, timestamp)),
+        Err(ReadError::Memory) => Err(Error::Memory),
+        Err(source) => Err(Error::ParseMetadata {
+            role: RoleType::Timestamp,
+            source,
+        }),
+    }
+}
+
+// What is listed for a name.
+fn listed<'a>(meta: &'a BTreeMap<String, Metafile>, name: &str) -> Option<&'a Metafile>
+    ensures { option_map metafile_doc (option_copied result) ≡ metafile_in (metafiles_doc meta.now.entries) name.now }
+{
+    meta.get(name)
+}
+
+/// The timestamp was accepted.
+fn go_to_snapshot(
+    alloc: Global,
+    limits: &Limits,
+    base: Base,
+    timestamp: Signed<Timestamp>,
+) -> Result<Stage, Error>
+    ensures { Gives stage_doc (want_snapshot limits.now (base_doc base) (signed_doc timestamp_doc timestamp) (metafile_in (timestamp_doc timestamp.signed).meta snapshot_file)) result }
+{
+    let Some(meta) = listed(&timestamp.signed.meta, "snapshot.json") else {
+        return Err(Error::MissingSnapshotMeta {
+            version: timestamp.signed.version.get(),
+        });
+    };
+    let consistent = base.root.signed.consistent_snapshot;
+    let request = snapshot_request(alloc, limits, consistent, meta)?;
+    let version = meta.version.get();
+    Ok(Stage::FetchSnapshot(base, timestamp, version, request))
+}
+
+fn take_snapshot(
+    alloc: Global,
+    base: Base,
+    timestamp: Signed<Timestamp>,
+    listed: u64,
+    bytes: &[u8],
+) -> Result<Stage, Error>
+    ensures { Gives stage_doc (new_snapshot (base_doc base) (signed_doc timestamp_doc timestamp) listed bytes.now) result }
+{
+    match Signed::<Snapshot>::read(alloc, bytes) {
+        Ok(snapshot) => {
+            let Base { start, root } = base;
+            let known = Known {
+                start,
+                root,
+                timestamp,
+                snapshot,
+            };
+            Ok(Stage::PutSnapshot(known, listed))
+        }
+        Err(ReadError::Memory) => Err(Error::Memory),
+        Err(source) => Err(Error::ParseMetadata {
+            role: RoleType::Snapshot,
+            source,
+        }),
+    }
+}
+
+// What a fault is where the file of this name is needed.
+fn fault_error(path: String, fault: Fault) -> Error
+    ensures { failure_of result ≡ fault_failure (fault_doc fault) }
+{
+    match fault {
+        Fault::JoinUrl(ParseError::OutOfMemory) => Error::Memory,
+        Fault::JoinUrl(source) => Error::JoinUrl { path, source },
+        Fault::Transport(source) => match source.kind() {
+            TransportErrorKind::Memory => Error::Memory,
+            _ => Error::Transport { source },
+        },
+    }
+}
+
+// The fetch of a root didn't start.
+fn end_unstarted(walk: Walk, request: Request, fault: Fault) -> Result<Stage, Error>
+    ensures { Gives stage_doc (root_not_started (walk_doc walk) (fault_doc fault)) result }
+{
+    match fault {
+        Fault::JoinUrl(source) => Err(fault_error(request.name, Fault::JoinUrl(source))),
+        Fault::Transport(source) => match source.kind() {
+            TransportErrorKind::Memory => Err(Error::Memory),
+            _ => Ok(Stage::PutLast(walk)),
+        },
+    }
+}
+
+// The stream of a root failed.
+fn end_cut(walk: Walk, request: Request, fault: Fault) -> Result<Stage, Error>
+    ensures { Gives stage_doc (root_cut (walk_doc walk) (fault_doc fault)) result }
+{
+    match fault {
+        Fault::JoinUrl(source) => Err(fault_error(request.name, Fault::JoinUrl(source))),
+        Fault::Transport(source) => match source.kind() {
+            TransportErrorKind::FileNotFound => Ok(Stage::PutLast(walk)),
+            _ => Err(fault_error(request.name, Fault::Transport(source))),
+        },
+    }
+}
+
+/// A moment.
+pub(crate) fn take_moment(stage: Stage, now: Instant) -> Result<Stage, Error>
+    ensures { Gives stage_doc (timed (stage_doc stage) now.nanosecond) result }
+{
+    match stage {
+        Stage::Moment => Ok(Stage::NoteTime(now)),
+        stage => Ok(stage),
+    }
+}
+
+/// The bytes of a file.
+pub(crate) fn take_bytes<V: Verify>(
+    alloc: Global,
+    stage: Stage,
+    bytes: &[u8],
+    verifier: &V,
+) -> Result<Stage, Error>
+    ensures { Gives stage_doc (fetched (V.verifies verifier.now) (stage_doc stage) bytes.now) result }
+{
+    match stage {
+        Stage::FetchRoot(walk, _) => take_root(alloc, walk, bytes, verifier),
+        Stage::FetchTimestamp(base, _) => take_timestamp(alloc, base, bytes),
+        Stage::FetchSnapshot(base, timestamp, listed, _) => {
+            take_snapshot(alloc, base, timestamp, listed, bytes)
+        }
+        stage => Ok(stage),
+    }
+}
+
+/// A fetch that didn't start.
+pub(crate) fn take_not_started(stage: Stage, fault: Fault) -> Result<Stage, Error>
+    ensures { Gives stage_doc (not_started (stage_doc stage) (fault_doc fault)) result }
+{
+    match stage {
+        Stage::FetchRoot(walk, request) => end_unstarted(walk, request, fault),
+        Stage::FetchTimestamp(_, request) => Err(fault_error(request.name, fault)),
+        Stage::FetchSnapshot(_, _, _, request) => Err(fault_error(request.name, fault)),
+        stage => Ok(stage),
+    }
+}
+
+/// A stream that failed.
+pub(crate) fn take_cut(stage: Stage, fault: Fault) -> Result<Stage, Error>
+    ensures { Gives stage_doc (cut (stage_doc stage) (fault_doc fault)) result }
+{
+    match stage {
+        Stage::FetchRoot(walk, request) => end_cut(walk, request, fault),
+        Stage::FetchTimestamp(_, request) => Err(fault_error(request.name, fault)),
+        Stage::FetchSnapshot(_, _, _, request) => Err(fault_error(request.name, fault)),
+        stage => Ok(stage),
+    }
+}
+
+/// A step that succeeded.
+fn take_success<V: Verify>(
+    setting: &Setting<'_>,
+    stage: Stage,
+    verifier: &V,
+) -> Result<Stage, Error>
+    ensures { Gives stage_doc (stepped (V.verifies verifier.now) (setting_doc setting.now) (stage_doc stage)) result }
+{
+    let alloc = setting.alloc;
+    let limits = &setting.limits;
+    match stage {
+        Stage::NoteTime(now) => begin(alloc, limits, setting.trusted, now, verifier),
+        Stage::PutRoot(walk) => go_on(alloc, limits, walk),
+        Stage::PutLast(walk) => end_walk(alloc, limits, setting.enforcement, walk),
+        Stage::Clear(base) => {
+            let request = timestamp_request(alloc, limits)?;
+            Ok(Stage::FetchTimestamp(base, request))
+        }
+        Stage::PutTimestamp(base, timestamp) => go_to_snapshot(alloc, limits, base, timestamp),
+        Stage::PutSnapshot(known, _) => Ok(Stage::Done(Ok(known))),
+        stage => Ok(stage),
+    }
+}
+
+/// A step that was refused.
+fn take_refusal(stage: Stage, error: StepError) -> Result<Stage, Error>
+    ensures { Gives stage_doc (refused (stage_doc stage) (step_failure error)) result }
+{
+    match stage {
+        Stage::NoteTime(_)
+        | Stage::PutRoot(_)
+        | Stage::PutLast(_)
+        | Stage::Clear(_)
+        | Stage::PutTimestamp(_, _)
+        | Stage::PutSnapshot(_, _) => Err(Error::from(error)),
+        stage => Ok(stage),
+    }
+}
+
+/// The answer of a step.
+pub(crate) fn take_step<V: Verify>(
+    setting: &Setting<'_>,
+    stage: Stage,
+    taken: Result<(), StepError>,
+    verifier: &V,
+) -> Result<Stage, Error>
+    ensures { Gives stage_doc (stage_after (V.verifies verifier.now) (setting_doc setting.now) (stage_doc stage) (got.Step (step_doc taken))) result }
+{
+    match taken {
+        Ok(()) => take_success(setting, stage, verifier),
+        Err(error) => take_refusal(stage, error),
+    }
+}

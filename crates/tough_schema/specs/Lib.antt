@@ -1,0 +1,4 @@
+pub mod Paths
+pub mod Target
+pub mod Delegations
+pub mod Targets

@@ -1,0 +1,35 @@
+use crate::targets::DelegatedTargets;
+use std::collections::BTreeMap;
+use std::num::NonZeroU64;
+use tough_base::{Decoded, Hex, PathHashPrefix, PathPattern};
+use tough_keys::Key;
+use tough_roles::Signed;
+
+/// The names that a delegated role may list: those that a pattern matches, or those whose digest begins with a prefix
+/// (TUF specification 1.0, section 4.5, `paths` and `path_hash_prefixes`).
+#[derive(Drop)]
+pub enum PathSet {
+    Paths(Vec<PathPattern>),
+    PathHashPrefixes(Vec<PathHashPrefix>),
+}
+
+/// The roles that a document delegates to, in their order, and their keys (TUF specification 1.0, section 4.5,
+/// `delegations`).
+#[derive(Drop)]
+#[cycle(tree)]
+pub struct Delegations {
+    pub keys: BTreeMap<Decoded<Hex>, Key>,
+    pub roles: Vec<DelegatedRole>,
+}
+
+/// A delegated role, and its document where it was loaded; the document is no member of the JSON.
+#[derive(Drop)]
+#[cycle(tree)]
+pub struct DelegatedRole {
+    pub name: String,
+    pub keyids: Vec<Decoded<Hex>>,
+    pub threshold: NonZeroU64,
+    pub paths: PathSet,
+    pub terminating: bool,
+    pub targets: Option<Signed<DelegatedTargets>>,
+}

@@ -1,0 +1,21 @@
+//! Signed documents, targets and delegations among them, their verification, and queries of a tree of targets.
+#![tactic(auto)]
+
+mod delegations;
+mod read_delegations;
+mod read_target;
+mod read_targets;
+mod target;
+mod targets;
+mod write_delegations;
+mod write_target;
+mod write_targets;
+
+pub use delegations::{DelegatedRole, Delegations, PathSet};
+pub use target::Target;
+pub use targets::{DelegatedTargets, Targets};
+pub use tough_roles::{
+    DemoSign, DemoVerify, EcdsaKey, EcdsaScheme, Ed25519Key, Ed25519Scheme, Error, Hashes, Key,
+    KeyParseError, Metafile, ReadError, Role, RoleKeys, RoleType, Root, RsaKey, RsaScheme, Sign,
+    SignError, Signature, Signed, Snapshot, Timestamp, Verify, WriteError, canonical_form,
+};

@@ -1,0 +1,172 @@
+//! Delegations, read from JSON.
+
+ghost use Rattle.std.specs.Prelude.{◌≡◌, map, option_map, string_bytes};
+ghost use Rattle.serde_json.specs.View.{view, items_view, members_view};
+ghost use Rattle.tough_json.specs.Reading.{required, optional, listing, all_at, text};
+ghost use Rattle.tough_json.specs.Results.{Reads, Takes};
+ghost use Rattle.tough_schema.specs.Paths.{paths_doc, if_pattern, pattern, either_at, paths_at};
+ghost use Rattle.tough_schema.specs.Delegations.{delegated_role_doc, delegations_doc, delegated_role_at, delegations_at};
+
+use crate::delegations::{DelegatedRole, Delegations, PathSet};
+use serde_json::{Map, Value};
+use std::alloc::Global;
+use tough_base::{PathHashPrefix, PathPattern, PatternError};
+use tough_json::error::{ReadError, shape};
+use tough_json::member::{positive, present, take, text, truth};
+use tough_roles::read_root::{keyids, keys};
+
+// A text as a pattern.
+#[tactic(auto, using(crate::proofs::PathLemmas::if_pattern_is))]
+fn pattern_in(alloc: Global, text: String) -> Result<PathPattern, ReadError>
+    ensures { Reads (λ p. p) result (if_pattern (string_bytes text)) }
+{
+    match PathPattern::new(alloc, text) {
+        Ok(pattern) => Ok(pattern),
+        Err(PatternError::Memory) => Err(ReadError::Memory),
+        Err(PatternError::Glob) => Err(shape(alloc, "paths")),
+    }
+}
+
+// A value as a pattern.
+fn pattern_of(alloc: Global, value: Value) -> Result<PathPattern, ReadError>
+    ensures { Reads (λ p. p) result (pattern (view value)) }
+{
+    match value {
+        Value::String(text) => pattern_in(alloc, text),
+        _ => Err(shape(alloc, "paths")),
+    }
+}
+
+// Each item as a pattern.
+fn patterns_of(alloc: Global, values: Vec<Value>) -> Result<Vec<PathPattern>, ReadError>
+    ensures { Reads (λ v. v.items) result (all_at pattern (items_view values.items)) }
+{
+    let mut patterns = Vec::new(alloc);
+    for value in values {
+        let pattern = pattern_of(alloc, value)?;
+        patterns.push(pattern)?;
+    }
+    Ok(patterns)
+}
+
+// A text as a prefix.
+fn prefix_of(alloc: Global, value: Value) -> Result<PathHashPrefix, ReadError>
+    ensures { Reads (λ p. p) result (text (view value)) }
+{
+    match value {
+        Value::String(text) => Ok(PathHashPrefix::new(text)),
+        _ => Err(shape(alloc, "path_hash_prefixes")),
+    }
+}
+
+// Each item as a prefix.
+fn prefixes_of(alloc: Global, values: Vec<Value>) -> Result<Vec<PathHashPrefix>, ReadError>
+    ensures { Reads (λ v. v.items) result (all_at text (items_view values.items)) }
+{
+    let mut prefixes = Vec::new(alloc);
+    for value in values {
+        let prefix = prefix_of(alloc, value)?;
+        prefixes.push(prefix)?;
+    }
+    Ok(prefixes)
+}
+
+// What stands under the two names, exactly one of which is there.
+fn either(
+    alloc: Global,
+    patterns: Option<Value>,
+    prefixes: Option<Value>,
+) -> Result<PathSet, ReadError>
+    ensures { Reads paths_doc result (either_at (option_map view patterns) (option_map view prefixes)) }
+{
+    match (patterns, prefixes) {
+        (Some(Value::Array(items)), None) => Ok(PathSet::Paths(patterns_of(alloc, items)?)),
+        (None, Some(Value::Array(items))) => {
+            Ok(PathSet::PathHashPrefixes(prefixes_of(alloc, items)?))
+        }
+        _ => Err(shape(alloc, "paths")),
+    }
+}
+
+// The names that the role may list.
+fn paths(alloc: Global, members: &mut Map<String, Value>) -> Result<PathSet, ReadError>
+    ensures { Reads paths_doc result (paths_at (members_view members.old.entries)) }
+{
+    let patterns = take(members, "paths");
+    let prefixes = take(members, "path_hash_prefixes");
+    either(alloc, patterns, prefixes)
+}
+
+#[tactic(auto, unfolding(crate::specs::Delegations::delegated_role_at))]
+fn delegated_role_of(alloc: Global, value: Value) -> Result<DelegatedRole, ReadError>
+    ensures { Reads delegated_role_doc result (delegated_role_at (view value)) }
+{
+    let Value::Object(mut members) = value else {
+        return Err(shape(alloc, "roles"));
+    };
+    let name = text(alloc, &mut members, "name")?;
+    let keyids = keyids(alloc, &mut members, "keyids")?;
+    let threshold = positive(alloc, &mut members, "threshold")?;
+    let terminating = truth(alloc, &mut members, "terminating")?;
+    let paths = paths(alloc, &mut members)?;
+    Ok(DelegatedRole {
+        name,
+        keyids,
+        threshold,
+        paths,
+        terminating,
+        targets: None,
+    })
+}
+
+// Each item as a role.
+fn roles_of(alloc: Global, values: Vec<Value>) -> Result<Vec<DelegatedRole>, ReadError>
+    ensures { Reads (λ v. map delegated_role_doc v.items) result (all_at delegated_role_at (items_view values.items)) }
+{
+    let mut roles = Vec::new(alloc);
+    for value in values {
+        let role = delegated_role_of(alloc, value)?;
+        roles.push(role)?;
+    }
+    Ok(roles)
+}
+
+// The list of roles that must be there.
+fn roles(
+    alloc: Global,
+    members: &mut Map<String, Value>,
+    name: &str,
+) -> Result<Vec<DelegatedRole>, ReadError>
+    ensures { Takes (λ v. map delegated_role_doc v.items) result (members_view members.new.entries) (required name.now (listing delegated_role_at) (members_view members.old.entries)) }
+{
+    match take(members, name) {
+        Some(Value::Array(items)) => roles_of(alloc, items),
+        _ => Err(shape(alloc, name)),
+    }
+}
+
+#[tactic(auto, unfolding(crate::specs::Delegations::delegations_at))]
+fn delegations_of(alloc: Global, value: Value) -> Result<Delegations, ReadError>
+    ensures { Reads delegations_doc result (delegations_at (view value)) }
+{
+    let Value::Object(mut members) = value else {
+        return Err(shape(alloc, "delegations"));
+    };
+    let keys = keys(alloc, &mut members, "keys")?;
+    let roles = roles(alloc, &mut members, "roles")?;
+    Ok(Delegations { keys, roles })
+}
+
+/// The delegations, which may be absent.
+pub(crate) fn delegations(
+    alloc: Global,
+    members: &mut Map<String, Value>,
+    name: &str,
+) -> Result<Option<Delegations>, ReadError>
+    ensures { Takes (option_map delegations_doc) result (members_view members.new.entries) (optional name.now delegations_at (members_view members.old.entries)) }
+{
+    match present(members, name) {
+        None => Ok(None),
+        Some(value) => Ok(Some(delegations_of(alloc, value)?)),
+    }
+}

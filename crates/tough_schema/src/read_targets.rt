@@ -1,0 +1,84 @@
+//! Targets, read from JSON.
+
+ghost use Rattle.std.specs.Prelude.{◌≡◌, []};
+ghost use Rattle.serde_json.specs.View.{view, members_view};
+ghost use Rattle.tough_json.specs.Reading.{required};
+ghost use Rattle.tough_json.specs.Results.{Reads, Takes};
+ghost use Rattle.tough_schema.specs.Target.{target_doc};
+ghost use Rattle.tough_schema.specs.Targets.{entry_at, listing_doc, listing_from, listing_at, targets_doc, targets_at};
+
+use crate::read_delegations::delegations;
+use crate::read_target::target_of;
+use crate::target::Target;
+use crate::targets::Targets;
+use serde_json::{Map, Value};
+use std::alloc::Global;
+use std::collections::BTreeMap;
+use tough_base::{NameError, TargetName};
+use tough_json::error::{ReadError, shape};
+use tough_json::member::take;
+use tough_roles::head::head_of;
+
+// A member as a target under its name.
+#[tactic(auto, unfolding(crate::specs::Targets::entry_at))]
+fn entry(alloc: Global, raw: &str, value: Value) -> Result<(TargetName, Target), ReadError>
+    ensures { Reads (λ p. (p.0, target_doc p.1)) result (entry_at raw.now (view value)) }
+{
+    let name = match TargetName::from_str(alloc, raw) {
+        Ok(name) => name,
+        Err(NameError::Memory) => return Err(ReadError::Memory),
+        Err(_) => return Err(shape(alloc, "targets")),
+    };
+    let target = target_of(alloc, value)?;
+    Ok((name, target))
+}
+
+// The members as targets.
+fn listing_of(
+    alloc: Global,
+    members: Map<String, Value>,
+) -> Result<BTreeMap<TargetName, Target>, ReadError>
+    ensures { Reads (λ m. listing_doc m.entries) result (listing_from [] (members_view members.entries)) }
+{
+    let mut targets = BTreeMap::new(alloc);
+    for (raw, value) in members {
+        let (name, target) = entry(alloc, raw.as_str(), value)?;
+        drop(targets.insert(name, target)?);
+    }
+    Ok(targets)
+}
+
+// The targets, which must be there.
+fn listing(
+    alloc: Global,
+    members: &mut Map<String, Value>,
+    name: &str,
+) -> Result<BTreeMap<TargetName, Target>, ReadError>
+    ensures { Takes (λ m. listing_doc m.entries) result (members_view members.new.entries) (required name.now listing_at (members_view members.old.entries)) }
+{
+    match take(members, name) {
+        Some(Value::Object(inner)) => listing_of(alloc, inner),
+        _ => Err(shape(alloc, name)),
+    }
+}
+
+/// The targets that the value is; `Shape` where it is none.
+#[tactic(auto, unfolding(crate::specs::Targets::targets_at))]
+pub(crate) fn targets_of(alloc: Global, value: Value) -> Result<Targets, ReadError>
+    ensures { Reads targets_doc result (targets_at (view value)) }
+{
+    let Value::Object(mut members) = value else {
+        return Err(shape(alloc, "targets"));
+    };
+    let (spec_version, version, expires) = head_of(alloc, &mut members)?;
+    let targets = listing(alloc, &mut members, "targets")?;
+    let delegations = delegations(alloc, &mut members, "delegations")?;
+    Ok(Targets {
+        spec_version,
+        version,
+        expires,
+        targets,
+        delegations,
+        _extra: members,
+    })
+}

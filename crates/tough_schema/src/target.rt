@@ -1,0 +1,12 @@
+use serde_json::{Map, Value};
+use tough_roles::Hashes;
+
+/// What is said of a target file: its length, its digest, and what an application says of it (TUF specification 1.0,
+/// section 4.5, TARGETS).
+#[derive(Drop)]
+pub struct Target {
+    pub length: u64,
+    pub hashes: Hashes,
+    pub custom: Map<String, Value>,
+    pub _extra: Map<String, Value>,
+}

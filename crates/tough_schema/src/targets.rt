@@ -1,0 +1,123 @@
+ghost use Rattle.std.specs.Prelude.{◌≡◌, Some, None};
+ghost use Rattle.std.proofs.Common.{rules};
+ghost use Rattle.tough_json.specs.Results.{ReadsBytes};
+ghost use Rattle.tough_roles.specs.declared.role_type.RoleType.TheVariants as types;
+ghost use Rattle.tough_schema.specs.Targets.{targets_doc, delegated_doc, targets_at, targets_json, IsKept};
+
+use crate::delegations::Delegations;
+use crate::read_targets::targets_of;
+use crate::target::Target;
+use crate::write_targets::targets_value;
+use serde_json::{Map, Value};
+use std::alloc::Global;
+use std::collections::BTreeMap;
+use std::num::NonZeroU64;
+use tough_base::TargetName;
+use tough_json::error::{ReadError, WriteError};
+use tough_json::text::value_of;
+use tough_roles::{Role, RoleType};
+
+/// Which targets there are, and who else may list some (TUF specification 1.0, section 4.5).
+#[derive(Drop)]
+#[cycle(tree)]
+pub struct Targets {
+    pub spec_version: String,
+    pub version: NonZeroU64,
+    pub expires: jiff::Timestamp,
+    pub targets: BTreeMap<TargetName, Target>,
+    pub delegations: Option<Delegations>,
+    pub _extra: Map<String, Value>,
+}
+
+/// The document of a delegated role, under the role's name. Its JSON is that of the targets; it hasn't the name.
+#[derive(Drop)]
+#[cycle(tree)]
+pub struct DelegatedTargets {
+    pub name: String,
+    pub targets: Targets,
+}
+
+impl Targets {
+    /// The targets that the bytes are; `Json` where they are no JSON, `Shape` where that is none.
+    pub fn read(alloc: Global, bytes: &[u8]) -> Result<Targets, ReadError>
+        ensures { ReadsBytes targets_doc result bytes.now targets_at }
+    {
+        let value = value_of(alloc, bytes)?;
+        targets_of(alloc, value)
+    }
+}
+
+impl Role for Targets {
+    ghost TYPE = { types.Targets };
+
+    const TYPE: RoleType = RoleType::Targets;
+
+    ghost head = { λ x. (targets_doc x).head };
+
+    ghost is_read = { λ d x. targets_at d ≡ Some (targets_doc x) };
+
+    ghost is_refused = { λ d. targets_at d ≡ None };
+
+    ghost json = { λ x. targets_json (targets_doc x) };
+
+    ghost is_kept = { λ x. IsKept (targets_doc x).delegations };
+
+    fn from_value(alloc: Global, value: Value) -> Result<Targets, ReadError> {
+        let targets = targets_of(alloc, value)?;
+        Ok(targets)
+    }
+
+    fn to_value(&self, alloc: Global) -> Result<Value, WriteError> {
+        let value = targets_value(alloc, self)?;
+        Ok(value)
+    }
+
+    fn version(&self) -> NonZeroU64 {
+        self.version
+    }
+
+    fn expires(&self) -> jiff::Timestamp {
+        self.expires
+    }
+
+    ghost apart = { Prim.search rules };
+}
+
+impl Role for DelegatedTargets {
+    ghost TYPE = { types.DelegatedTargets };
+
+    const TYPE: RoleType = RoleType::DelegatedTargets;
+
+    ghost head = { λ x. (delegated_doc x).head };
+
+    ghost is_read = { λ d x. targets_at d ≡ Some (delegated_doc x) };
+
+    ghost is_refused = { λ d. targets_at d ≡ None };
+
+    ghost json = { λ x. targets_json (delegated_doc x) };
+
+    ghost is_kept = { λ x. IsKept (delegated_doc x).delegations };
+
+    fn from_value(alloc: Global, value: Value) -> Result<DelegatedTargets, ReadError> {
+        let targets = targets_of(alloc, value)?;
+        Ok(DelegatedTargets {
+            name: String::new(alloc),
+            targets,
+        })
+    }
+
+    fn to_value(&self, alloc: Global) -> Result<Value, WriteError> {
+        let value = targets_value(alloc, &self.targets)?;
+        Ok(value)
+    }
+
+    fn version(&self) -> NonZeroU64 {
+        self.targets.version
+    }
+
+    fn expires(&self) -> jiff::Timestamp {
+        self.targets.expires
+    }
+
+    ghost apart = { Prim.search rules };
+}
