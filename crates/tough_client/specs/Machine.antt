@@ -163,6 +163,7 @@ question_at enforced (at.PutTimestamp b t) = ask.AdvanceTimestamp b.root.role t 
 question_at enforced (at.FetchSnapshot b t listed r) = ask.Fetch r
 question_at enforced (at.PutSnapshot k listed) = ask.AdvanceSnapshot k.root.role listed k.snapshot k.start enforced
 question_at enforced (at.Done r) = ask.Ready
+question_at enforced at.Taken = ask.Ready
 
 -- what is asked next
 abbrev pub question : CoreDoc → Question

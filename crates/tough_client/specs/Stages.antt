@@ -43,6 +43,8 @@ pub data StageDoc : Type 0 where
   FetchSnapshot : BaseDoc → SignedDoc TimestampDoc → ℕ → RequestDoc → StageDoc
   PutSnapshot : KnownDoc → ℕ → StageDoc
   Done : Result KnownDoc Failure → StageDoc
+  -- the outcome was handed out
+  Taken : StageDoc
 
 -- what the caller set: the bytes of the root that is trusted, the limits, and whether expiry counts
 pub record SettingDoc : Type 0 where

@@ -109,6 +109,7 @@ stage_doc (in_stage.PutTimestamp b t) = at.PutTimestamp (base_doc b) (signed_doc
 stage_doc (in_stage.FetchSnapshot b t listed r) = at.FetchSnapshot (base_doc b) (signed_doc timestamp_doc t) listed (request_doc r)
 stage_doc (in_stage.PutSnapshot k listed) = at.PutSnapshot (known_doc k) listed
 stage_doc (in_stage.Done r) = at.Done (outcome_doc r)
+stage_doc in_stage.Taken = at.Taken
 
 abbrev pub setting_doc : Setting → SettingDoc
 setting_doc s = record { trusted = s.trusted.now; limits = s.limits; enforced = enforces s.enforcement }

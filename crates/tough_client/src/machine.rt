@@ -1,6 +1,6 @@
 //! The update as a machine: what it wants next, and what it makes of an answer.
 
-ghost use Rattle.std.specs.Prelude.{◌≡◌, option_map, option_copied};
+ghost use Rattle.std.specs.Prelude.{◌≡◌, IsSome, IsNone, option_map, option_copied};
 ghost use Rattle.tough_vault.specs.Checks.{enforces};
 ghost use Rattle.tough_client.specs.Stages as at;
 ghost use Rattle.tough_client.specs.Machine.{question, stage_after};
@@ -96,6 +96,7 @@ impl Core {
                 enforcement: self.enforcement,
             },
             Stage::Done(_) => Ask::Ready,
+            Stage::Taken => Ask::Ready,
         }
     }
 
@@ -130,6 +131,21 @@ impl Core {
         match &self.stage {
             Stage::Done(outcome) => Some(outcome),
             _ => None,
+        }
+    }
+
+    /// Hands out how the update ended, once it has; then nothing more is asked.
+    pub fn take_outcome(&mut self) -> Option<Result<Known, Error>>
+        ensures done { option_map outcome_doc result ≡ ended (core_doc self.old).stage }
+        ensures taken { IsSome result → core_doc self.new ≡ record { setting = (core_doc self.old).setting; stage = at.Taken } }
+        ensures not_yet { IsNone result → core_doc self.new ≡ core_doc self.old }
+    {
+        match mem::replace(&mut self.stage, Stage::Taken) {
+            Stage::Done(outcome) => Some(outcome),
+            stage => {
+                self.stage = stage;
+                None
+            }
         }
     }
 

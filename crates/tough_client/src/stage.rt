@@ -51,6 +51,7 @@ pub(crate) enum Stage {
     FetchSnapshot(Base, Signed<Timestamp>, u64, Request),
     PutSnapshot(Known, u64),
     Done(Result<Known, Error>),
+    Taken,
 }
 
 impl Walk {

@@ -1,2 +1,5 @@
 pub mod Acts
 pub mod Checking
+pub mod Fetching
+pub mod Loading
+pub mod Asking

@@ -1,0 +1,10 @@
+-- Kinds of questions.
+use Rattle.std.specs.Prelude.{⊤}
+use Rattle.tough_client.specs.Questions.{Question, Moment, Fetch, Ready}
+
+-- a step on the store is asked for
+abbrev pub IsStep : Question → Type 0
+IsStep Moment = ⊥
+IsStep (Fetch r) = ⊥
+IsStep Ready = ⊥
+IsStep _ = ⊤
