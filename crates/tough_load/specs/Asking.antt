@@ -8,3 +8,8 @@ IsStep Moment = ⊥
 IsStep (Fetch r) = ⊥
 IsStep Ready = ⊥
 IsStep _ = ⊤
+
+-- a file is asked for
+abbrev pub IsFetch : Question → Type 0
+IsFetch (Fetch r) = ⊤
+IsFetch _ = ⊥

@@ -5,7 +5,7 @@ use Rattle.std.specs.declared.alloc.Global.{Global}
 use Rattle.url.specs.Parts.{Parts, serialize}
 use Rattle.url.specs.Parser.{parse_url, Gives}
 use Rattle.url.specs.declared.error.ParseError.{ParseError}
-use Rattle.futures.specs.Runs.{Runs}
+use Rattle.futures.specs.Runs.{Runs, Within}
 use Rattle.tough_net.specs.declared.error.TransportError.{TransportError}
 use Rattle.tough_net.specs.declared.collect.Collect.{Collect}
 use Rattle.tough_net.specs.Errors.{error_kind, IsMemory}
@@ -47,3 +47,12 @@ module _ {S : Type 0} (yields : S → Runs Item) where
   -- what the fetch that runs may still give
   abbrev pub Comes : Collect S → Result (Vec ℕ Global) TransportError → Type 0
   Comes f = Collects (bounds_of f) (yields (collected f)) (held_by f)
+
+-- a fetch of the file has begun: what it may give is bounded and checked as asked, and comes from what the transport serves
+module _ {T S : Type 0} (serves : T → Parts → Runs Item) (yields : S → Runs Item) where
+  pub record IsStarted (t : T) (base : Parts) (r : RequestDoc) (f : Collect S) : Type 0 where
+    pub url : Parts
+    pub joined : parse_url (Some base) r.name ≡ Ok url
+    pub asked : bounds_of f ≡ bounds url r
+    pub fresh : held_by f ≡ []
+    pub served : Within (serves t url) (yields (collected f))

@@ -33,7 +33,7 @@ pub(crate) fn take_step<K: Keeper, V: Verify>(
     ask: Ask<'_>,
 ) -> Answer
     requires { IsStep (question_of ask) }
-    ensures allowed { StepsAt K.keeps (V.verifies verifier.now) (question_of ask) keeper.old (answer_doc result) keeper.new }
+    ensures allowed { StepsAt K.keeps (V.verifies verifier.now) (question_of ask.entry) keeper.old (answer_doc result) keeper.new }
     ensures walked { Walks K.keeps (V.verifies verifier.now) keeper.old keeper.new }
 {
     if receipts.reserve(1).is_err() {
