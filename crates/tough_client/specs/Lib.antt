@@ -1,7 +1,9 @@
 pub mod Failure
 pub mod Walk
+pub mod Outcomes
 pub mod Requests
 pub mod Rotation
+pub mod Listed
 pub mod Stages
 pub mod Questions
 pub mod Answered

@@ -2,13 +2,13 @@
 
 ghost use Rattle.std.specs.Prelude.{◌≡◌, List, Ok};
 ghost use Rattle.tough_keys.specs.Same.{Verifies};
-ghost use Rattle.tough_client.specs.Stages.{KnownDoc, CoreDoc, Done};
+ghost use Rattle.tough_client.specs.Stages.{LoadedDoc, CoreDoc, Done};
 ghost use Rattle.tough_client.specs.Answered.{AnswerDoc};
 ghost use Rattle.tough_client.specs.Runs.{run, Along, IsFresh, Loaded};
 
 /// An update that succeeds gives documents that are trusted, whatever was answered.
 pub fn trusts()
-    ensures { (verifies : Verifies) (c : CoreDoc) (answers : List AnswerDoc) (k : KnownDoc) → IsFresh c → Along verifies c answers → (run verifies c answers).stage ≡ Done (Ok k) → Loaded verifies c answers k }
+    ensures { (verifies : Verifies) (c : CoreDoc) (answers : List AnswerDoc) (l : LoadedDoc) → IsFresh c → Along verifies c answers → (run verifies c answers).stage ≡ Done (Ok l) → Loaded verifies c answers l }
 {}
 
 /// How many laws this file states.

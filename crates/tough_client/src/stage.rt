@@ -10,6 +10,7 @@ use crate::error::Error;
 use crate::request::Request;
 use jiff::Timestamp as Instant;
 use tough_roles::{Root, Signed, Snapshot, Timestamp};
+use tough_schema::Targets;
 
 /// A walk from root to root.
 #[derive(Drop)]
@@ -37,6 +38,13 @@ pub struct Known {
     pub snapshot: Signed<Snapshot>,
 }
 
+/// What an update ends with.
+#[derive(Drop)]
+pub struct Loaded {
+    pub known: Known,
+    pub targets: Signed<Targets>,
+}
+
 /// What an update waits for, with what is known by then.
 #[derive(Drop)]
 pub(crate) enum Stage {
@@ -50,7 +58,9 @@ pub(crate) enum Stage {
     PutTimestamp(Base, Signed<Timestamp>),
     FetchSnapshot(Base, Signed<Timestamp>, u64, Request),
     PutSnapshot(Known, u64),
-    Done(Result<Known, Error>),
+    FetchTargets(Known, u64, Request),
+    PutTargets(Known, Signed<Targets>),
+    Done(Result<Loaded, Error>),
 }
 
 impl Walk {
