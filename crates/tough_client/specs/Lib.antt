@@ -12,3 +12,4 @@ pub mod View
 pub mod Promises
 pub mod Trusted
 pub mod Runs
+pub mod Loadable
