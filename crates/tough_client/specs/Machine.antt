@@ -25,7 +25,7 @@ use Rattle.tough_client.specs.Questions as ask
 use Rattle.tough_client.specs.Answered.{FaultDoc, Unjoined, NotFound, Faulty, NoMemory, AnswerDoc}
 use Rattle.tough_client.specs.Answered as got
 
--- ---- roots (sections 5.2, 5.3)
+-- ---- roots (TUF specification 5.2 and 5.3)
 
 -- the walk goes on from a root, or ends where there is no later version
 abbrev pub walked : Limits → WalkDoc → Result StageDoc Failure
@@ -47,7 +47,7 @@ abbrev pub walk_ended : Limits → Bool → WalkDoc → Result StageDoc Failure
 walk_ended l enforced w = unless (Checked (ExpiredMetadata role.Root)) (not (is_expired enforced w.start w.last.role.head.expires))
     (if is_rotated w.first.role w.last.role then Ok (at.Clear (base_of w)) else Ok (at.FetchTimestamp (base_of w) (timestamp_request l)))
 
--- ---- the timestamp (section 5.4)
+-- ---- the timestamp (TUF specification 5.4)
 
 abbrev pub new_timestamp : BaseDoc → List ℕ → Result StageDoc Failure
 new_timestamp b bytes = if_read (ParseMetadata role.Timestamp) (timestamp_in bytes) (λ t. Ok (at.PutTimestamp b t))
@@ -57,7 +57,7 @@ abbrev pub want_snapshot : Limits → BaseDoc → SignedDoc TimestampDoc → Opt
 want_snapshot l b t None = Err (Checked (MissingSnapshotMeta t.role.head.version))
 want_snapshot l b t (Some m) = Ok (at.FetchSnapshot b t m.version (snapshot_request l b.root.role.consistent_snapshot m))
 
--- ---- the snapshot (section 5.5)
+-- ---- the snapshot (TUF specification 5.5)
 
 abbrev pub known_of : BaseDoc → SignedDoc TimestampDoc → SignedDoc SnapshotDoc → KnownDoc
 known_of b t s = record { start = b.start; root = b.root; timestamp = t; snapshot = s }
@@ -65,7 +65,7 @@ known_of b t s = record { start = b.start; root = b.root; timestamp = t; snapsho
 abbrev pub new_snapshot : BaseDoc → SignedDoc TimestampDoc → ℕ → List ℕ → Result StageDoc Failure
 new_snapshot b t listed bytes = if_read (ParseMetadata role.Snapshot) (snapshot_in bytes) (λ s. Ok (at.PutSnapshot (known_of b t s) listed))
 
--- ---- the targets (section 5.6)
+-- ---- the targets (TUF specification 5.6)
 
 -- they are to be fetched as the snapshot's entry says
 abbrev pub want_targets : Limits → KnownDoc → Option MetafileDoc → Result StageDoc Failure

@@ -43,22 +43,33 @@ pub enum Ask<'a> {
     ClearRotated,
     /// To accept a timestamp.
     AdvanceTimestamp {
+        /// The root that must vouch for it.
         root: &'a Root,
+        /// The timestamp.
         new: &'a Signed<Timestamp>,
+        /// When the update began.
         start: Instant,
+        /// Whether it may have expired.
         enforcement: ExpirationEnforcement,
     },
     /// To accept a snapshot.
     AdvanceSnapshot {
+        /// The root that must vouch for it.
         root: &'a Root,
+        /// The version that the timestamp lists.
         listed: u64,
+        /// The snapshot.
         new: &'a Signed<Snapshot>,
+        /// When the update began.
         start: Instant,
+        /// Whether it may have expired.
         enforcement: ExpirationEnforcement,
     },
     /// To store targets under a file's name.
     PutDocument {
+        /// The file's name.
         name: &'static str,
+        /// The targets.
         document: &'a Signed<Targets>,
     },
     /// Nothing more.

@@ -32,16 +32,22 @@ pub(crate) struct Base {
 /// What is known once the snapshot is there.
 #[derive(Drop)]
 pub struct Known {
+    /// When the update began.
     pub start: Instant,
+    /// The last root.
     pub root: Signed<Root>,
+    /// The timestamp.
     pub timestamp: Signed<Timestamp>,
+    /// The snapshot that the timestamp names.
     pub snapshot: Signed<Snapshot>,
 }
 
 /// What an update ends with.
 #[derive(Drop)]
 pub struct Loaded {
+    /// What was known before the targets.
     pub known: Known,
+    /// The targets that the snapshot names.
     pub targets: Signed<Targets>,
 }
 
