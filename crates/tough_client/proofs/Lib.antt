@@ -5,3 +5,4 @@ pub mod Rotated
 pub mod Settling
 pub mod Alike
 pub mod Loads
+pub mod Clears

@@ -53,7 +53,7 @@ pub refuse-none : (b : Bool) (r : Reason) → refuse b r ≡ None → b ≡ fals
 refuse-none true r h = cc
 refuse-none false r h = refl
 
-ok-same : {A : Type 0} (x y : A) (r : Result A Failure) → r ≡ Ok x → r ≡ Ok y → x ≡ y
+pub ok-same : {A : Type 0} (x y : A) (r : Result A Failure) → r ≡ Ok x → r ≡ Ok y → x ≡ y
 ok-same x y r g h = cc
 
 pub is_verified : (type : RoleType) (v : Result Unit Refused) → verified type v ≡ None → v ≡ Ok (tt {0})
@@ -76,11 +76,11 @@ digest-stated (Some d) bytes h = (bytes_eq-Decides _ _).0 h
 
 -- ---- documents that were read and verified
 
-if_verified-ok : {A : Type 0} (f : Refused → Failure) (v : Result Unit Refused) (next : Result A Failure) (a : A) → if_verified f v next ≡ Ok a → (v ≡ Ok (tt {0})) × (next ≡ Ok a)
+pub if_verified-ok : {A : Type 0} (f : Refused → Failure) (v : Result Unit Refused) (next : Result A Failure) (a : A) → if_verified f v next ≡ Ok a → (v ≡ Ok (tt {0})) × (next ≡ Ok a)
 if_verified-ok f (Ok u) next a h = (refl, h)
 if_verified-ok f (Err r) next a h = cc
 
-if_read-ok : {A B : Type 0} (f : Failure) (o : Option A) (next : A → Result B Failure) (b : B) → if_read f o next ≡ Ok b → (a : A) × (o ≡ Some a) × (next a ≡ Ok b)
+pub if_read-ok : {A B : Type 0} (f : Failure) (o : Option A) (next : A → Result B Failure) (b : B) → if_read f o next ≡ Ok b → (a : A) × (o ≡ Some a) × (next a ≡ Ok b)
 if_read-ok f None next b h = cc
 if_read-ok f (Some a) next b h = (a, refl, h)
 

@@ -1,5 +1,5 @@
 -- Runs of an update, over any answers.
-use Rattle.std.specs.Prelude.{◌≡◌, ◌⊎◌, ℕ, ℤ, ◌+◌, ◌-◌, ◌^◌, List, [], ◌∷◌, ◌++◌, Option, None, Bool, true, IsTrue, ⊤, Result, Ok, Err}
+use Rattle.std.specs.Prelude.{◌≡◌, ◌⊎◌, ℕ, ℤ, ◌+◌, ◌-◌, ◌^◌, List, [], ◌∷◌, ◌++◌, Option, Some, None, Bool, true, IsTrue, ⊤, Result, Ok, Err}
 use Rattle.tough_keys.specs.Same.{Verifies}
 use Rattle.tough_roles.specs.Signature.{SignedDoc}
 use Rattle.tough_roles.specs.Root.{RootDoc}
@@ -13,7 +13,9 @@ use Rattle.tough_client.specs.Questions as ask
 use Rattle.tough_client.specs.Answered.{FaultDoc, NotFound, Faulty, AnswerDoc}
 use Rattle.tough_client.specs.Answered as got
 use Rattle.tough_client.specs.Machine.{question, answered}
-use Rattle.tough_client.specs.Trusted.{Trusted, Unexpired}
+use Rattle.tough_client.specs.Walk.{root_in}
+use Rattle.tough_client.specs.Rotation.{is_rotated}
+use Rattle.tough_client.specs.Trusted.{Chain, Trusted, Unexpired}
 
 -- What an answer promises, by what was asked: bytes fit, and a step that succeeds has made its checks on what it was given.
 abbrev pub Keeps : Verifies → Question → AnswerDoc → Type 0
@@ -71,3 +73,11 @@ pub record Loaded (verifies : Verifies) (c : CoreDoc) (answers : List AnswerDoc)
 -- nothing was answered yet
 abbrev pub IsFresh : CoreDoc → Type 0
 IsFresh c = c.stage ≡ Moment
+
+-- the keys of timestamp or snapshot differ between the root that was handed in and one that ends a chain from it
+pub record WasRotated (verifies : Verifies) (trusted : List ℕ) : Type 0 where
+  pub first : SignedDoc RootDoc
+  pub handed_in : root_in trusted ≡ Some first
+  pub last : SignedDoc RootDoc
+  pub chain : Chain verifies trusted last
+  pub rotated : is_rotated first.role last.role ≡ true
