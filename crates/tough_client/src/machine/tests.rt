@@ -297,7 +297,7 @@ fn targets_end_an_update(rt: HostRuntime) -> Result<(), Fail> {
         }
         accept(rt.alloc(), &mut core);
         assert!(rt; matches!(core.ask(), Ask::Ready));
-        match core.into_outcome() {
+        match core.outcome() {
             Some(Ok(loaded)) => {
                 assert_eq!(rt; loaded.known.root.signed.version.get(), 1);
                 assert_eq!(rt; loaded.known.timestamp.signed.version.get(), 4);
@@ -306,6 +306,8 @@ fn targets_end_an_update(rt: HostRuntime) -> Result<(), Fail> {
             }
             _ => assert!(rt; false),
         }
+        let outcome = core.into_outcome();
+        assert!(rt; matches!(&outcome, Some(Ok(_))));
     }
     Ok(())
 }
