@@ -17,17 +17,20 @@ use Rattle.tough_roles.specs.declared.role_type.RoleType.TheVariants as role
 use Rattle.tough_roles.proofs.Reached.{ok-reaches}
 use Rattle.tough_vault.specs.Checks.{Reason, refuse, or_else, VersionMismatch, VerifyMetadata, OlderMetadata, TimestampMetaLength, expiry, is_expired, ExpiredMetadata, verified, timestamp_first, timestamp_form, snapshot_first, snapshot_form}
 use Rattle.tough_vault.specs.Documents.{timestamp_in, snapshot_in, metafile_in, timestamp_verdict, snapshot_verdict}
-use Rattle.tough_vault.specs.Files.{snapshot_file}
+use Rattle.tough_vault.specs.Files.{snapshot_file, targets_file}
 use Rattle.tough_client.specs.declared.limits.Limits.{Limits}
 use Rattle.tough_client.specs.Failure.{Failure, ParseTrustedMetadata, VerifyTrustedMetadata, ParseMetadata, MaxUpdatesExceeded, Checked}
 use Rattle.tough_client.specs.Walk.{first_root, next_root, root_in, root_verdict, if_read, if_verified, if_next}
-use Rattle.tough_client.specs.Requests.{RequestDoc, bound, stated_digest, has_digest, fits_request, root_request, timestamp_request, snapshot_request}
+use Rattle.tough_client.specs.Requests.{RequestDoc, bound, stated_digest, has_digest, fits_request, root_request, timestamp_request, snapshot_request, targets_request}
+use Rattle.tough_schema.specs.Targets.{TargetsDoc, targets_json}
+use Rattle.tough_client.specs.Outcomes.{unless, and_then}
 use Rattle.tough_client.specs.Rotation.{is_rotated}
+use Rattle.tough_client.specs.Listed.{targets_in, targets_verdict, lists_roles, bare_targets}
 use Rattle.tough_client.specs.Stages.{WalkDoc, BaseDoc, KnownDoc, StageDoc, SettingDoc}
 use Rattle.tough_client.specs.Stages as at
 use Rattle.tough_client.specs.Answered.{FaultDoc, Unjoined, NotFound, Faulty, NoMemory, AnswerDoc}
 use Rattle.tough_client.specs.Answered as got
-use Rattle.tough_client.specs.Machine.{unless, and_then, walked, began, new_root, base_of, walk_ended, new_timestamp, want_snapshot, known_of, new_snapshot, settled, stage_after, question_at}
+use Rattle.tough_client.specs.Machine.{walked, began, new_root, base_of, walk_ended, new_timestamp, want_snapshot, known_of, new_snapshot, want_targets, targets_checked, accepted_targets, new_targets, settled, stage_after, question_at}
 use Rattle.tough_client.specs.Trusted.{Chain, handed_in, followed, Named, Lists}
 use Rattle.tough_client.specs.Runs.{Keeps, EndsWalk}
 use Rattle.tough_client.proofs.Walking.{under, follows}
@@ -50,7 +53,7 @@ pub refuse-none : (b : Bool) (r : Reason) → refuse b r ≡ None → b ≡ fals
 refuse-none true r h = cc
 refuse-none false r h = refl
 
-ok-same : {A : Type 0} (x y : A) (r : Result A Failure) → r ≡ Ok x → r ≡ Ok y → x ≡ y
+pub ok-same : {A : Type 0} (x y : A) (r : Result A Failure) → r ≡ Ok x → r ≡ Ok y → x ≡ y
 ok-same x y r g h = cc
 
 pub is_verified : (type : RoleType) (v : Result Unit Refused) → verified type v ≡ None → v ≡ Ok (tt {0})
@@ -73,11 +76,11 @@ digest-stated (Some d) bytes h = (bytes_eq-Decides _ _).0 h
 
 -- ---- documents that were read and verified
 
-if_verified-ok : {A : Type 0} (f : Refused → Failure) (v : Result Unit Refused) (next : Result A Failure) (a : A) → if_verified f v next ≡ Ok a → (v ≡ Ok (tt {0})) × (next ≡ Ok a)
+pub if_verified-ok : {A : Type 0} (f : Refused → Failure) (v : Result Unit Refused) (next : Result A Failure) (a : A) → if_verified f v next ≡ Ok a → (v ≡ Ok (tt {0})) × (next ≡ Ok a)
 if_verified-ok f (Ok u) next a h = (refl, h)
 if_verified-ok f (Err r) next a h = cc
 
-if_read-ok : {A B : Type 0} (f : Failure) (o : Option A) (next : A → Result B Failure) (b : B) → if_read f o next ≡ Ok b → (a : A) × (o ≡ Some a) × (next a ≡ Ok b)
+pub if_read-ok : {A B : Type 0} (f : Failure) (o : Option A) (next : A → Result B Failure) (b : B) → if_read f o next ≡ Ok b → (a : A) × (o ≡ Some a) × (next a ≡ Ok b)
 if_read-ok f None next b h = cc
 if_read-ok f (Some a) next b h = (a, refl, h)
 
@@ -104,6 +107,28 @@ next-fine verifies old bytes root h =
     let v = if_verified-ok fault (root_verdict verifies r.0.role r.0) (if_next old.role r.0) root u.1 in
     let n = if-ok (r.0.role.head.version == old.role.head.version + 1) r.0 root (Checked (OlderMetadata role.Root old.role.head.version r.0.role.head.version)) v.1 in
     subst (λ (x : SignedDoc RootDoc). IsNext verifies old x) n.1 (follows verifies old.role old r.0 refl u.0 v.0 (eqb-true _ _ n.0))
+
+-- targets that were taken are what the bytes are
+pub bare-read : (bytes : List ℕ) (d : SignedDoc TargetsDoc) → bare_targets bytes ≡ Ok d → targets_in bytes ≡ Some d
+bare-read bytes d h =
+    let r = if_read-ok (ParseMetadata role.Targets) (targets_in bytes) (λ x. unless (ParseMetadata role.Targets) (not (lists_roles x.role.delegations)) (Ok x)) d h in
+    let n = if-ok (not (lists_roles r.0.role.delegations)) r.0 d (ParseMetadata role.Targets) r.2 in
+    r.1 ∙ ap Some n.1
+
+unless-ok : {A : Type 0} (f : Failure) (b : Bool) (r : Result A Failure) (a : A) → unless f b r ≡ Ok a → IsTrue b × (r ≡ Ok a)
+unless-ok f true r a h = (refl, h)
+unless-ok f false r a h = cc
+
+-- targets that passed their checks
+pub checked-ok : (verifies : Verifies) (enforced : Bool) (k : KnownDoc) (listed : ℕ) (d : SignedDoc TargetsDoc) (u : Unit {0}) → targets_checked verifies enforced k listed d ≡ Ok u
+    → (targets_verdict verifies k.root.role d ≡ Ok (tt {0})) × (d.role.head.version ≡ listed) × (is_expired enforced k.start d.role.head.expires ≡ false)
+checked-ok verifies enforced k listed d u h =
+    let expiring = unless (Checked (ExpiredMetadata role.Targets)) (not (is_expired enforced k.start d.role.head.expires)) (Ok (tt {0})) in
+    let v = if_verified-ok (λ x. Checked (VerifyMetadata role.Targets (Some x))) (targets_verdict verifies k.root.role d)
+    (unless (Checked (VersionMismatch role.Targets d.role.head.version listed)) (d.role.head.version == listed) expiring) u h in
+    let w = unless-ok (Checked (VersionMismatch role.Targets d.role.head.version listed)) (d.role.head.version == listed) expiring u v.1 in
+    let x = unless-ok (Checked (ExpiredMetadata role.Targets)) (not (is_expired enforced k.start d.role.head.expires)) (Ok (tt {0})) u w.1 in
+    (v.0, eqb-true _ _ w.0, not-true _ x.0)
 
 -- ---- steps that succeeded
 
@@ -149,13 +174,13 @@ module _ (P : StageDoc → Type 0) (bad : (f : Failure) → P (at.Done (Err f)))
   and_then-fine (Ok a) f good = good a refl
   and_then-fine (Err e) f good = bad e
 
-module _ (verifies : Verifies) (s : SettingDoc) (E : SignedDoc RootDoc → Type 0) where
+module _ (verifies : Verifies) (s : SettingDoc) (N : ℤ → Type 0) (E : SignedDoc RootDoc → Type 0) where
   -- whether a moment is within an expiry, where that counts
   abbrev pub InTime : ℤ → ℤ → Type 0
   InTime start expires = is_expired s.enforced start expires ≡ false
 
   abbrev pub BaseFine : ℤ → SignedDoc RootDoc → Type 0
-  BaseFine start root = Chain verifies s.trusted root × E root × InTime start root.role.head.expires
+  BaseFine start root = N start × Chain verifies s.trusted root × E root × InTime start root.role.head.expires
 
   abbrev pub TimestampFine : ℤ → SignedDoc RootDoc → SignedDoc TimestampDoc → Type 0
   TimestampFine start root t = ReachesUnder verifies root.role role.Timestamp timestamp_json t × (length t.role.meta ≡ 1) × InTime start t.role.head.expires
@@ -181,41 +206,50 @@ module _ (verifies : Verifies) (s : SettingDoc) (E : SignedDoc RootDoc → Type 
   abbrev pub Asked : BaseDoc → SignedDoc TimestampDoc → ℕ → RequestDoc → Type 0
   Asked b t listed r = (m : MetafileDoc) × (metafile_in t.role.meta snapshot_file ≡ Some m) × (listed ≡ m.version) × (r ≡ snapshot_request s.limits b.root.role.consistent_snapshot m)
 
+  -- the entry that the targets are fetched by
+  abbrev pub AskedTargets : KnownDoc → ℕ → RequestDoc → Type 0
+  AskedTargets k listed r = (m : MetafileDoc) × (metafile_in k.snapshot.role.meta targets_file ≡ Some m) × (listed ≡ m.version) × (r ≡ targets_request s.limits k.root.role.consistent_snapshot m)
+
+  abbrev pub TargetsFine : KnownDoc → SignedDoc TargetsDoc → Type 0
+  TargetsFine k d = ReachesUnder verifies k.root.role role.Targets targets_json d × Lists targets_in k.snapshot.role.meta targets_file d.role.head.version d × InTime k.start d.role.head.expires
+
   abbrev pub Holds : StageDoc → Type 0
-  Holds (at.FetchRoot w r) = Chain verifies s.trusted w.last × (r ≡ root_request s.limits (w.last.role.head.version + 1))
-  Holds (at.PutRoot w) = Chain verifies s.trusted w.last
-  Holds (at.PutLast w) = Chain verifies s.trusted w.last × E w.last
+  Holds (at.FetchRoot w r) = N w.start × Chain verifies s.trusted w.last × (r ≡ root_request s.limits (w.last.role.head.version + 1))
+  Holds (at.PutRoot w) = N w.start × Chain verifies s.trusted w.last
+  Holds (at.PutLast w) = N w.start × Chain verifies s.trusted w.last × E w.last
   Holds (at.Clear b) = BaseFine b.start b.root
   Holds (at.FetchTimestamp b r) = BaseFine b.start b.root
   Holds (at.PutTimestamp b t) = BaseFine b.start b.root
   Holds (at.FetchSnapshot b t listed r) = BaseFine b.start b.root × TimestampFine b.start b.root t × Asked b t listed r
   Holds (at.PutSnapshot k listed) = BaseFine k.start k.root × TimestampFine k.start k.root k.timestamp × Fetched k.timestamp k.snapshot listed
-  Holds (at.Done (Ok k)) = KnownFine k
+  Holds (at.FetchTargets k listed r) = KnownFine k × AskedTargets k listed r
+  Holds (at.PutTargets k d) = KnownFine k × TargetsFine k d
+  Holds (at.Done (Ok l)) = KnownFine l.known × TargetsFine l.known l.targets
   Holds _ = ⊤
 
   pub bad : (f : Failure) → Holds (at.Done (Err f))
   bad f = tt
 
   module _ (at_end : (r : SignedDoc RootDoc) → r.role.head.version ≡ 2 ^ 64 - 1 → E r) where
-    walked-fine : (w : WalkDoc) → Chain verifies s.trusted w.last → Fine Holds bad (walked s.limits w)
-    walked-fine w c = unless-fine Holds bad (MaxUpdatesExceeded s.limits.max_root_updates) (nat_lt (w.last.role.head.version - w.first.role.head.version) s.limits.max_root_updates)
+    walked-fine : (w : WalkDoc) → N w.start → Chain verifies s.trusted w.last → Fine Holds bad (walked s.limits w)
+    walked-fine w n c = unless-fine Holds bad (MaxUpdatesExceeded s.limits.max_root_updates) (nat_lt (w.last.role.head.version - w.first.role.head.version) s.limits.max_root_updates)
         (if w.last.role.head.version == 2 ^ 64 - 1 then Ok (at.PutLast w) else Ok (at.FetchRoot w (root_request s.limits (w.last.role.head.version + 1)))) (λ _.
         if-fine Holds bad (w.last.role.head.version == 2 ^ 64 - 1) (Ok (at.PutLast w)) (Ok (at.FetchRoot w (root_request s.limits (w.last.role.head.version + 1))))
-        (λ e. (c, at_end w.last (eqb-true _ _ e))) (c, refl))
+        (λ e. (n, c, at_end w.last (eqb-true _ _ e))) (n, c, refl))
 
-    began-fine : (start : ℤ) → Fine Holds bad (began verifies s.limits s.trusted start)
-    began-fine start = and_then-fine Holds bad (first_root verifies s.trusted) (λ root. walked s.limits (record { start = start; first = root; last = root })) (λ root is.
-        walked-fine (record { start = start; first = root; last = root }) (first-fine verifies s.trusted root is))
+    began-fine : (start : ℤ) → N start → Fine Holds bad (began verifies s.limits s.trusted start)
+    began-fine start n = and_then-fine Holds bad (first_root verifies s.trusted) (λ root. walked s.limits (record { start = start; first = root; last = root })) (λ root is.
+        walked-fine (record { start = start; first = root; last = root }) n (first-fine verifies s.trusted root is))
 
-    new_root-fine : (w : WalkDoc) (bytes : List ℕ) → Chain verifies s.trusted w.last → Fine Holds bad (new_root verifies w bytes)
-    new_root-fine w bytes c = and_then-fine Holds bad (next_root verifies w.last.role bytes) (λ root. Ok (at.PutRoot (record { start = w.start; first = w.first; last = root }))) (λ root is.
-        followed w.last root c (next-fine verifies w.last bytes root is))
+    new_root-fine : (w : WalkDoc) (bytes : List ℕ) → N w.start → Chain verifies s.trusted w.last → Fine Holds bad (new_root verifies w bytes)
+    new_root-fine w bytes n c = and_then-fine Holds bad (next_root verifies w.last.role bytes) (λ root. Ok (at.PutRoot (record { start = w.start; first = w.first; last = root }))) (λ root is.
+        (n, followed w.last root c (next-fine verifies w.last bytes root is)))
 
-    walk_ended-fine : (w : WalkDoc) → Chain verifies s.trusted w.last → E w.last → Fine Holds bad (walk_ended s.limits s.enforced w)
-    walk_ended-fine w c e = unless-fine Holds bad (Checked (ExpiredMetadata role.Root)) (not (is_expired s.enforced w.start w.last.role.head.expires))
+    walk_ended-fine : (w : WalkDoc) → N w.start → Chain verifies s.trusted w.last → E w.last → Fine Holds bad (walk_ended s.limits s.enforced w)
+    walk_ended-fine w n c e = unless-fine Holds bad (Checked (ExpiredMetadata role.Root)) (not (is_expired s.enforced w.start w.last.role.head.expires))
         (if is_rotated w.first.role w.last.role then Ok (at.Clear (base_of w)) else Ok (at.FetchTimestamp (base_of w) (timestamp_request s.limits))) (λ t.
         if-fine Holds bad (is_rotated w.first.role w.last.role) (Ok (at.Clear (base_of w))) (Ok (at.FetchTimestamp (base_of w) (timestamp_request s.limits)))
-        (λ _. (c, e, not-true _ t)) (c, e, not-true _ t))
+        (λ _. (n, c, e, not-true _ t)) (n, c, e, not-true _ t))
 
     new_timestamp-fine : (b : BaseDoc) (o : Option (SignedDoc TimestampDoc)) → BaseFine b.start b.root → Fine Holds bad (if_read (ParseMetadata role.Timestamp) o (λ t. Ok (at.PutTimestamp b t)))
     new_timestamp-fine b None h = tt
@@ -257,42 +291,83 @@ module _ (verifies : Verifies) (s : SettingDoc) (E : SignedDoc RootDoc → Type 
       named = (f.entry, f.there, record { bytes = f.bytes; reading = f.reading; digest = f.digest; size = f.size; listed = (snapshot-passes verifies k.root.role listed k.snapshot p.0).1 ∙ f.version });
     }
 
+    want_targets-fine : (k : KnownDoc) (o : Option MetafileDoc) → metafile_in k.snapshot.role.meta targets_file ≡ o → KnownFine k → Fine Holds bad (want_targets s.limits k o)
+    want_targets-fine k None is h = tt
+    want_targets-fine k (Some m) is h = (h, (m, is, refl, refl))
+
+    accepted_targets-fine : (k : KnownDoc) (listed : ℕ) (r : RequestDoc) (bytes : List ℕ) (d : SignedDoc TargetsDoc) → targets_in bytes ≡ Some d
+        → IsTrue (fits_request r bytes) → KnownFine k → AskedTargets k listed r → Fine Holds bad (accepted_targets verifies s.enforced k listed d)
+    accepted_targets-fine k listed r bytes d is fit h a =
+        let fit1 : IsTrue (fits_request (targets_request s.limits k.root.role.consistent_snapshot a.0) bytes) = subst (λ q. IsTrue (fits_request q bytes)) a.3 fit in
+        let both : IsTrue (nat_le (length bytes) (bound a.0.length s.limits.max_targets_size)) × IsTrue (has_digest (stated_digest a.0.hashes) bytes) = has-true _ _ fit1 in
+        and_then-fine Holds bad (targets_checked verifies s.enforced k listed d) (λ u. Ok (at.PutTargets k d)) (λ u passed.
+        let c = checked-ok verifies s.enforced k listed d u passed in (
+          h,
+          (
+            ok-reaches verifies k.root.role role.Targets targets_json d (Ok (tt {0})) c.0,
+            (
+              a.0,
+              a.1,
+              record {
+                bytes = bytes;
+                reading = is;
+                digest = digest-stated (stated_digest a.0.hashes) bytes both.1;
+                size = size-stated a.0.length s.limits.max_targets_size (length bytes) (leb-true _ _ both.0);
+                listed = c.1 ∙ a.2;
+              },
+            ),
+            c.2,
+          ),
+        ))
+
+    new_targets-fine : (k : KnownDoc) (listed : ℕ) (r : RequestDoc) (bytes : List ℕ) → IsTrue (fits_request r bytes) → KnownFine k → AskedTargets k listed r
+        → Fine Holds bad (new_targets verifies s.enforced k listed bytes)
+    new_targets-fine k listed r bytes fit h a = and_then-fine Holds bad (bare_targets bytes) (accepted_targets verifies s.enforced k listed) (λ d is.
+        accepted_targets-fine k listed r bytes d (bare-read bytes d is) fit h a)
+
     pub answer-fine : (stage : StageDoc) (a : AnswerDoc) → Keeps verifies (question_at s.enforced stage) a
         → ((w : WalkDoc) (r : RequestDoc) → stage ≡ at.FetchRoot w r → r ≡ root_request s.limits (w.last.role.head.version + 1) → EndsWalk a → E w.last)
+        → ((now : ℤ) → stage ≡ at.NoteTime now → a ≡ got.Step (Ok (tt {0})) → N now)
         → Holds stage → Fine Holds bad (stage_after verifies s stage a)
-    answer-fine (at.Moment) (got.Moment now) keeps asked h = tt
-    answer-fine (at.FetchRoot w r) (got.Bytes bytes) keeps asked h = new_root-fine w bytes h.0
-    answer-fine (at.FetchTimestamp b r) (got.Bytes bytes) keeps asked h = new_timestamp-fine b (timestamp_in bytes) h
-    answer-fine (at.FetchSnapshot b t listed r) (got.Bytes bytes) keeps asked h = new_snapshot-fine b t listed r bytes (snapshot_in bytes) refl keeps h.0 h.1 h.2
-    answer-fine (at.FetchRoot w r) (got.NotStarted Unjoined) keeps asked h = tt
-    answer-fine (at.FetchRoot w r) (got.NotStarted NotFound) keeps asked h = (h.0, asked w r refl h.1 tt)
-    answer-fine (at.FetchRoot w r) (got.NotStarted Faulty) keeps asked h = (h.0, asked w r refl h.1 tt)
-    answer-fine (at.FetchRoot w r) (got.NotStarted NoMemory) keeps asked h = tt
-    answer-fine (at.FetchTimestamp b r) (got.NotStarted f) keeps asked h = tt
-    answer-fine (at.FetchSnapshot b t listed r) (got.NotStarted f) keeps asked h = tt
-    answer-fine (at.FetchRoot w r) (got.Cut Unjoined) keeps asked h = tt
-    answer-fine (at.FetchRoot w r) (got.Cut NotFound) keeps asked h = (h.0, asked w r refl h.1 tt)
-    answer-fine (at.FetchRoot w r) (got.Cut Faulty) keeps asked h = tt
-    answer-fine (at.FetchRoot w r) (got.Cut NoMemory) keeps asked h = tt
-    answer-fine (at.FetchTimestamp b r) (got.Cut f) keeps asked h = tt
-    answer-fine (at.FetchSnapshot b t listed r) (got.Cut f) keeps asked h = tt
-    answer-fine (at.NoteTime now) (got.Step (Ok u)) keeps asked h = began-fine now
-    answer-fine (at.PutRoot w) (got.Step (Ok u)) keeps asked h = walked-fine w h
-    answer-fine (at.PutLast w) (got.Step (Ok u)) keeps asked h = walk_ended-fine w h.0 h.1
-    answer-fine (at.Clear b) (got.Step (Ok u)) keeps asked h = h
-    answer-fine (at.PutTimestamp b t) (got.Step (Ok u)) keeps asked h =
+    answer-fine (at.Moment) (got.Moment now) keeps asked noted h = tt
+    answer-fine (at.FetchRoot w r) (got.Bytes bytes) keeps asked noted h = new_root-fine w bytes h.0 h.1
+    answer-fine (at.FetchTimestamp b r) (got.Bytes bytes) keeps asked noted h = new_timestamp-fine b (timestamp_in bytes) h
+    answer-fine (at.FetchSnapshot b t listed r) (got.Bytes bytes) keeps asked noted h = new_snapshot-fine b t listed r bytes (snapshot_in bytes) refl keeps h.0 h.1 h.2
+    answer-fine (at.FetchTargets k listed r) (got.Bytes bytes) keeps asked noted h = new_targets-fine k listed r bytes keeps h.0 h.1
+    answer-fine (at.FetchRoot w r) (got.NotStarted Unjoined) keeps asked noted h = tt
+    answer-fine (at.FetchRoot w r) (got.NotStarted NotFound) keeps asked noted h = (h.0, h.1, asked w r refl h.2 tt)
+    answer-fine (at.FetchRoot w r) (got.NotStarted Faulty) keeps asked noted h = (h.0, h.1, asked w r refl h.2 tt)
+    answer-fine (at.FetchRoot w r) (got.NotStarted NoMemory) keeps asked noted h = tt
+    answer-fine (at.FetchTimestamp b r) (got.NotStarted f) keeps asked noted h = tt
+    answer-fine (at.FetchSnapshot b t listed r) (got.NotStarted f) keeps asked noted h = tt
+    answer-fine (at.FetchTargets k listed r) (got.NotStarted f) keeps asked noted h = tt
+    answer-fine (at.FetchRoot w r) (got.Cut Unjoined) keeps asked noted h = tt
+    answer-fine (at.FetchRoot w r) (got.Cut NotFound) keeps asked noted h = (h.0, h.1, asked w r refl h.2 tt)
+    answer-fine (at.FetchRoot w r) (got.Cut Faulty) keeps asked noted h = tt
+    answer-fine (at.FetchRoot w r) (got.Cut NoMemory) keeps asked noted h = tt
+    answer-fine (at.FetchTimestamp b r) (got.Cut f) keeps asked noted h = tt
+    answer-fine (at.FetchSnapshot b t listed r) (got.Cut f) keeps asked noted h = tt
+    answer-fine (at.FetchTargets k listed r) (got.Cut f) keeps asked noted h = tt
+    answer-fine (at.NoteTime now) (got.Step (Ok u)) keeps asked noted h = began-fine now (noted now refl refl)
+    answer-fine (at.PutRoot w) (got.Step (Ok u)) keeps asked noted h = walked-fine w h.0 h.1
+    answer-fine (at.PutLast w) (got.Step (Ok u)) keeps asked noted h = walk_ended-fine w h.0 h.1 h.2
+    answer-fine (at.Clear b) (got.Step (Ok u)) keeps asked noted h = h
+    answer-fine (at.PutTimestamp b t) (got.Step (Ok u)) keeps asked noted h =
         let p = timestamp-passes verifies b.root.role t keeps.0 in
         want_snapshot-fine b t (metafile_in t.role.meta snapshot_file) refl h (p.0, p.1, not-expired role.Timestamp s.enforced b.start t.role.head.expires keeps.1)
-    answer-fine (at.PutSnapshot k listed) (got.Step (Ok u)) keeps asked h = known-fine k listed h.0 h.1 h.2 keeps
-    answer-fine (at.NoteTime now) (got.Step (Err f)) keeps asked h = tt
-    answer-fine (at.PutRoot w) (got.Step (Err f)) keeps asked h = tt
-    answer-fine (at.PutLast w) (got.Step (Err f)) keeps asked h = tt
-    answer-fine (at.Clear b) (got.Step (Err f)) keeps asked h = tt
-    answer-fine (at.PutTimestamp b t) (got.Step (Err f)) keeps asked h = tt
-    answer-fine (at.PutSnapshot k listed) (got.Step (Err f)) keeps asked h = tt
-    answer-fine stage (got.Moment now) keeps asked h = h
-    answer-fine stage (got.Bytes bytes) keeps asked h = h
-    answer-fine stage (got.NotStarted f) keeps asked h = h
-    answer-fine stage (got.Cut f) keeps asked h = h
-    answer-fine stage (got.Step (Ok u)) keeps asked h = h
-    answer-fine stage (got.Step (Err f)) keeps asked h = h
+    answer-fine (at.PutSnapshot k listed) (got.Step (Ok u)) keeps asked noted h =
+        want_targets-fine k (metafile_in k.snapshot.role.meta targets_file) refl (known-fine k listed h.0 h.1 h.2 keeps)
+    answer-fine (at.PutTargets k d) (got.Step (Ok u)) keeps asked noted h = h
+    answer-fine (at.NoteTime now) (got.Step (Err f)) keeps asked noted h = tt
+    answer-fine (at.PutRoot w) (got.Step (Err f)) keeps asked noted h = tt
+    answer-fine (at.PutLast w) (got.Step (Err f)) keeps asked noted h = tt
+    answer-fine (at.Clear b) (got.Step (Err f)) keeps asked noted h = tt
+    answer-fine (at.PutTimestamp b t) (got.Step (Err f)) keeps asked noted h = tt
+    answer-fine (at.PutSnapshot k listed) (got.Step (Err f)) keeps asked noted h = tt
+    answer-fine (at.PutTargets k d) (got.Step (Err f)) keeps asked noted h = tt
+    answer-fine stage (got.Moment now) keeps asked noted h = h
+    answer-fine stage (got.Bytes bytes) keeps asked noted h = h
+    answer-fine stage (got.NotStarted f) keeps asked noted h = h
+    answer-fine stage (got.Cut f) keeps asked noted h = h
+    answer-fine stage (got.Step (Ok u)) keeps asked noted h = h
+    answer-fine stage (got.Step (Err f)) keeps asked noted h = h

@@ -1,7 +1,9 @@
 pub mod Failure
 pub mod Walk
+pub mod Outcomes
 pub mod Requests
 pub mod Rotation
+pub mod Listed
 pub mod Stages
 pub mod Questions
 pub mod Answered
@@ -10,3 +12,4 @@ pub mod View
 pub mod Promises
 pub mod Trusted
 pub mod Runs
+pub mod Loadable

@@ -3,7 +3,7 @@ use Rattle.std.specs.Prelude.{◌≡◌, ◌⊎◌, ℕ, List, Bool, false, Opti
 use Rattle.tough_keys.specs.Same.{Verifies}
 use Rattle.tough_client.specs.Failure.{Failure, Memory}
 use Rattle.tough_client.specs.Requests.{fits_request}
-use Rattle.tough_client.specs.Stages.{KnownDoc, StageDoc, CoreDoc, Done}
+use Rattle.tough_client.specs.Stages.{LoadedDoc, StageDoc, CoreDoc, Done}
 use Rattle.tough_client.specs.Questions.{Question, Fetch}
 use Rattle.tough_client.specs.Answered.{AnswerDoc}
 use Rattle.tough_client.specs.Machine.{settled, answered, question}
@@ -25,6 +25,6 @@ abbrev pub fits : CoreDoc → List ℕ → Bool
 fits c = fits_question (question c)
 
 -- how the update ended, once it has
-abbrev pub ended : StageDoc → Option (Result KnownDoc Failure)
+abbrev pub ended : StageDoc → Option (Result LoadedDoc Failure)
 ended (Done r) = Some r
 ended _ = None

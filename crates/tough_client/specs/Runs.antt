@@ -1,5 +1,5 @@
 -- Runs of an update, over any answers.
-use Rattle.std.specs.Prelude.{◌≡◌, ◌⊎◌, ℕ, ◌+◌, ◌-◌, ◌^◌, List, [], ◌∷◌, ◌++◌, Option, None, Bool, true, IsTrue, ⊤, Result, Ok, Err}
+use Rattle.std.specs.Prelude.{◌≡◌, ◌⊎◌, ℕ, ℤ, ◌+◌, ◌-◌, ◌^◌, List, [], ◌∷◌, ◌++◌, Option, Some, None, Bool, true, IsTrue, ⊤, Result, Ok, Err}
 use Rattle.tough_keys.specs.Same.{Verifies}
 use Rattle.tough_roles.specs.Signature.{SignedDoc}
 use Rattle.tough_roles.specs.Root.{RootDoc}
@@ -7,13 +7,15 @@ use Rattle.tough_roles.specs.declared.role_type.RoleType.TheVariants as role
 use Rattle.tough_vault.specs.Checks.{timestamp_first, snapshot_first, expiry}
 use Rattle.tough_vault.specs.Documents.{timestamp_verdict, snapshot_verdict}
 use Rattle.tough_client.specs.Requests.{fits_request, root_request}
-use Rattle.tough_client.specs.Stages.{KnownDoc, CoreDoc, Moment}
+use Rattle.tough_client.specs.Stages.{LoadedDoc, CoreDoc, Moment}
 use Rattle.tough_client.specs.Questions.{Question}
 use Rattle.tough_client.specs.Questions as ask
 use Rattle.tough_client.specs.Answered.{FaultDoc, NotFound, Faulty, AnswerDoc}
 use Rattle.tough_client.specs.Answered as got
 use Rattle.tough_client.specs.Machine.{question, answered}
-use Rattle.tough_client.specs.Trusted.{Trusted, Unexpired}
+use Rattle.tough_client.specs.Walk.{root_in}
+use Rattle.tough_client.specs.Rotation.{is_rotated}
+use Rattle.tough_client.specs.Trusted.{Chain, Trusted, Unexpired}
 
 -- What an answer promises, by what was asked: bytes fit, and a step that succeeds has made its checks on what it was given.
 abbrev pub Keeps : Verifies → Question → AnswerDoc → Type 0
@@ -54,12 +56,28 @@ pub record AskedNext (verifies : Verifies) (c : CoreDoc) (answers : List AnswerD
 abbrev pub IsLast : Verifies → CoreDoc → List AnswerDoc → SignedDoc RootDoc → Type 0
 IsLast verifies c answers r = AskedNext verifies c answers r ⊎ (r.role.head.version ≡ 2 ^ 64 - 1)
 
+-- this moment was noted: it was asked for, and the step succeeded
+pub record HasNoted (verifies : Verifies) (c : CoreDoc) (answers : List AnswerDoc) (start : ℤ) : Type 0 where
+  pub before : List AnswerDoc
+  pub after : List AnswerDoc
+  pub all : answers ≡ before ++ got.Step (Ok (tt {0})) ∷ after
+  pub asked : question (run verifies c before) ≡ ask.NoteTime start
+
 -- what an update that succeeds promises
-pub record Loaded (verifies : Verifies) (c : CoreDoc) (answers : List AnswerDoc) (k : KnownDoc) : Type 0 where
-  pub trusted : Trusted verifies c.setting.trusted k
-  pub unexpired : c.setting.enforced ≡ true → Unexpired k
-  pub last : IsLast verifies c answers k.root
+pub record Loaded (verifies : Verifies) (c : CoreDoc) (answers : List AnswerDoc) (l : LoadedDoc) : Type 0 where
+  pub trusted : Trusted verifies c.setting.trusted l.known l.targets
+  pub unexpired : c.setting.enforced ≡ true → Unexpired l.known l.targets
+  pub noted : HasNoted verifies c answers l.known.start
+  pub last : IsLast verifies c answers l.known.root
 
 -- nothing was answered yet
 abbrev pub IsFresh : CoreDoc → Type 0
 IsFresh c = c.stage ≡ Moment
+
+-- the keys of timestamp or snapshot differ between the root that was handed in and one that ends a chain from it
+pub record WasRotated (verifies : Verifies) (trusted : List ℕ) : Type 0 where
+  pub first : SignedDoc RootDoc
+  pub handed_in : root_in trusted ≡ Some first
+  pub last : SignedDoc RootDoc
+  pub chain : Chain verifies trusted last
+  pub rotated : is_rotated first.role last.role ≡ true

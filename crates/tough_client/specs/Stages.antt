@@ -4,6 +4,7 @@ use Rattle.tough_roles.specs.Signature.{SignedDoc}
 use Rattle.tough_roles.specs.Root.{RootDoc}
 use Rattle.tough_roles.specs.Timestamp.{TimestampDoc}
 use Rattle.tough_roles.specs.Snapshot.{SnapshotDoc}
+use Rattle.tough_schema.specs.Targets.{TargetsDoc}
 use Rattle.tough_client.specs.declared.limits.Limits.{Limits}
 use Rattle.tough_client.specs.Failure.{Failure}
 use Rattle.tough_client.specs.Requests.{RequestDoc}
@@ -27,6 +28,11 @@ pub record KnownDoc : Type 0 where
   pub timestamp : SignedDoc TimestampDoc
   pub snapshot : SignedDoc SnapshotDoc
 
+-- what an update ends with
+pub record LoadedDoc : Type 0 where
+  pub known : KnownDoc
+  pub targets : SignedDoc TargetsDoc
+
 -- ---- the stages; each waits for one answer
 
 pub data StageDoc : Type 0 where
@@ -42,7 +48,10 @@ pub data StageDoc : Type 0 where
   -- the version that the timestamp lists
   FetchSnapshot : BaseDoc → SignedDoc TimestampDoc → ℕ → RequestDoc → StageDoc
   PutSnapshot : KnownDoc → ℕ → StageDoc
-  Done : Result KnownDoc Failure → StageDoc
+  -- the version that the snapshot lists
+  FetchTargets : KnownDoc → ℕ → RequestDoc → StageDoc
+  PutTargets : KnownDoc → SignedDoc TargetsDoc → StageDoc
+  Done : Result LoadedDoc Failure → StageDoc
   -- the outcome was handed out
   Taken : StageDoc
 

@@ -9,9 +9,11 @@ use Rattle.tough_roles.specs.Snapshot.{snapshot_json}
 use Rattle.tough_roles.specs.Chain.{ReachesUnder, IsNext}
 use Rattle.tough_roles.specs.declared.role_type.RoleType.TheVariants as role
 use Rattle.tough_vault.specs.Documents.{metafile_in, snapshot_in}
-use Rattle.tough_vault.specs.Files.{snapshot_file}
+use Rattle.tough_schema.specs.Targets.{TargetsDoc, targets_json}
+use Rattle.tough_vault.specs.Files.{snapshot_file, targets_file}
 use Rattle.tough_client.specs.Walk.{root_in}
 use Rattle.tough_client.specs.Requests.{stated_digest}
+use Rattle.tough_client.specs.Listed.{targets_in}
 use Rattle.tough_client.specs.Stages.{KnownDoc}
 
 -- A chain of roots from these bytes ends in this one: the bytes are the first, which reaches its own threshold, and each other one follows
@@ -33,16 +35,19 @@ pub record Named {D : Type 0} (reads : List ℕ → Option D) (entry : MetafileD
 abbrev pub Lists : {D : Type 0} → (List ℕ → Option D) → List (List ℕ × MetafileDoc) → List ℕ → ℕ → D → Type 0
 Lists reads entries name version doc = (entry : MetafileDoc) × (metafile_in entries name ≡ Some entry) × Named reads entry version doc
 
-pub record Trusted (verifies : Verifies) (bytes : List ℕ) (k : KnownDoc) : Type 0 where
+pub record Trusted (verifies : Verifies) (bytes : List ℕ) (k : KnownDoc) (targets : SignedDoc TargetsDoc) : Type 0 where
   pub root : Chain verifies bytes k.root
   pub timestamp : ReachesUnder verifies k.root.role role.Timestamp timestamp_json k.timestamp
   -- the timestamp lists the snapshot alone
   pub alone : length k.timestamp.role.meta ≡ 1
   pub snapshot : ReachesUnder verifies k.root.role role.Snapshot snapshot_json k.snapshot
   pub snapshot_named : Lists snapshot_in k.timestamp.role.meta snapshot_file k.snapshot.role.head.version k.snapshot
+  pub targets_signed : ReachesUnder verifies k.root.role role.Targets targets_json targets
+  pub targets_named : Lists targets_in k.snapshot.role.meta targets_file targets.role.head.version targets
 
 -- the update began after no expiry
-pub record Unexpired (k : KnownDoc) : Type 0 where
+pub record Unexpired (k : KnownDoc) (d : SignedDoc TargetsDoc) : Type 0 where
   pub root : k.start ≤ℤ k.root.role.head.expires
   pub timestamp : k.start ≤ℤ k.timestamp.role.head.expires
   pub snapshot : k.start ≤ℤ k.snapshot.role.head.expires
+  pub targets : k.start ≤ℤ d.role.head.expires

@@ -11,6 +11,7 @@ use Rattle.tough_roles.specs.declared.root.Root.{Root}
 use Rattle.tough_roles.specs.declared.signed.Signed.{Signed}
 use Rattle.tough_roles.specs.Timestamp.{timestamp_doc}
 use Rattle.tough_roles.specs.Snapshot.{snapshot_doc}
+use Rattle.tough_schema.specs.Targets.{targets_doc}
 use Rattle.tough_vault.specs.Checks.{enforces}
 use Rattle.tough_vault.specs.declared.checks.StepError.{StepError}
 use Rattle.tough_client.specs.Failure.{Failure, failure_of, step_failure}
@@ -25,12 +26,13 @@ use Rattle.tough_client.specs.declared.request.Answer.TheVariants as by
 use Rattle.tough_client.specs.declared.stage.Walk.{Walk}
 use Rattle.tough_client.specs.declared.stage.Base.{Base}
 use Rattle.tough_client.specs.declared.stage.Known.{Known}
+use Rattle.tough_client.specs.declared.stage.Loaded.{Loaded}
 use Rattle.tough_client.specs.declared.stage.Stage.{Stage}
 use Rattle.tough_client.specs.declared.stage.Stage.TheVariants as in_stage
 use Rattle.tough_client.specs.declared.turns.Setting.{Setting}
 use Rattle.tough_client.specs.declared.machine.Core.{Core}
 use Rattle.tough_client.specs.Requests.{RequestDoc}
-use Rattle.tough_client.specs.Stages.{WalkDoc, BaseDoc, KnownDoc, StageDoc, SettingDoc, CoreDoc}
+use Rattle.tough_client.specs.Stages.{WalkDoc, BaseDoc, KnownDoc, LoadedDoc, StageDoc, SettingDoc, CoreDoc}
 use Rattle.tough_client.specs.Stages as at
 use Rattle.tough_client.specs.Questions.{Question}
 use Rattle.tough_client.specs.Questions as ask
@@ -50,6 +52,7 @@ question_of (to.PutRoot r) = ask.PutRoot (signed_doc root_doc r.now)
 question_of to.ClearRotated = ask.ClearRotated
 question_of (to.AdvanceTimestamp root new start enforcement) = ask.AdvanceTimestamp (root_doc root.now) (signed_doc timestamp_doc new.now) start.nanosecond (enforces enforcement)
 question_of (to.AdvanceSnapshot root listed new start enforcement) = ask.AdvanceSnapshot (root_doc root.now) listed (signed_doc snapshot_doc new.now) start.nanosecond (enforces enforcement)
+question_of (to.PutDocument name d) = ask.PutDocument name.now (signed_doc targets_doc d.now)
 question_of to.Ready = ask.Ready
 
 abbrev pub fault_of_kind : TransportErrorKind → FaultDoc
@@ -93,8 +96,11 @@ base_doc b = record { start = b.start.nanosecond; root = signed_doc root_doc b.r
 abbrev pub known_doc : Known → KnownDoc
 known_doc k = record { start = k.start.nanosecond; root = signed_doc root_doc k.root; timestamp = signed_doc timestamp_doc k.timestamp; snapshot = signed_doc snapshot_doc k.snapshot }
 
-abbrev pub outcome_doc : Result Known Error → Result KnownDoc Failure
-outcome_doc (Ok k) = Ok (known_doc k)
+abbrev pub loaded_doc : Loaded → LoadedDoc
+loaded_doc l = record { known = known_doc l.known; targets = signed_doc targets_doc l.targets }
+
+abbrev pub outcome_doc : Result Loaded Error → Result LoadedDoc Failure
+outcome_doc (Ok l) = Ok (loaded_doc l)
 outcome_doc (Err e) = Err (failure_of e)
 
 abbrev pub stage_doc : Stage → StageDoc
@@ -108,6 +114,8 @@ stage_doc (in_stage.FetchTimestamp b r) = at.FetchTimestamp (base_doc b) (reques
 stage_doc (in_stage.PutTimestamp b t) = at.PutTimestamp (base_doc b) (signed_doc timestamp_doc t)
 stage_doc (in_stage.FetchSnapshot b t listed r) = at.FetchSnapshot (base_doc b) (signed_doc timestamp_doc t) listed (request_doc r)
 stage_doc (in_stage.PutSnapshot k listed) = at.PutSnapshot (known_doc k) listed
+stage_doc (in_stage.FetchTargets k listed r) = at.FetchTargets (known_doc k) listed (request_doc r)
+stage_doc (in_stage.PutTargets k d) = at.PutTargets (known_doc k) (signed_doc targets_doc d)
 stage_doc (in_stage.Done r) = at.Done (outcome_doc r)
 stage_doc in_stage.Taken = at.Taken
 

@@ -7,6 +7,7 @@ use Rattle.tough_roles.specs.Root.{RootDoc, root_at, root_json}
 use Rattle.tough_roles.specs.Policy.{policy}
 use Rattle.tough_roles.specs.Verdict.{Refused, verdict}
 use Rattle.tough_roles.specs.Chain.{text_by}
+use Rattle.tough_roles.specs.declared.role_type.RoleType.{RoleType}
 use Rattle.tough_roles.specs.declared.role_type.RoleType.TheVariants as role
 use Rattle.tough_vault.specs.Checks.{VerifyMetadata, OlderMetadata}
 use Rattle.tough_client.specs.declared.error.Error.{Error}
@@ -46,5 +47,5 @@ next_root verifies old bytes = if_read (ParseMetadata role.Root) (root_in bytes)
     (if_next old d)))
 
 -- for private clauses: verification refused so, or memory was wanting
-abbrev pub IsUnverified : Result Unit Refused → Error → Type 0
-IsUnverified v e = (failure_of e ≡ Memory) ⊎ ((r : Refused) × (v ≡ Err r) × (failure_of e ≡ Checked (VerifyMetadata role.Root (Some r))))
+abbrev pub IsUnverified : RoleType → Result Unit Refused → Error → Type 0
+IsUnverified type v e = (failure_of e ≡ Memory) ⊎ ((r : Refused) × (v ≡ Err r) × (failure_of e ≡ Checked (VerifyMetadata type (Some r))))

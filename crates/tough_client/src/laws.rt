@@ -2,14 +2,28 @@
 
 ghost use Rattle.std.specs.Prelude.{◌≡◌, List, Ok};
 ghost use Rattle.tough_keys.specs.Same.{Verifies};
-ghost use Rattle.tough_client.specs.Stages.{KnownDoc, CoreDoc, Done};
+ghost use Rattle.tough_client.specs.Stages.{LoadedDoc, CoreDoc, Done};
 ghost use Rattle.tough_client.specs.Answered.{AnswerDoc};
-ghost use Rattle.tough_client.specs.Runs.{run, Along, IsFresh, Loaded};
+ghost use Rattle.tough_client.specs.Questions.{ClearRotated, Ready};
+ghost use Rattle.tough_client.specs.Machine.{question};
+ghost use Rattle.tough_client.specs.Loadable.{Files, AllHonest, Loadable};
+ghost use Rattle.tough_client.specs.Runs.{run, Along, IsFresh, Loaded, WasRotated};
 
 /// An update that succeeds gives documents that are trusted, whatever was answered.
 pub fn trusts()
-    ensures { (verifies : Verifies) (c : CoreDoc) (answers : List AnswerDoc) (k : KnownDoc) → IsFresh c → Along verifies c answers → (run verifies c answers).stage ≡ Done (Ok k) → Loaded verifies c answers k }
+    ensures { (verifies : Verifies) (c : CoreDoc) (answers : List AnswerDoc) (l : LoadedDoc) → IsFresh c → Along verifies c answers → (run verifies c answers).stage ≡ Done (Ok l) → Loaded verifies c answers l }
+{}
+
+/// Documents without delegated roles that are served, and that vouch for one another, are loaded: with honest answers, an update that
+/// becomes ready ends with them.
+pub fn loads()
+    ensures { (verifies : Verifies) (c : CoreDoc) (files : Files) (l : LoadedDoc) (answers : List AnswerDoc) → IsFresh c → Loadable verifies files c.setting l → AllHonest verifies files l.known.start c answers → question (run verifies c answers) ≡ Ready → (run verifies c answers).stage ≡ Done (Ok l) }
+{}
+
+/// Timestamp and snapshot are forgotten only where the last root has other keys for them than the one that was handed in.
+pub fn clears()
+    ensures { (verifies : Verifies) (c : CoreDoc) (answers : List AnswerDoc) → IsFresh c → question (run verifies c answers) ≡ ClearRotated → WasRotated verifies c.setting.trusted }
 {}
 
 /// How many laws this file states.
-pub const LAWS: usize = 1;
+pub const LAWS: usize = 3;

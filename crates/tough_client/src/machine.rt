@@ -11,7 +11,7 @@ ghost use Rattle.tough_client.specs.Promises.{Settles, Goes, fits, ended};
 use crate::error::Error;
 use crate::limits::Limits;
 use crate::request::{Answer, Ask};
-use crate::stage::{Known, Stage};
+use crate::stage::{Loaded, Stage};
 use crate::turns::{Setting, take_bytes, take_cut, take_moment, take_not_started, take_step};
 use std::alloc::Global;
 use std::mem;
@@ -39,7 +39,7 @@ fn turn<V: Verify>(
 {
     match answer {
         Answer::Moment(now) => take_moment(stage, now),
-        Answer::Bytes(bytes) => take_bytes(setting.alloc, stage, bytes.as_slice(), verifier),
+        Answer::Bytes(bytes) => take_bytes(setting, stage, bytes.as_slice(), verifier),
         Answer::NotStarted(fault) => take_not_started(stage, fault),
         Answer::Cut(fault) => take_cut(stage, fault),
         Answer::Step(taken) => take_step(setting, stage, taken, verifier),
@@ -95,6 +95,11 @@ impl Core {
                 start: known.start,
                 enforcement: self.enforcement,
             },
+            Stage::FetchTargets(_, _, request) => Ask::Fetch(request),
+            Stage::PutTargets(_, targets) => Ask::PutDocument {
+                name: "targets.json",
+                document: targets,
+            },
             Stage::Done(_) => Ask::Ready,
             Stage::Taken => Ask::Ready,
         }
@@ -125,7 +130,7 @@ impl Core {
     }
 
     /// How the update ended, once it has.
-    pub fn outcome(&self) -> Option<&Result<Known, Error>>
+    pub fn outcome(&self) -> Option<&Result<Loaded, Error>>
         ensures { option_map outcome_doc (option_copied result) ≡ ended (core_doc self.now).stage }
     {
         match &self.stage {
@@ -135,7 +140,7 @@ impl Core {
     }
 
     /// Hands out how the update ended, once it has; then nothing more is asked.
-    pub fn take_outcome(&mut self) -> Option<Result<Known, Error>>
+    pub fn take_outcome(&mut self) -> Option<Result<Loaded, Error>>
         ensures done { option_map outcome_doc result ≡ ended (core_doc self.old).stage }
         ensures taken { IsSome result → core_doc self.new ≡ record { setting = (core_doc self.old).setting; stage = at.Taken } }
         ensures not_yet { IsNone result → core_doc self.new ≡ core_doc self.old }
@@ -150,7 +155,7 @@ impl Core {
     }
 
     /// How the update ended, once it has.
-    pub fn into_outcome(self) -> Option<Result<Known, Error>>
+    pub fn into_outcome(self) -> Option<Result<Loaded, Error>>
         ensures { option_map outcome_doc result ≡ ended (core_doc self).stage }
     {
         let Core { stage, .. } = self;

@@ -11,6 +11,7 @@ use sha2::{Digest, Sha256};
 use std::alloc::{AllocError, Global};
 use tough_net::TransportError;
 use tough_roles::{Hashes, Metafile, Root, Signed, Snapshot, Timestamp};
+use tough_schema::Targets;
 use tough_vault::{ExpirationEnforcement, StepError};
 use url::ParseError;
 
@@ -42,18 +43,34 @@ pub enum Ask<'a> {
     ClearRotated,
     /// To accept a timestamp.
     AdvanceTimestamp {
+        /// The root that must vouch for it.
         root: &'a Root,
+        /// The timestamp.
         new: &'a Signed<Timestamp>,
+        /// When the update began.
         start: Instant,
+        /// Whether it may have expired.
         enforcement: ExpirationEnforcement,
     },
     /// To accept a snapshot.
     AdvanceSnapshot {
+        /// The root that must vouch for it.
         root: &'a Root,
+        /// The version that the timestamp lists.
         listed: u64,
+        /// The snapshot.
         new: &'a Signed<Snapshot>,
+        /// When the update began.
         start: Instant,
+        /// Whether it may have expired.
         enforcement: ExpirationEnforcement,
+    },
+    /// To store targets under a file's name.
+    PutDocument {
+        /// The file's name.
+        name: &'static str,
+        /// The targets.
+        document: &'a Signed<Targets>,
     },
     /// Nothing more.
     Ready,
@@ -170,6 +187,33 @@ pub(crate) fn snapshot_request(
         name: name_at(alloc, consistent, meta.version.get(), "snapshot.json")?,
         max_size: meta.length.unwrap_or(limits.max_snapshot_size),
         specifier: "timestamp.json",
+        sha256: stated_digest(alloc, &meta.hashes)?,
+    })
+}
+
+// Where the bound on the targets' length comes from.
+fn targets_specifier(length: Option<u64>) -> &'static str
+    ensures { result.now ≡ targets_specifier length }
+{
+    match length {
+        None => "max_targets_size parameter",
+        Some(_) => "snapshot.json",
+    }
+}
+
+/// The targets that the snapshot's entry describes.
+pub(crate) fn targets_request(
+    alloc: Global,
+    limits: &Limits,
+    consistent: bool,
+    meta: &Metafile,
+) -> Result<Request, AllocError>
+    ensures { IfOk result (λ r. request_doc r ≡ targets_request limits.now consistent (metafile_doc meta.now)) }
+{
+    Ok(Request {
+        name: name_at(alloc, consistent, meta.version.get(), "targets.json")?,
+        max_size: meta.length.unwrap_or(limits.max_targets_size),
+        specifier: targets_specifier(meta.length),
         sha256: stated_digest(alloc, &meta.hashes)?,
     })
 }

@@ -10,6 +10,7 @@ use crate::error::Error;
 use crate::request::Request;
 use jiff::Timestamp as Instant;
 use tough_roles::{Root, Signed, Snapshot, Timestamp};
+use tough_schema::Targets;
 
 /// A walk from root to root.
 #[derive(Drop)]
@@ -31,10 +32,23 @@ pub(crate) struct Base {
 /// What is known once the snapshot is there.
 #[derive(Drop)]
 pub struct Known {
+    /// When the update began.
     pub start: Instant,
+    /// The last root.
     pub root: Signed<Root>,
+    /// The timestamp.
     pub timestamp: Signed<Timestamp>,
+    /// The snapshot that the timestamp names.
     pub snapshot: Signed<Snapshot>,
+}
+
+/// What an update ends with.
+#[derive(Drop)]
+pub struct Loaded {
+    /// What was known before the targets.
+    pub known: Known,
+    /// The targets that the snapshot names.
+    pub targets: Signed<Targets>,
 }
 
 /// What an update waits for, with what is known by then.
@@ -50,7 +64,9 @@ pub(crate) enum Stage {
     PutTimestamp(Base, Signed<Timestamp>),
     FetchSnapshot(Base, Signed<Timestamp>, u64, Request),
     PutSnapshot(Known, u64),
-    Done(Result<Known, Error>),
+    FetchTargets(Known, u64, Request),
+    PutTargets(Known, Signed<Targets>),
+    Done(Result<Loaded, Error>),
     Taken,
 }
 

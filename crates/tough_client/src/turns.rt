@@ -1,6 +1,6 @@
 //! What an answer makes of a stage.
 
-ghost use Rattle.std.specs.Prelude.{◌≡◌, option_map, option_copied, Ok, Err};
+ghost use Rattle.std.specs.Prelude.{◌≡◌, OnOk, IfErr, option_map, option_copied, Ok, Err};
 ghost use Rattle.tough_keys.specs.Same.{Verifies};
 ghost use Rattle.tough_roles.specs.Signature.{signed_doc};
 ghost use Rattle.tough_roles.specs.Root.{root_doc};
@@ -8,24 +8,33 @@ ghost use Rattle.tough_roles.specs.Timestamp.{timestamp_doc, metafile_doc, metaf
 ghost use Rattle.tough_roles.specs.Snapshot.{snapshot_doc};
 ghost use Rattle.tough_vault.specs.Checks.{enforces, is_expired};
 ghost use Rattle.tough_vault.specs.Documents.{metafile_in, timestamp_in, snapshot_in};
-ghost use Rattle.tough_vault.specs.Files.{snapshot_file};
+ghost use Rattle.tough_vault.specs.Files.{snapshot_file, targets_file};
 ghost use Rattle.tough_client.specs.Failure.{Gives, failure_of, step_failure};
-ghost use Rattle.tough_client.specs.Walk.{if_read};
-ghost use Rattle.tough_client.specs.Machine.{walked, began, new_root, walk_ended, new_timestamp, want_snapshot, new_snapshot, fault_failure, root_not_started, root_cut, timed, fetched, not_started, cut, stepped, refused, stage_after};
+ghost use Rattle.tough_client.specs.Walk.{if_read, IsUnverified};
+ghost use Rattle.tough_client.specs.Machine.{walked, began, new_root, walk_ended, new_timestamp, want_snapshot, new_snapshot, want_targets, targets_checked, new_targets, fault_failure, root_not_started, root_cut, timed, fetched, not_started, cut, stepped, awaits_step, refused, stage_after};
 ghost use Rattle.tough_client.specs.Answered as got;
+ghost use Rattle.tough_client.specs.Listed.{lists_roles, bare_targets, targets_verdict};
+ghost use Rattle.tough_schema.specs.Targets.{targets_doc};
+ghost use Rattle.tough_roles.specs.declared.role_type.RoleType.TheVariants as types;
 ghost use Rattle.tough_client.specs.View.{walk_doc, base_doc, known_doc, stage_doc, request_doc, fault_doc, setting_doc, step_doc};
 
 use crate::error::Error;
 use crate::limits::Limits;
-use crate::request::{Fault, Request, root_request, snapshot_request, timestamp_request};
+use crate::request::{
+    Fault, Request, root_request, snapshot_request, targets_request, timestamp_request,
+};
 use crate::rotation::is_rotated;
-use crate::stage::{Base, Known, Stage, Walk};
+use crate::stage::{Base, Known, Loaded, Stage, Walk};
 use crate::walk::{first_root, next_root};
 use jiff::Timestamp as Instant;
 use std::alloc::Global;
 use std::collections::BTreeMap;
+use tough_json::error::shape;
 use tough_net::TransportErrorKind;
-use tough_roles::{Metafile, ReadError, RoleType, Root, Signed, Snapshot, Timestamp, Verify};
+use tough_roles::{
+    self as schema, Metafile, ReadError, RoleType, Root, Signed, Snapshot, Timestamp, Verify,
+};
+use tough_schema::Targets;
 use tough_vault::{ExpirationEnforcement, StepError};
 use url::ParseError;
 
@@ -202,6 +211,125 @@ fn take_snapshot(
     }
 }
 
+/// The snapshot was accepted.
+fn go_to_targets(alloc: Global, limits: &Limits, known: Known) -> Result<Stage, Error>
+    ensures { Gives stage_doc (want_targets limits.now (known_doc known) (metafile_in (snapshot_doc known.snapshot.signed).meta targets_file)) result }
+{
+    let Some(meta) = listed(&known.snapshot.signed.meta, "targets.json") else {
+        return Err(Error::SnapshotTargetsMetaMissing {
+            version: known.snapshot.signed.version.get(),
+        });
+    };
+    let consistent = known.root.signed.consistent_snapshot;
+    let request = targets_request(alloc, limits, consistent, meta)?;
+    let version = meta.version.get();
+    Ok(Stage::FetchTargets(known, version, request))
+}
+
+// Whether the targets delegate to a role.
+fn lists_roles(targets: &Targets) -> bool
+    ensures { result ≡ lists_roles (targets_doc targets.now).delegations }
+{
+    match &targets.delegations {
+        None => false,
+        Some(delegations) => delegations.roles.len() > 0,
+    }
+}
+
+// Targets that delegate to no role.
+fn bare_targets(alloc: Global, bytes: &[u8]) -> Result<Signed<Targets>, Error>
+    ensures { Gives (signed_doc targets_doc) (bare_targets bytes.now) result }
+{
+    let targets = match Signed::<Targets>::read(alloc, bytes) {
+        Ok(targets) => targets,
+        Err(ReadError::Memory) => return Err(Error::Memory),
+        Err(source) => {
+            return Err(Error::ParseMetadata {
+                role: RoleType::Targets,
+                source,
+            });
+        }
+    };
+    if lists_roles(&targets.signed) {
+        return Err(match shape(alloc, "roles") {
+            ReadError::Memory => Error::Memory,
+            source => Error::ParseMetadata {
+                role: RoleType::Targets,
+                source,
+            },
+        });
+    }
+    Ok(targets)
+}
+
+// The targets reach the root's threshold.
+fn verify_targets<V: Verify>(
+    alloc: Global,
+    root: &Root,
+    new: &Signed<Targets>,
+    verifier: &V,
+) -> Result<(), Error>
+    ensures passed { OnOk result (targets_verdict (V.verifies verifier.now) (root_doc root.now) (signed_doc targets_doc new.now) ≡ Ok (tt {0})) }
+    ensures refused { IfErr result (λ e. IsUnverified types.Targets (targets_verdict (V.verifies verifier.now) (root_doc root.now) (signed_doc targets_doc new.now)) e) }
+{
+    match root.verify_role(alloc, new, verifier) {
+        Ok(()) => Ok(()),
+        Err(schema::Error::Memory) => Err(Error::Memory),
+        Err(source) => Err(Error::VerifyMetadata {
+            role: RoleType::Targets,
+            source,
+        }),
+    }
+}
+
+// Targets reach the root's threshold, have the listed version and aren't expired.
+fn check_targets<V: Verify>(
+    setting: &Setting<'_>,
+    known: &Known,
+    listed: u64,
+    targets: &Signed<Targets>,
+    verifier: &V,
+) -> Result<(), Error>
+    ensures { Gives (λ u. tt {0}) (targets_checked (V.verifies verifier.now) (enforces setting.now.enforcement) (known_doc known.now) listed (signed_doc targets_doc targets.now)) result }
+{
+    if let Err(error) = verify_targets(setting.alloc, &known.root.signed, targets, verifier) {
+        return Err(error);
+    }
+    let fetched = targets.signed.version.get();
+    if fetched != listed {
+        return Err(Error::VersionMismatch {
+            role: RoleType::Targets,
+            fetched,
+            expected: listed,
+        });
+    }
+    if is_expired(setting.enforcement, known.start, targets.signed.expires) {
+        return Err(Error::ExpiredMetadata {
+            role: RoleType::Targets,
+        });
+    }
+    Ok(())
+}
+
+fn take_targets<V: Verify>(
+    setting: &Setting<'_>,
+    known: Known,
+    listed: u64,
+    bytes: &[u8],
+    verifier: &V,
+) -> Result<Stage, Error>
+    ensures { Gives stage_doc (new_targets (V.verifies verifier.now) (enforces setting.now.enforcement) (known_doc known) listed bytes.now) result }
+{
+    let targets = match bare_targets(setting.alloc, bytes) {
+        Ok(targets) => targets,
+        Err(error) => return Err(error),
+    };
+    match check_targets(setting, &known, listed, &targets, verifier) {
+        Ok(()) => Ok(Stage::PutTargets(known, targets)),
+        Err(error) => Err(error),
+    }
+}
+
 // What a fault is where the file of this name is needed.
 fn fault_error(path: String, fault: Fault) -> Error
     ensures { failure_of result ≡ fault_failure (fault_doc fault) }
@@ -254,18 +382,22 @@ pub(crate) fn take_moment(stage: Stage, now: Instant) -> Result<Stage, Error>
 
 /// The bytes of a file.
 pub(crate) fn take_bytes<V: Verify>(
-    alloc: Global,
+    setting: &Setting<'_>,
     stage: Stage,
     bytes: &[u8],
     verifier: &V,
 ) -> Result<Stage, Error>
-    ensures { Gives stage_doc (fetched (V.verifies verifier.now) (stage_doc stage) bytes.now) result }
+    ensures { Gives stage_doc (fetched (V.verifies verifier.now) (enforces setting.now.enforcement) (stage_doc stage) bytes.now) result }
 {
+    let alloc = setting.alloc;
     match stage {
         Stage::FetchRoot(walk, _) => take_root(alloc, walk, bytes, verifier),
         Stage::FetchTimestamp(base, _) => take_timestamp(alloc, base, bytes),
         Stage::FetchSnapshot(base, timestamp, listed, _) => {
             take_snapshot(alloc, base, timestamp, listed, bytes)
+        }
+        Stage::FetchTargets(known, listed, _) => {
+            take_targets(setting, known, listed, bytes, verifier)
         }
         stage => Ok(stage),
     }
@@ -279,6 +411,7 @@ pub(crate) fn take_not_started(stage: Stage, fault: Fault) -> Result<Stage, Erro
         Stage::FetchRoot(walk, request) => end_unstarted(walk, request, fault),
         Stage::FetchTimestamp(_, request) => Err(fault_error(request.name, fault)),
         Stage::FetchSnapshot(_, _, _, request) => Err(fault_error(request.name, fault)),
+        Stage::FetchTargets(_, _, request) => Err(fault_error(request.name, fault)),
         stage => Ok(stage),
     }
 }
@@ -291,6 +424,7 @@ pub(crate) fn take_cut(stage: Stage, fault: Fault) -> Result<Stage, Error>
         Stage::FetchRoot(walk, request) => end_cut(walk, request, fault),
         Stage::FetchTimestamp(_, request) => Err(fault_error(request.name, fault)),
         Stage::FetchSnapshot(_, _, _, request) => Err(fault_error(request.name, fault)),
+        Stage::FetchTargets(_, _, request) => Err(fault_error(request.name, fault)),
         stage => Ok(stage),
     }
 }
@@ -314,8 +448,25 @@ fn take_success<V: Verify>(
             Ok(Stage::FetchTimestamp(base, request))
         }
         Stage::PutTimestamp(base, timestamp) => go_to_snapshot(alloc, limits, base, timestamp),
-        Stage::PutSnapshot(known, _) => Ok(Stage::Done(Ok(known))),
+        Stage::PutSnapshot(known, _) => go_to_targets(alloc, limits, known),
+        Stage::PutTargets(known, targets) => Ok(Stage::Done(Ok(Loaded { known, targets }))),
         stage => Ok(stage),
+    }
+}
+
+// Whether a step was asked for.
+fn awaits_step(stage: &Stage) -> bool
+    ensures { result ≡ awaits_step (stage_doc stage.now) }
+{
+    match stage {
+        Stage::NoteTime(_) => true,
+        Stage::PutRoot(_) => true,
+        Stage::PutLast(_) => true,
+        Stage::Clear(_) => true,
+        Stage::PutTimestamp(_, _) => true,
+        Stage::PutSnapshot(_, _) => true,
+        Stage::PutTargets(_, _) => true,
+        _ => false,
     }
 }
 
@@ -323,14 +474,10 @@ fn take_success<V: Verify>(
 fn take_refusal(stage: Stage, error: StepError) -> Result<Stage, Error>
     ensures { Gives stage_doc (refused (stage_doc stage) (step_failure error)) result }
 {
-    match stage {
-        Stage::NoteTime(_)
-        | Stage::PutRoot(_)
-        | Stage::PutLast(_)
-        | Stage::Clear(_)
-        | Stage::PutTimestamp(_, _)
-        | Stage::PutSnapshot(_, _) => Err(Error::from(error)),
-        stage => Ok(stage),
+    if awaits_step(&stage) {
+        Err(Error::from(error))
+    } else {
+        Ok(stage)
     }
 }
 

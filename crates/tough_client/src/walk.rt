@@ -4,6 +4,7 @@ ghost use Rattle.std.specs.Prelude.{◌≡◌, [], List, IfOk, IfErr, OnOk};
 ghost use Rattle.tough_roles.specs.Signature.{SignedDoc, signed_doc};
 ghost use Rattle.tough_roles.specs.Root.{RootDoc, root_doc};
 ghost use Rattle.tough_roles.specs.Chain.{IsChain, IsNext};
+ghost use Rattle.tough_roles.specs.declared.role_type.RoleType.TheVariants as types;
 ghost use Rattle.tough_client.specs.Failure.{Gives};
 ghost use Rattle.tough_client.specs.Walk.{first_root, next_root, root_verdict, IsUnverified};
 
@@ -41,7 +42,7 @@ fn verify_under<V: Verify>(
     verifier: &V,
 ) -> Result<(), Error>
     ensures passed { OnOk result (root_verdict (V.verifies verifier.now) (root_doc root.now) (signed_doc root_doc new.now) ≡ Ok (tt {0})) }
-    ensures refused { IfErr result (λ e. IsUnverified (root_verdict (V.verifies verifier.now) (root_doc root.now) (signed_doc root_doc new.now)) e) }
+    ensures refused { IfErr result (λ e. IsUnverified types.Root (root_verdict (V.verifies verifier.now) (root_doc root.now) (signed_doc root_doc new.now)) e) }
 {
     match root.verify_role(alloc, new, verifier) {
         Ok(()) => Ok(()),

@@ -1,5 +1,6 @@
 use crate::machine::documents::{
-    BARE_TIMESTAMP, CONSISTENT, EXPIRED, ROOT_1, ROOT_2, ROOT_3, ROTATED, SNAPSHOT, TIMESTAMP,
+    BARE_TIMESTAMP, CONSISTENT, DELEGATING, EMPTY_LIST, EXACT_SNAPSHOT, EXPIRED, EXPIRED_TARGETS,
+    ROOT_1, ROOT_2, ROOT_3, ROTATED, SNAPSHOT, TARGETS, TARGETS_3, TIMESTAMP, UNSIGNED_TARGETS,
 };
 use crate::{Answer, Ask, Core, Error, ExpirationEnforcement, Fault, Limits, StepError};
 use jiff::Timestamp as Instant;
@@ -268,5 +269,132 @@ fn a_refused_step_ends_the_update(rt: HostRuntime) -> Result<(), Fail> {
     );
     let found = failure(&core);
     assert!(rt; matches!(found, Some(Error::DatastoreOpen)));
+    Ok(())
+}
+
+// An update that has accepted a snapshot.
+fn listed(alloc: Global, snapshot: &str) -> Result<Core, Fail> {
+    let mut core = walked(alloc, ROOT_1)?;
+    serve(alloc, &mut core, BARE_TIMESTAMP)?;
+    accept(alloc, &mut core);
+    serve(alloc, &mut core, snapshot)?;
+    accept(alloc, &mut core);
+    Ok(core)
+}
+
+#[test]
+fn targets_end_an_update(rt: HostRuntime) -> Result<(), Fail> {
+    for targets in [TARGETS, EMPTY_LIST] {
+        let mut core = listed(rt.alloc(), SNAPSHOT)?;
+        assert_eq!(rt; wanted(&core), "targets.json");
+        serve(rt.alloc(), &mut core, targets)?;
+        match core.ask() {
+            Ask::PutDocument { name, document } => {
+                assert_eq!(rt; name, "targets.json");
+                assert_eq!(rt; document.signed.version.get(), 2);
+            }
+            _ => assert!(rt; false),
+        }
+        accept(rt.alloc(), &mut core);
+        assert!(rt; matches!(core.ask(), Ask::Ready));
+        match core.outcome() {
+            Some(Ok(loaded)) => {
+                assert_eq!(rt; loaded.known.root.signed.version.get(), 1);
+                assert_eq!(rt; loaded.known.timestamp.signed.version.get(), 4);
+                assert_eq!(rt; loaded.known.snapshot.signed.version.get(), 3);
+                assert_eq!(rt; loaded.targets.signed.version.get(), 2);
+            }
+            _ => assert!(rt; false),
+        }
+        let outcome = core.into_outcome();
+        assert!(rt; matches!(&outcome, Some(Ok(_))));
+    }
+    Ok(())
+}
+
+#[test]
+fn the_snapshot_says_what_fits(rt: HostRuntime) -> Result<(), Fail> {
+    let core = listed(rt.alloc(), EXACT_SNAPSHOT)?;
+    match core.ask() {
+        Ask::Fetch(request) => {
+            assert_eq!(rt; request.max_size, 276);
+            assert_eq!(rt; request.specifier, "snapshot.json");
+        }
+        _ => assert!(rt; false),
+    }
+    assert!(rt; core.fits(TARGETS.as_bytes()));
+    assert!(rt; !core.fits(b"{}"));
+    let core = listed(rt.alloc(), SNAPSHOT)?;
+    match core.ask() {
+        Ask::Fetch(request) => {
+            assert_eq!(rt; request.max_size, 10_485_760);
+            assert_eq!(rt; request.specifier, "max_targets_size parameter");
+        }
+        _ => assert!(rt; false),
+    }
+    Ok(())
+}
+
+#[test]
+fn targets_of_another_version_are_refused(rt: HostRuntime) -> Result<(), Fail> {
+    let mut core = listed(rt.alloc(), SNAPSHOT)?;
+    serve(rt.alloc(), &mut core, TARGETS_3)?;
+    let found = failure(&core);
+    assert!(rt;
+        matches!(
+            found,
+            Some(Error::VersionMismatch {
+                role: RoleType::Targets,
+                fetched: 3,
+                expected: 2
+            })
+        )
+    );
+    Ok(())
+}
+
+#[test]
+fn targets_must_be_signed_and_unexpired(rt: HostRuntime) -> Result<(), Fail> {
+    let mut core = listed(rt.alloc(), SNAPSHOT)?;
+    serve(rt.alloc(), &mut core, UNSIGNED_TARGETS)?;
+    let found = failure(&core);
+    assert!(rt;
+        matches!(
+            found,
+            Some(Error::VerifyMetadata {
+                role: RoleType::Targets,
+                ..
+            })
+        )
+    );
+    let mut core = listed(rt.alloc(), SNAPSHOT)?;
+    serve(rt.alloc(), &mut core, EXPIRED_TARGETS)?;
+    let found = failure(&core);
+    assert!(rt;
+        matches!(
+            found,
+            Some(Error::ExpiredMetadata {
+                role: RoleType::Targets
+            })
+        )
+    );
+    Ok(())
+}
+
+/// Delegated roles aren't loaded yet.
+#[test]
+fn targets_that_delegate_are_refused(rt: HostRuntime) -> Result<(), Fail> {
+    let mut core = listed(rt.alloc(), SNAPSHOT)?;
+    serve(rt.alloc(), &mut core, DELEGATING)?;
+    let found = failure(&core);
+    assert!(rt;
+        matches!(
+            found,
+            Some(Error::ParseMetadata {
+                role: RoleType::Targets,
+                ..
+            })
+        )
+    );
     Ok(())
 }
