@@ -192,7 +192,7 @@ question_at enforced (at.PutTimestamp b t) = ask.AdvanceTimestamp b.root.role t 
 question_at enforced (at.FetchSnapshot b t listed r) = ask.Fetch r
 question_at enforced (at.PutSnapshot k listed) = ask.AdvanceSnapshot k.root.role listed k.snapshot k.start enforced
 question_at enforced (at.FetchTargets k listed r) = ask.Fetch r
-question_at enforced (at.PutTargets k d) = ask.PutDocument targets_file d
+question_at enforced (at.PutTargets k d) = ask.PutTargets d
 question_at enforced (at.Done r) = ask.Ready
 question_at enforced at.Taken = ask.Ready
 

@@ -1,5 +1,5 @@
 -- What an update asks: a moment, a file, or a step on the store (TUF specification 1.0, section 5).
-use Rattle.std.specs.Prelude.{ℕ, ℤ, List, Bool}
+use Rattle.std.specs.Prelude.{ℕ, ℤ, Bool}
 use Rattle.tough_roles.specs.Signature.{SignedDoc}
 use Rattle.tough_roles.specs.Root.{RootDoc}
 use Rattle.tough_roles.specs.Timestamp.{TimestampDoc}
@@ -17,6 +17,5 @@ pub data Question : Type 0 where
   AdvanceTimestamp : RootDoc → SignedDoc TimestampDoc → ℤ → Bool → Question
   -- the root, the version that the timestamp lists, the document, when the update began, whether expiry counts
   AdvanceSnapshot : RootDoc → ℕ → SignedDoc SnapshotDoc → ℤ → Bool → Question
-  -- the file's name, the document
-  PutDocument : List ℕ → SignedDoc TargetsDoc → Question
+  PutTargets : SignedDoc TargetsDoc → Question
   Ready : Question

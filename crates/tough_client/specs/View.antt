@@ -52,7 +52,7 @@ question_of (to.PutRoot r) = ask.PutRoot (signed_doc root_doc r.now)
 question_of to.ClearRotated = ask.ClearRotated
 question_of (to.AdvanceTimestamp root new start enforcement) = ask.AdvanceTimestamp (root_doc root.now) (signed_doc timestamp_doc new.now) start.nanosecond (enforces enforcement)
 question_of (to.AdvanceSnapshot root listed new start enforcement) = ask.AdvanceSnapshot (root_doc root.now) listed (signed_doc snapshot_doc new.now) start.nanosecond (enforces enforcement)
-question_of (to.PutDocument name d) = ask.PutDocument name.now (signed_doc targets_doc d.now)
+question_of (to.PutTargets d) = ask.PutTargets (signed_doc targets_doc d.now)
 question_of to.Ready = ask.Ready
 
 abbrev pub fault_of_kind : TransportErrorKind → FaultDoc

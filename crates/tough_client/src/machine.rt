@@ -96,10 +96,7 @@ impl Core {
                 enforcement: self.enforcement,
             },
             Stage::FetchTargets(_, _, request) => Ask::Fetch(request),
-            Stage::PutTargets(_, targets) => Ask::PutDocument {
-                name: "targets.json",
-                document: targets,
-            },
+            Stage::PutTargets(_, targets) => Ask::PutTargets(targets),
             Stage::Done(_) => Ask::Ready,
             Stage::Taken => Ask::Ready,
         }

@@ -65,13 +65,8 @@ pub enum Ask<'a> {
         /// Whether it may have expired.
         enforcement: ExpirationEnforcement,
     },
-    /// To store targets under a file's name.
-    PutDocument {
-        /// The file's name.
-        name: &'static str,
-        /// The targets.
-        document: &'a Signed<Targets>,
-    },
+    /// To store the targets.
+    PutTargets(&'a Signed<Targets>),
     /// Nothing more.
     Ready,
 }

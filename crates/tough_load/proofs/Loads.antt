@@ -14,7 +14,7 @@ use Rattle.tough_net.specs.Collecting.{Bounds, Collects, collected, bounds_of, h
 use Rattle.tough_net.proofs.CollectLemmas.{Collects-Within}
 use Rattle.tough_client.specs.Requests.{RequestDoc}
 use Rattle.tough_client.specs.Failure.{Failure}
-use Rattle.tough_client.specs.Stages.{KnownDoc, CoreDoc, Taken}
+use Rattle.tough_client.specs.Stages.{LoadedDoc, CoreDoc, Taken}
 use Rattle.tough_client.specs.Questions.{Question}
 use Rattle.tough_client.specs.Questions as ask
 use Rattle.tough_client.specs.Answered.{AnswerDoc}
@@ -52,6 +52,7 @@ module _ {T S K : Type 0} (refuses : T → Parts → TransportError → Type 0) 
   allows-at ask.ClearRotated k a next h = h
   allows-at (ask.AdvanceTimestamp root d start enforced) k a next h = h
   allows-at (ask.AdvanceSnapshot root listed d start enforced) k a next h = h
+  allows-at (ask.PutTargets d) k a next h = h
   allows-at ask.Ready k a next h = absurd h
 
   pub step-allows : (p q : Question) (k : K) (a : AnswerDoc) (next : K) → p ≡ q → StepsAt keeps verifies p k a next → Allows refuses serves keeps yields verifies base t q k a next
@@ -67,7 +68,7 @@ module _ {T S K : Type 0} (refuses : T → Parts → TransportError → Type 0) 
       rw is (answer_of h.0 ∷ h.2, (h.1, k, rw asked (inr (inr (s.url, s.joined, inr (h.0, refl, served))), refl), h.4, h.5))
 
   -- nothing more is asked
-  pub Ends_ready : {X : Type 0} (view : X → Result KnownDoc Failure) (fetch : Option (Collect S)) (c left : CoreDoc) (k : K) (o : Option X)
+  pub Ends_ready : {X : Type 0} (view : X → Result LoadedDoc Failure) (fetch : Option (Collect S)) (c left : CoreDoc) (k : K) (o : Option X)
       → fetch ≡ None → option_map view o ≡ ended c.stage → (IsSome o → left ≡ record { setting = c.setting; stage = Taken })
       → IfSome o (λ r. Ends refuses serves keeps yields verifies base t fetch c k (view r) left k)
   Ends_ready view fetch c left k None is e l = tt
@@ -75,10 +76,10 @@ module _ {T S K : Type 0} (refuses : T → Parts → TransportError → Type 0) 
 
   module _ (fetch later : Option (Collect S)) (c d : CoreDoc) (k l : K)
       (follows : (c' : CoreDoc) (k' : K) → Reaches refuses serves keeps yields verifies base t later d l c' k' → Reaches refuses serves keeps yields verifies base t fetch c k c' k') where
-    pub Ends-follows : (r : Result KnownDoc Failure) (left : CoreDoc) (kept : K) → Ends refuses serves keeps yields verifies base t later d l r left kept → Ends refuses serves keeps yields verifies base t fetch c k r left kept
+    pub Ends-follows : (r : Result LoadedDoc Failure) (left : CoreDoc) (kept : K) → Ends refuses serves keeps yields verifies base t later d l r left kept → Ends refuses serves keeps yields verifies base t fetch c k r left kept
     Ends-follows r left kept h = (h.0, follows h.0 kept h.1, h.2, h.3)
 
-    pub Gives-follows : (r : Result KnownDoc Failure) → Gives refuses serves keeps yields verifies base t later d l r → Gives refuses serves keeps yields verifies base t fetch c k r
+    pub Gives-follows : (r : Result LoadedDoc Failure) → Gives refuses serves keeps yields verifies base t later d l r → Gives refuses serves keeps yields verifies base t fetch c k r
     Gives-follows r h = (h.0, h.1, Ends-follows r h.0 h.1 h.2)
 
 -- what holds at some parts holds at equal ones

@@ -1,7 +1,8 @@
 -- What is asked of the keeper of a store: one of the six steps (TUF specification 1.0, section 5).
-use Rattle.std.specs.Prelude.{◌≡◌, ℕ, ℤ, List, Option, None, Bool, Result, Ok, Err, ⊤}
+use Rattle.std.specs.Prelude.{◌≡◌, ℕ, ℤ, List, Option, None, option_and_then, Bool, Result, Ok, Err, ⊤}
 use Rattle.tough_keys.specs.Same.{Verifies}
-use Rattle.tough_roles.specs.Signature.{SignedDoc}
+use Rattle.tough_roles.specs.Signature.{SignedDoc, signed_json}
+use Rattle.tough_schema.specs.Targets.{TargetsDoc, targets_json}
 use Rattle.tough_roles.specs.Root.{RootDoc}
 use Rattle.tough_roles.specs.Timestamp.{TimestampDoc}
 use Rattle.tough_roles.specs.Snapshot.{SnapshotDoc}
@@ -9,11 +10,15 @@ use Rattle.tough_roles.specs.declared.role_type.RoleType.TheVariants as role
 use Rattle.tough_vault.specs.declared.entry.Receipt.{Receipt}
 use Rattle.tough_vault.specs.declared.checks.StepError.{StepError}
 use Rattle.tough_vault.specs.Checks.{timestamp_first, snapshot_first, expiry}
-use Rattle.tough_vault.specs.Documents.{timestamp_verdict, snapshot_verdict}
+use Rattle.tough_vault.specs.Documents.{stored_text, timestamp_verdict, snapshot_verdict}
 use Rattle.tough_vault.specs.Journal.{Last}
 use Rattle.tough_vault.specs.Stored.{Files}
 use Rattle.tough_vault.specs.Step.{Parts, Takes, Clears}
 use Rattle.tough_vault.specs.Steps.{time_step, root_step, timestamp_step, snapshot_step, document_step}
+
+-- the text of signed targets in a store, where they can be written
+abbrev pub targets_text : SignedDoc TargetsDoc → Option (List ℕ)
+targets_text d = option_and_then stored_text (signed_json targets_json d)
 
 pub data Act : Type 0 where
   NoteTime : ℤ → Act

@@ -10,14 +10,15 @@ use Rattle.tough_net.specs.declared.error.TransportError.{TransportError}
 use Rattle.tough_net.specs.declared.collect.Collect.{Collect}
 use Rattle.tough_net.specs.Items.{Item}
 use Rattle.tough_client.specs.Failure.{Failure, Memory, step_failure}
-use Rattle.tough_client.specs.Stages.{KnownDoc, CoreDoc, Taken}
+use Rattle.tough_client.specs.Stages.{LoadedDoc, CoreDoc, Taken}
 use Rattle.tough_client.specs.Questions.{Question}
 use Rattle.tough_client.specs.Questions as ask
 use Rattle.tough_client.specs.Answered.{AnswerDoc}
 use Rattle.tough_client.specs.Answered as got
 use Rattle.tough_client.specs.Machine.{question}
 use Rattle.tough_client.specs.Promises.{Goes, ended}
-use Rattle.tough_load.specs.Acts.{Act, NoteTime, PutRoot, ClearRotated, AdvanceTimestamp, AdvanceSnapshot, PutDocument}
+use Rattle.tough_vault.specs.Files.{targets_file}
+use Rattle.tough_load.specs.Acts.{targets_text, Act, NoteTime, PutRoot, ClearRotated, AdvanceTimestamp, AdvanceSnapshot, PutDocument}
 use Rattle.tough_load.specs.Fetching.{Fetches, Comes, answer_of}
 
 -- what a step answers, its receipt apart
@@ -38,6 +39,7 @@ module _ {K : Type 0} (keeps : Verifies → K → Act → Result Receipt StepErr
   StepsAt ask.ClearRotated k a next = Steps ClearRotated k a next
   StepsAt (ask.AdvanceTimestamp root t start enforced) k a next = Steps (AdvanceTimestamp root t start enforced) k a next
   StepsAt (ask.AdvanceSnapshot root listed s start enforced) k a next = Steps (AdvanceSnapshot root listed s start enforced) k a next
+  StepsAt (ask.PutTargets d) k a next = Steps (PutDocument targets_file (targets_text d)) k a next
   StepsAt _ k a next = ⊥
 
 module _ {T S K : Type 0} (refuses : T → Parts → TransportError → Type 0) (serves : T → Parts → Runs Item) (keeps : Verifies → K → Act → Result Receipt StepError → K → Type 0) (yields : S → Runs Item)
@@ -61,12 +63,12 @@ module _ {T S K : Type 0} (refuses : T → Parts → TransportError → Type 0) 
       × Comes yields f outcome × Goes verifies c (answer_of outcome) mid × Leads mid k answers c' k'
 
   -- a load may end with this outcome, and then leave this machine and keeper
-  abbrev pub Ends : Option (Collect S) → CoreDoc → K → Result KnownDoc Failure → CoreDoc → K → Type 0
+  abbrev pub Ends : Option (Collect S) → CoreDoc → K → Result LoadedDoc Failure → CoreDoc → K → Type 0
   Ends f c k outcome left kept = (last : CoreDoc) × Reaches f c k last kept × (ended last.stage ≡ Some outcome)
       × (left ≡ record { setting = last.setting; stage = Taken })
 
   -- the outcomes that a load may come to
-  abbrev pub Gives : Option (Collect S) → CoreDoc → K → Result KnownDoc Failure → Type 0
+  abbrev pub Gives : Option (Collect S) → CoreDoc → K → Result LoadedDoc Failure → Type 0
   Gives f c k outcome = (left : CoreDoc) × (kept : K) × Ends f c k outcome left kept
 
 module _ {K : Type 0} (keeps : Verifies → K → Act → Result Receipt StepError → K → Type 0) (verifies : Verifies) where

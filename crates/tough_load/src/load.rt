@@ -21,7 +21,7 @@ use crate::steps::take_step;
 use futures::task::{Context, Poll};
 use futures::{Future, ready};
 use std::alloc::{AllocError, Global};
-use tough_client::{Answer, Ask, Core, Error, Fault, Known, Request};
+use tough_client::{Answer, Ask, Core, Error, Fault, Loaded, Request};
 use tough_net::{Collect, Transport, TransportError, fetch_whole};
 use tough_roles::Verify;
 use tough_vault::Receipt;
@@ -165,6 +165,7 @@ impl<T: Transport, K: Keeper, C: Clock, V: Verify + Drop> Load<T, K, C, V> {
         ensures walked { Walks K.keeps (V.verifies self.old.verifier) self.old.keeper self.new.keeper }
     {
         let answer = take_step(
+            self.alloc,
             &mut self.keeper,
             &self.verifier,
             &mut self.receipts,
@@ -188,7 +189,7 @@ impl<T: Transport, K: Keeper, C: Clock, V: Verify + Drop> Load<T, K, C, V> {
     }
 
     // Does what the machine asks for, and gives the outcome where nothing is left.
-    fn advance(&mut self) -> Option<Result<Known, Error>>
+    fn advance(&mut self) -> Option<Result<Loaded, Error>>
         requires idle { self.old.fetch ≡ None }
         ensures same { (self.new.transport ≡ self.old.transport) × (self.new.base ≡ self.old.base) × (self.new.verifier ≡ self.old.verifier) }
         ensures done { IfSome result (λ r. Ends T.refuses T.serves K.keeps T.Stream.yields (V.verifies self.old.verifier) self.old.base self.old.transport
@@ -218,7 +219,7 @@ impl<T: Transport, K: Keeper, C: Clock, V: Verify + Drop> Load<T, K, C, V> {
 }
 
 impl<T: Transport, K: Keeper, C: Clock, V: Verify + Drop> Future for Load<T, K, C, V> {
-    type Output = Result<Known, Error>;
+    type Output = Result<Loaded, Error>;
 
     ghost can_poll = { λ m. CanPoll T.Stream.can_poll m.fetch };
 

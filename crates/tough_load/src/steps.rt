@@ -7,9 +7,10 @@ ghost use Rattle.tough_load.specs.Loading.{taken, StepsAt, Walks};
 ghost use Rattle.tough_load.specs.Asking.{IsStep};
 
 use crate::keeper::Keeper;
+use std::alloc::Global;
 use tough_client::{Answer, Ask};
 use tough_roles::Verify;
-use tough_vault::{Receipt, StepError};
+use tough_vault::{DocumentName, Receipt, StepError};
 
 // The answer that a step is, its receipt put by.
 fn put_by(receipts: &mut Vec<Receipt>, step: Result<Receipt, StepError>) -> Answer
@@ -27,6 +28,7 @@ fn put_by(receipts: &mut Vec<Receipt>, step: Result<Receipt, StepError>) -> Answ
 
 /// Takes the step that is asked for.
 pub(crate) fn take_step<K: Keeper, V: Verify>(
+    alloc: Global,
     keeper: &mut K,
     verifier: &V,
     receipts: &mut Vec<Receipt>,
@@ -62,6 +64,12 @@ pub(crate) fn take_step<K: Keeper, V: Verify>(
             receipts,
             keeper.advance_snapshot(root, listed, new, start, enforcement, verifier),
         ),
+        Ask::PutTargets(targets) => {
+            let Ok(name) = DocumentName::targets(alloc) else {
+                return Answer::Step(Err(StepError::Memory));
+            };
+            put_by(receipts, keeper.put_document(&name, targets))
+        }
         Ask::Moment | Ask::Fetch(_) | Ask::Ready => unreachable!(),
     }
 }

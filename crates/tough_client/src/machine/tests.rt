@@ -289,10 +289,7 @@ fn targets_end_an_update(rt: HostRuntime) -> Result<(), Fail> {
         assert_eq!(rt; wanted(&core), "targets.json");
         serve(rt.alloc(), &mut core, targets)?;
         match core.ask() {
-            Ask::PutDocument { name, document } => {
-                assert_eq!(rt; name, "targets.json");
-                assert_eq!(rt; document.signed.version.get(), 2);
-            }
+            Ask::PutTargets(targets) => assert_eq!(rt; targets.signed.version.get(), 2),
             _ => assert!(rt; false),
         }
         accept(rt.alloc(), &mut core);

@@ -21,3 +21,6 @@ returns-in-AdvanceTimestamp-clause-walked g c = Walks_step g.K.Keeper.keeps (g.V
 
 pub returns-in-AdvanceSnapshot-clause-walked : goal.returns-in-AdvanceSnapshot-clause-walked
 returns-in-AdvanceSnapshot-clause-walked g c = Walks_step g.K.Keeper.keeps (g.V.Verify.verifies c.args.verifier.now) c.args.keeper.now c.advance_snapshot.new.self _ c.advance_snapshot.result c.advance_snapshot.ensures
+
+pub returns-in-PutTargets-clause-walked : goal.returns-in-PutTargets-clause-walked
+returns-in-PutTargets-clause-walked g c = Walks_step g.K.Keeper.keeps (g.V.Verify.verifies c.args.verifier.now) c.args.keeper.now c.put_document.new.self _ c.put_document.result (c.put_document.ensures _)
