@@ -2,11 +2,15 @@
 #![tactic(auto)]
 
 mod delegations;
+mod find;
+pub mod laws;
+mod matching;
 mod read_delegations;
 mod read_target;
 mod read_targets;
 mod target;
 mod targets;
+mod verify;
 mod write_delegations;
 mod write_target;
 mod write_targets;
