@@ -8,3 +8,5 @@ pub mod View
 pub mod Search
 pub mod Walk
 pub mod Verify
+pub mod Entries
+pub mod Gather

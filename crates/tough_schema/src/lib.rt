@@ -2,6 +2,7 @@
 #![tactic(auto)]
 
 mod delegations;
+mod entries;
 mod find;
 pub mod laws;
 mod matching;
