@@ -1,11 +1,12 @@
 -- The role entries of a tree in preorder, and what the documents of the tree list (TUF specification 1.0, section 4.5).
-use Rattle.std.specs.Prelude.{◌≡◌, ⊤, ℕ, List, [], ◌∷◌, map, flat_map, Option, Some, None, is_some, true}
-use Rattle.std.specs.List.{filter_map, AllByRecursion}
+use Rattle.std.specs.Prelude.{◌≡◌, ⊤, ℕ, List, [], ◌∷◌, ◌++◌, map, Option, Some, None, is_some, true}
+use Rattle.std.specs.List.{AllByRecursion}
 use Rattle.std.specs.BTreeMap.{insert_entry}
 use Rattle.tough_names.specs.Named.{Named, by_raw_then_resolved}
 use Rattle.tough_roles.specs.Reaches.{IsAmong}
 use Rattle.tough_roles.specs.declared.error.Error.{Error}
 use Rattle.tough_roles.specs.declared.error.Error.TheVariants as errors
+use Rattle.tough_schema.specs.Target.{TargetDoc}
 use Rattle.tough_schema.specs.Tree.{Listing, Entry, Document, preorder, listing_of, roles_of}
 use Rattle.tough_schema.specs.Search.{search}
 
@@ -17,9 +18,18 @@ entries d = map (λ o. (o.entry, o.listing)) (preorder 0 (roles_of d))
 abbrev pub entry_names : Document → List (List ℕ)
 entry_names d = map (λ e. e.0.name) (entries d)
 
+abbrev pub listed_of : Option Listing → Listing
+listed_of None = []
+listed_of (Some l) = l
+
+-- what the entries' documents list, one after another
+abbrev pub listed_in : List (Entry × Option Listing) → Listing
+listed_in [] = []
+listed_in (e ∷ es) = listed_of e.1 ++ listed_in es
+
 -- what the documents list: the top one before all, then those of the entries
 abbrev pub all_listed : Document → Listing
-all_listed d = flat_map (λ l. l) (listing_of d ∷ filter_map (λ e. e.1) (entries d))
+all_listed d = listing_of d ++ listed_in (entries d)
 
 -- a later listing takes the place of an earlier one
 abbrev pub merged_into : Listing → Listing → Listing
@@ -30,9 +40,12 @@ merged_into found (e ∷ es) = merged_into (insert_entry by_raw_then_resolved fo
 abbrev pub IsValid : Document → Type 0
 IsValid d = AllByRecursion (λ e. is_some (search true e.0 d) ≡ true) (all_listed d)
 
--- The first listed name that isn't found. Want of memory says nothing.
+-- A listed name that isn't found. Want of memory says nothing.
+abbrev pub IsListed : Named → Listing → Type 0
+IsListed name l = (t : TargetDoc) × IsAmong (name, t) l
+
 abbrev pub IsInvalid : Document → Error → Type 0
-IsInvalid d (errors.TargetNotFound name) = search true name d ≡ None
+IsInvalid d (errors.TargetNotFound name) = IsListed name (all_listed d) × (search true name d ≡ None)
 IsInvalid d errors.Memory = ⊤
 IsInvalid d (errors.RoleNotFound name) = ⊥
 IsInvalid d errors.NoDelegations = ⊥

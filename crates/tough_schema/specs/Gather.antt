@@ -34,3 +34,6 @@ shown rs = map (λ r. placed (view_role r.now)) rs
 
 abbrev pub listed_docs : List (Bor Named × Bor Target) → Listing
 listed_docs es = map (λ e. (e.0.now, target_doc e.1.now)) es
+
+abbrev pub map_docs : List (Named × Bor Target) → Listing
+map_docs es = map (λ e. (e.0, target_doc e.1.now)) es

@@ -5,6 +5,7 @@ mod delegations;
 mod entries;
 mod find;
 pub mod laws;
+mod listing;
 mod matching;
 mod read_delegations;
 mod read_target;
