@@ -10,3 +10,5 @@ pub mod Walk
 pub mod Verify
 pub mod Entries
 pub mod Gather
+pub mod Seek
+pub mod Seeking

@@ -10,6 +10,7 @@ mod matching;
 mod read_delegations;
 mod read_target;
 mod read_targets;
+mod seek;
 mod target;
 mod targets;
 mod verify;
