@@ -1,9 +1,11 @@
 -- Delegated roles by name, a step at a time.
-use Rattle.std.proofs.Common.{◌≡◌, ℕ, ◌+◌, ◌<◌, List, [], ◌∷◌, ◌++◌, map, drop, length, get_or, Bool, true, false, Option, Some, None, option_map, cond, if◌then◌else◌, string_bytes, refl, sym, ap, ◌∙◌}
+use Rattle.std.proofs.Common.{◌≡◌, ℕ, ◌+◌, ◌<◌, List, [], ◌∷◌, ◌++◌, map, drop, length, get_or, Bool, true, false, Option, Some, None, option_map, cond, if◌then◌else◌, string_bytes, refl, sym, ap, subst, ◌∙◌}
 use Rattle.std.proofs.lemmas.List.{drop_more}
 use Rattle.std.specs.Option.{option_or}
 use Rattle.std.specs.Str.{bytes_eq}
 use Rattle.std.specs.Map.{lookup}
+use Rattle.tough_roles.specs.declared.error.Error.{Error}
+use Rattle.tough_roles.specs.declared.error.Error.TheVariants as errors
 use Rattle.tough_roles.specs.declared.signed.Signed.{Signed}
 use Rattle.tough_schema.specs.declared.delegations.DelegatedRole.{DelegatedRole, out-DelegatedRole}
 use Rattle.tough_schema.specs.declared.delegations.Delegations.{Delegations, out-Delegations}
@@ -12,8 +14,8 @@ use Rattle.tough_schema.specs.declared.targets.Targets.{Targets, out-Targets}
 use Rattle.tough_schema.specs.Delegations.{delegations_doc}
 use Rattle.tough_schema.specs.Targets.{targets_doc}
 use Rattle.tough_schema.specs.Tree.{Entry, Document, document, Roles, no_roles, bare, with_document}
-use Rattle.tough_schema.specs.View.{Role, put_role, view, view_role, view_roles, view_delegations}
-use Rattle.tough_schema.specs.Seek.{Sought, found, missing, undocumented, undelegated, if_found, or_next, seek, seek_in, sought, standing, standing_in, first_named}
+use Rattle.tough_schema.specs.View.{Role, put_role, view, view_role, view_roles, view_delegated, view_delegations}
+use Rattle.tough_schema.specs.Seek.{Sought, found, missing, undocumented, undelegated, if_found, or_next, seek, seek_in, sought, HasDocument, HasNone, IsUnheld, IsUnsought, standing, standing_in, first_named}
 use Rattle.tough_schema.specs.Seeking.{below_at, step_at, standing_below, standing_at}
 use Rattle.tough_schema.proofs.Views.{held_roles, held_document, view-out, view_role-out, view_delegated-out, view_delegations-out}
 
@@ -71,6 +73,23 @@ sought-none name t h = ap (λ o. sought name (option_map delegations_doc o) (vie
 
 pub sought-some : (name : List ℕ) (t : Targets) (d : Delegations) → (out-Targets t).delegations ≡ Some d → sought name (targets_doc t).delegations (view t) ≡ seek name (view_roles (out-Delegations d).roles.items)
 sought-some name t d h = ap (λ o. sought name (option_map delegations_doc o) (view t)) h ∙ seek-inner name t d h
+
+pub has-document : (s : Sought) (r : DelegatedRole) (x : Signed DelegatedTargets) → s ≡ found (view_role r) → (out-DelegatedRole r).targets ≡ Some x → HasDocument s (view_delegated x.signed)
+has-document s r x e h = subst (λ z. HasDocument z (view_delegated x.signed)) (sym e) (held r ∙ ap held_document h)
+
+pub has-none : (s : Sought) (r : DelegatedRole) → s ≡ found (view_role r) → (out-DelegatedRole r).targets ≡ None → HasNone s
+has-none s r e h = subst HasNone (sym e) (held r ∙ ap held_document h)
+
+pub unheld-from : (name : List ℕ) (s : Sought) (e : Error) → IsUnsought name s e → IsUnheld name s e
+unheld-from name s (errors.RoleNotFound role) h = h
+unheld-from name s errors.NoTargets h = subst HasNone (sym h) tt
+unheld-from name s errors.NoDelegations h = h
+unheld-from name s errors.Memory h = h
+unheld-from name s (errors.TargetNotFound target) h = h
+unheld-from name s (errors.MissingRole role) h = h
+unheld-from name s (errors.JsonSerialization role) h = h
+unheld-from name s (errors.DuplicateKeyId keyid) h = h
+unheld-from name s (errors.SignatureThreshold role threshold valid) h = h
 
 -- ---- where an entry stands
 

@@ -8,7 +8,6 @@ use Rattle.tough_schema.specs.declared.delegations.DelegatedRole.TheShapes.{form
 use Rattle.tough_schema.specs.declared.targets.DelegatedTargets.{DelegatedTargets, out-DelegatedTargets, fold_out-DelegatedTargets}
 use Rattle.tough_schema.specs.declared.delegations.Delegations.{Delegations, out-Delegations, fold_out-Delegations}
 use Rattle.tough_schema.specs.declared.targets.Targets.{Targets, out-Targets, fold_out-Targets}
-
 use Rattle.tough_schema.specs.Delegations.{delegated_role_doc}
 use Rattle.tough_schema.specs.Targets.{listing_doc}
 

@@ -5,6 +5,7 @@ use Rattle.sha2.specs.Sha256.{sha256}
 use Rattle.hex.specs.Hex.{encode_lower}
 use Rattle.tough_names.specs.Glob.{Part, run, one, accepts}
 use Rattle.tough_names.specs.Grammar.{parts_in}
+use Rattle.tough_schema.specs.Delegations.{DelegatedRoleDoc}
 use Rattle.tough_schema.specs.Paths.{PathsDoc, patterns, prefixes}
 
 -- some end of the text passes the test
@@ -36,3 +37,7 @@ prefix_matches resolved p = starts_with eqb (encode_lower (sha256 resolved)) p
 abbrev pub paths_match : List ℕ → PathsDoc → Bool
 paths_match resolved (patterns ps) = list_any (pattern_matches resolved) ps
 paths_match resolved (prefixes ps) = list_any (prefix_matches resolved) ps
+
+-- a role's path set matches the resolved name
+abbrev pub some_match : List ℕ → List DelegatedRoleDoc → Bool
+some_match resolved rs = list_any (λ r. paths_match resolved r.paths) rs

@@ -55,6 +55,32 @@ IsUnsought name s (errors.JsonSerialization role) = ⊥
 IsUnsought name s (errors.DuplicateKeyId keyid) = ⊥
 IsUnsought name s (errors.SignatureThreshold role threshold valid) = ⊥
 
+-- the role that was found has that document
+abbrev pub HasDocument : Sought → Document → Type 0
+HasDocument (found r) d = r.1 ≡ Some d
+HasDocument missing d = ⊥
+HasDocument undocumented d = ⊥
+HasDocument undelegated d = ⊥
+
+-- the search ends at a role without a document
+abbrev pub HasNone : Sought → Type 0
+HasNone (found r) = r.1 ≡ None
+HasNone missing = ⊥
+HasNone undocumented = ⊤
+HasNone undelegated = ⊥
+
+-- why there is no document of a role of the name; want of memory says nothing
+abbrev pub IsUnheld : List ℕ → Sought → Error → Type 0
+IsUnheld name s (errors.RoleNotFound role) = (string_bytes role ≡ name) × (s ≡ missing)
+IsUnheld name s errors.NoTargets = HasNone s
+IsUnheld name s errors.NoDelegations = s ≡ undelegated
+IsUnheld name s errors.Memory = ⊤
+IsUnheld name s (errors.TargetNotFound target) = ⊥
+IsUnheld name s (errors.MissingRole role) = ⊥
+IsUnheld name s (errors.JsonSerialization role) = ⊥
+IsUnheld name s (errors.DuplicateKeyId keyid) = ⊥
+IsUnheld name s (errors.SignatureThreshold role threshold valid) = ⊥
+
 -- ---- where an entry stands
 
 -- each entry's name, in preorder, and the roles among which it stands

@@ -44,10 +44,7 @@ fn add_document<'a>(
 impl Targets {
     /// What the documents of the tree list: this one before all, then those of the entries in preorder, each in the
     /// order of its names.
-    pub fn targets_iter(
-        &self,
-        alloc: Global,
-    ) -> Result<Vec<(&TargetName, &Target)>, AllocError>
+    pub fn targets_iter(&self, alloc: Global) -> Result<Vec<(&TargetName, &Target)>, AllocError>
         ensures { IfOk result (λ v. listed_docs v.items ≡ all_listed (view self.now)) }
     {
         let entries = self.entries(alloc)?;

@@ -3,14 +3,14 @@
 ghost use Rattle.std.specs.Prelude.{◌≡◌, Some, IfOk, IfErr, option_map};
 ghost use Rattle.tough_schema.specs.Targets.{targets_doc};
 ghost use Rattle.tough_schema.specs.Tree.{Roles};
-ghost use Rattle.tough_schema.specs.View.{view, view_role, view_roles, view_delegations};
-ghost use Rattle.tough_schema.specs.Seek.{found, if_found, seek, seek_in, sought, IsUnsought, standing, standing_in, first_named, parent, IsOrphan};
+ghost use Rattle.tough_schema.specs.View.{view, view_role, view_roles, view_delegated, view_delegations};
+ghost use Rattle.tough_schema.specs.Seek.{found, if_found, seek, seek_in, sought, IsUnsought, HasDocument, IsUnheld, standing, standing_in, first_named, parent, IsOrphan};
 ghost use Rattle.tough_schema.specs.Seeking.{seen_of, step_at, place_of, standing_at};
 
 use crate::delegations::{DelegatedRole, Delegations};
-use crate::targets::Targets;
+use crate::targets::{DelegatedTargets, Targets};
 use std::alloc::Global;
-use tough_roles::Error;
+use tough_roles::{Error, Signed};
 
 // What seeking a name comes to.
 #[derive(Drop)]
@@ -134,6 +134,24 @@ impl Targets {
             Seen::Missing => Err(Error::RoleNotFound {
                 name: String::from_str(alloc, name)?,
             }),
+        }
+    }
+
+    /// The document of the role that `delegated_role` answers; its refusals, and `NoTargets` where there is none.
+    pub fn delegated_targets(
+        &self,
+        alloc: Global,
+        name: &str,
+    ) -> Result<&Signed<DelegatedTargets>, Error>
+        ensures found { IfOk result (λ s. HasDocument (sought name.now (targets_doc self.now).delegations (view self.now)) (view_delegated s.now.signed)) }
+        ensures refused { IfErr result (λ e. IsUnheld name.now (sought name.now (targets_doc self.now).delegations (view self.now)) e) }
+    {
+        match self.delegated_role(alloc, name) {
+            Err(error) => Err(error),
+            Ok(role) => match &role.targets {
+                Some(signed) => Ok(signed),
+                None => Err(Error::NoTargets),
+            },
         }
     }
 

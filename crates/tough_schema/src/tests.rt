@@ -68,9 +68,12 @@ fn verifies_delegated_roles(rt: HostRuntime) -> Result<(), Fail> {
     let Some(delegations) = targets.delegations else {
         return Ok(());
     };
-    let plain = "{\"signed\":{\"spec_version\":\"1\",\"version\":1,\"expires\":\"2030-01-01T00:00:00Z\",\"targets\":{}},\"signatures\":[]}";
-    let twice = "{\"signed\":{\"spec_version\":\"1\",\"version\":1,\"expires\":\"2030-01-01T00:00:00Z\",\"targets\":{}},\"signatures\":[{\"keyid\":\"ab\",\"sig\":\"00\"},{\"keyid\":\"AB\",\"sig\":\"00\"}]}";
-    let float = "{\"signed\":{\"spec_version\":\"1\",\"version\":1,\"expires\":\"2030-01-01T00:00:00Z\",\"targets\":{},\"f\":1.5},\"signatures\":[]}";
+    let plain =
+        "{\"signed\":{\"spec_version\":\"1\",\"version\":1,\"expires\":\"2030-01-01T00:00:00Z\",\"targets\":{}},\"signatures\":[]}";
+    let twice =
+        "{\"signed\":{\"spec_version\":\"1\",\"version\":1,\"expires\":\"2030-01-01T00:00:00Z\",\"targets\":{}},\"signatures\":[{\"keyid\":\"ab\",\"sig\":\"00\"},{\"keyid\":\"AB\",\"sig\":\"00\"}]}";
+    let float =
+        "{\"signed\":{\"spec_version\":\"1\",\"version\":1,\"expires\":\"2030-01-01T00:00:00Z\",\"targets\":{},\"f\":1.5},\"signatures\":[]}";
     let cases = [
         (plain, "r", "SignatureThreshold"),
         (twice, "r", "DuplicateKeyId"),
@@ -322,7 +325,11 @@ fn answers_as_the_original(rt: HostRuntime) -> Result<(), Fail> {
             }
             ["role", name, role, parent] => {
                 let Some(targets) = made.last() else { continue };
-                assert_eq!(rt; outcome(targets.delegated_role(rt.alloc(), *name)), *role, "{line}");
+                assert_eq!(rt;
+                    outcome(targets.delegated_role(rt.alloc(), *name)),
+                    *role,
+                    "{line}"
+                );
                 let found = match targets.parent_of(rt.alloc(), *name) {
                     Ok(delegations) => joined(rt.alloc(), delegations)?,
                     Err(error) => String::from_str(rt.alloc(), outcome::<()>(Err(error)))?,
@@ -331,7 +338,10 @@ fn answers_as_the_original(rt: HostRuntime) -> Result<(), Fail> {
             }
             ["names", names] => {
                 let Some(targets) = made.last() else { continue };
-                let found = targets.role_names(rt.alloc())?.as_slice().join(rt.alloc(), ",")?;
+                let found = targets
+                    .role_names(rt.alloc())?
+                    .as_slice()
+                    .join(rt.alloc(), ",")?;
                 assert_eq!(rt; found.as_str(), *names, "{line}");
             }
             _ => {}
@@ -342,9 +352,12 @@ fn answers_as_the_original(rt: HostRuntime) -> Result<(), Fail> {
 
 #[test]
 fn stops_at_a_terminating_role(rt: HostRuntime) -> Result<(), Fail> {
-    let top = "{\"spec_version\":\"1\",\"version\":1,\"expires\":\"2030-01-01T00:00:00Z\",\"targets\":{\"y\":{\"length\":1,\"hashes\":{\"sha256\":\"00\"}}},\"delegations\":{\"keys\":{},\"roles\":[{\"name\":\"A\",\"keyids\":[],\"threshold\":1,\"terminating\":true,\"paths\":[\"*\"]},{\"name\":\"B\",\"keyids\":[],\"threshold\":1,\"terminating\":false,\"paths\":[\"*\"]}]}}";
-    let other = "{\"spec_version\":\"1\",\"version\":1,\"expires\":\"2030-01-01T00:00:00Z\",\"targets\":{}}";
-    let below = "{\"spec_version\":\"1\",\"version\":2,\"expires\":\"2030-01-01T00:00:00Z\",\"targets\":{\"x\":{\"length\":2,\"hashes\":{\"sha256\":\"00\"}},\"y\":{\"length\":2,\"hashes\":{\"sha256\":\"00\"}}}}";
+    let top =
+        "{\"spec_version\":\"1\",\"version\":1,\"expires\":\"2030-01-01T00:00:00Z\",\"targets\":{\"y\":{\"length\":1,\"hashes\":{\"sha256\":\"00\"}}},\"delegations\":{\"keys\":{},\"roles\":[{\"name\":\"A\",\"keyids\":[],\"threshold\":1,\"terminating\":true,\"paths\":[\"*\"]},{\"name\":\"B\",\"keyids\":[],\"threshold\":1,\"terminating\":false,\"paths\":[\"*\"]}]}}";
+    let other =
+        "{\"spec_version\":\"1\",\"version\":1,\"expires\":\"2030-01-01T00:00:00Z\",\"targets\":{}}";
+    let below =
+        "{\"spec_version\":\"1\",\"version\":2,\"expires\":\"2030-01-01T00:00:00Z\",\"targets\":{\"x\":{\"length\":2,\"hashes\":{\"sha256\":\"00\"}},\"y\":{\"length\":2,\"hashes\":{\"sha256\":\"00\"}}}}";
     let mut made: Vec<Targets> = Vec::new(rt.alloc());
     made.push(Targets::read(rt.alloc(), below.as_bytes())?)?;
     made.push(Targets::read(rt.alloc(), other.as_bytes())?)?;
