@@ -65,7 +65,7 @@ fn reads_documents(rt: HostRuntime) -> Result<(), Fail> {
 #[test]
 fn verifies_delegated_roles(rt: HostRuntime) -> Result<(), Fail> {
     let targets = Targets::read(rt.alloc(), FULL.as_bytes())?;
-    let Some(delegations) = targets.delegations else {
+    let Some(delegations) = &targets.delegations else {
         return Ok(());
     };
     let plain =
