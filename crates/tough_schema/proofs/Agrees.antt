@@ -1,5 +1,5 @@
 -- The walk answers what the search over the reached entries does.
-use Rattle.std.proofs.Common.{◌≡◌, ℕ, zero, suc, ◌+◌, ◌<◌, ◌≤◌, List, [], ◌∷◌, ◌++◌, length, Bool, true, false, Option, Some, None, refl, sym, ap, subst, ◌∙◌, arith, rules, if◌then◌else◌, String, Global, string_bytes, nat_cmp, Bor}
+use Rattle.std.proofs.Common.{◌≡◌, ℕ, ◌+◌, List, [], ◌∷◌, ◌++◌, length, Bool, true, false, Option, Some, None, refl, sym, ap, subst, ◌∙◌, arith, if◌then◌else◌, String, Global, string_bytes, nat_cmp, Bor}
 use Rattle.std.specs.Option.{option_or}
 use Rattle.std.specs.BTreeMap.{is_at}
 use Rattle.std.specs.BTreeSet.{BTreeSet, IsEmpty}
@@ -7,14 +7,14 @@ use Rattle.std.specs.Cmp.Lexicographic.{slice_cmp}
 use Rattle.std.specs.List.{list_any}
 use Rattle.tough_schema.specs.declared.find.Found.{Found}
 use Rattle.tough_schema.specs.declared.find.Found.TheVariants.{Listed, Stopped, Passed}
-use Rattle.tough_schema.specs.Target.{TargetDoc, target_doc}
+use Rattle.tough_schema.specs.Target.{TargetDoc}
 use Rattle.tough_schema.specs.declared.target.Target.{Target}
-use Rattle.tough_schema.specs.Tree.{Listing, Entry, Document, document, Roles, no_roles, bare, with_document, Occurrence, stop, preorder, preorder_below, listing_of, roles_of}
-use Rattle.tough_schema.specs.Search.{Names, no_names, add, is_new, reached_from, reached, searched, listed, first_listed, listings, search}
+use Rattle.tough_schema.specs.Tree.{Document, document, Roles, no_roles, bare, with_document, Occurrence, stop, preorder, preorder_below, listing_of}
+use Rattle.tough_schema.specs.Search.{Names, no_names, add, is_new, reached_from, listed, first_listed, listings, search}
 use Rattle.tough_schema.specs.Walk.{Step, Answer, found, stopped, passed, and_then, unless_listed, at_end, ends, walk, walk_document, names_in, answer_of}
 use Rattle.tough_schema.proofs.Reached.{names_after, names_after-append, splits-nil, splits_below, Splits, step-new, step-old, skip_all}
 use Rattle.tough_schema.proofs.Ends.{Within, within-weaker, within-reached, within-preorder, within-below, end_of, before_end, outcome_of, outcome, chain, outcome-append, unless_found, after_own, outcome-subtree, before_end-searched, found_in, found_in-outcome_of}
-use Rattle.tough_names.specs.Named.{Named, by_raw_then_resolved}
+use Rattle.tough_names.specs.Named.{Named}
 
 -- the walk's answer, and the names that it has visited if it goes on
 pub record Agrees (s : Step) (a : Answer) (names : Names) : Type 0 where

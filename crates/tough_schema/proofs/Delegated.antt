@@ -1,5 +1,5 @@
 -- The verdict under delegations, case by case.
-use Rattle.std.proofs.Common.{◌≡◌, ℕ, List, [], ◌∷◌, map, Bool, true, false, Option, Some, None, option_map, Result, Ok, Err, get_or, drop, length, ◌<◌, ◌+◌, IfOk, IfErr, if◌then◌else◌, nat_le, refl, sym, ap, subst, ◌∙◌}
+use Rattle.std.proofs.Common.{◌≡◌, ℕ, List, ◌∷◌, map, Bool, true, false, Option, Some, None, Result, Ok, Err, get_or, drop, length, ◌<◌, ◌+◌, IfOk, IfErr, if◌then◌else◌, nat_le, refl, sym, ap, subst, ◌∙◌}
 use Rattle.std.proofs.lemmas.List.{drop_more}
 use Rattle.std.specs.Str.{bytes_eq}
 use Rattle.serde_json.specs.Data.{Data}
@@ -7,13 +7,13 @@ use Rattle.tough_keys.specs.Same.{Verifies}
 use Rattle.tough_roles.specs.Signature.{SignatureDoc, SignedDoc}
 use Rattle.tough_roles.specs.Policy.{Policy}
 use Rattle.tough_roles.specs.Chain.{text_by}
-use Rattle.tough_roles.specs.Verdict.{Refused, MissingRole, DuplicateKeyId, SignatureThreshold, counted, signer_count, some_twice, verdict, Answers, IsRefusal, Names, IsOkOrMemory}
+use Rattle.tough_roles.specs.Verdict.{Refused, MissingRole, DuplicateKeyId, SignatureThreshold, signer_count, some_twice, verdict, Answers, IsRefusal, Names, IsOkOrMemory}
 use Rattle.tough_roles.specs.declared.role_type.RoleType.{RoleType}
 use Rattle.tough_roles.specs.declared.error.Error.{Error}
 use Rattle.tough_roles.specs.declared.error.Error.TheVariants as errors
 use Rattle.tough_roles.proofs.Reached.{reaches-from, reaches-to}
 use Rattle.tough_schema.specs.declared.delegations.DelegatedRole.{DelegatedRole}
-use Rattle.tough_schema.specs.Delegations.{DelegatedRoleDoc, DelegationsDoc, delegated_role_doc}
+use Rattle.tough_schema.specs.Delegations.{DelegationsDoc, delegated_role_doc}
 use Rattle.tough_schema.specs.Verify.{role_named, delegated_policy, ReachesDelegated, NamesDelegated}
 
 -- ---- the first role of the name

@@ -1,15 +1,14 @@
 -- Where a search stops, over lists of occurrences.
-use Rattle.std.proofs.Common.{◌≡◌, ℕ, zero, suc, ◌+◌, ◌<◌, ◌≤◌, List, [], ◌∷◌, ◌++◌, length, Bool, true, false, not, ◌&&◌, Option, Some, None, refl, sym, ap, ◌∙◌, arith, rules, cond, if◌then◌else◌, filter, min, length-append, append-nil}
+use Rattle.std.proofs.Common.{◌≡◌, ℕ, zero, suc, ◌+◌, ◌<◌, ◌≤◌, List, [], ◌∷◌, ◌++◌, length, Bool, true, false, ◌&&◌, Option, Some, None, refl, sym, ap, ◌∙◌, arith, if◌then◌else◌, filter, min, length-append, append-nil}
 use Rattle.std.proofs.lemmas.Bool.{lt-ltb, le-ltb}
 use Rattle.std.proofs.lemmas.List.Elements.{filter-append, filter_map-append}
 use Rattle.std.specs.List.{cons_option}
 use Rattle.std.specs.Option.{option_or}
-use Rattle.tough_schema.specs.Target.{TargetDoc, target_doc}
-use Rattle.tough_schema.specs.declared.target.Target.{Target}
-use Rattle.tough_schema.specs.Tree.{Listing, Entry, Document, document, Roles, no_roles, bare, with_document, Occurrence, stop, preorder, preorder_below}
+use Rattle.tough_schema.specs.Target.{TargetDoc}
+use Rattle.tough_schema.specs.Tree.{Listing, Document, document, Roles, no_roles, bare, with_document, Occurrence, stop, preorder, preorder_below}
 use Rattle.tough_schema.specs.Search.{Names, is_new, add, reached_from, earlier, first_end, is_before, searched, listed, first_listed, listings}
 use Rattle.tough_schema.specs.Walk.{Answer, found, stopped, passed, at_end, ends}
-use Rattle.tough_names.specs.Named.{Named, by_raw_then_resolved}
+use Rattle.tough_names.specs.Named.{Named}
 
 -- the places of these entries and the ends of their subtrees are between a and b
 abbrev pub Within : ℕ → ℕ → List Occurrence → Type 0

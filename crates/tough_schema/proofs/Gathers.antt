@@ -1,12 +1,12 @@
 -- The entries in preorder, as they are gathered.
-use Rattle.std.proofs.Common.{◌≡◌, ℕ, ◌+◌, ◌<◌, List, [], ◌∷◌, ◌++◌, map, drop, length, get_or, Option, Some, None, option_map, Bor, string_bytes, refl, sym, ap, ◌∙◌, append_assoc, append-nil, add-one}
+use Rattle.std.proofs.Common.{◌≡◌, ℕ, ◌+◌, ◌<◌, List, [], ◌∷◌, ◌++◌, map, drop, length, get_or, Option, Some, None, Bor, string_bytes, refl, sym, ap, ◌∙◌}
 use Rattle.std.proofs.lemmas.List.{map-append, drop_more}
 use Rattle.tough_roles.specs.declared.signed.Signed.{Signed}
 use Rattle.tough_schema.specs.declared.delegations.DelegatedRole.{DelegatedRole, out-DelegatedRole}
 use Rattle.tough_schema.specs.declared.delegations.Delegations.{Delegations, out-Delegations}
 use Rattle.tough_schema.specs.declared.targets.DelegatedTargets.{DelegatedTargets, out-DelegatedTargets}
 use Rattle.tough_schema.specs.declared.targets.Targets.{Targets, out-Targets}
-use Rattle.tough_schema.specs.Tree.{Listing, Entry, Document, document, Roles, no_roles, bare, with_document, Occurrence, preorder, preorder_below, listing_of, roles_of}
+use Rattle.tough_schema.specs.Tree.{Listing, Entry, Document, document, Roles, no_roles, bare, with_document, Occurrence, preorder, preorder_below, listing_of}
 use Rattle.tough_schema.specs.View.{Role, put_role, view, view_role, view_roles}
 use Rattle.tough_schema.specs.Entries.{entries}
 use Rattle.tough_schema.specs.Gather.{placed, below, below_in, below_of, gathered, shown}

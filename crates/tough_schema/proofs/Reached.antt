@@ -1,9 +1,8 @@
 -- The walk answers what the search over the reached entries does.
-use Rattle.std.proofs.Common.{◌≡◌, ℕ, zero, suc, ◌+◌, ◌<◌, ◌≤◌, List, [], ◌∷◌, ◌++◌, length, Bool, true, false, Option, Some, None, refl, sym, ap, ◌∙◌, arith, rules, cond, if◌then◌else◌, append_assoc, filter, min}
-use Rattle.tough_schema.specs.Tree.{Listing, Entry, Document, document, Roles, no_roles, bare, with_document, Occurrence, stop, preorder, preorder_below, listing_of, roles_of}
-use Rattle.tough_schema.specs.Search.{Names, no_names, add, is_new, reached_from, reached, earlier, first_end, is_before, searched, listed, first_listed, listings, search}
-use Rattle.tough_schema.specs.Walk.{Step, Answer, found, stopped, passed, and_then, unless_listed, at_end, ends, walk, walk_document}
-use Rattle.tough_names.specs.Named.{Named, by_raw_then_resolved}
+use Rattle.std.proofs.Common.{◌≡◌, ℕ, ◌+◌, List, [], ◌∷◌, ◌++◌, length, Bool, true, false, Some, None, refl, sym, ap, append_assoc}
+use Rattle.tough_schema.specs.Tree.{Document, document, Roles, no_roles, bare, with_document, Occurrence, preorder, preorder_below, listing_of}
+use Rattle.tough_schema.specs.Search.{Names, add, is_new, reached_from}
+use Rattle.tough_names.specs.Named.{Named}
 
 -- the names after these entries were reached
 abbrev pub names_after : Names → List Occurrence → Names

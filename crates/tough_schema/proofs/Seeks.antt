@@ -1,9 +1,8 @@
 -- Delegated roles by name, a step at a time.
-use Rattle.std.proofs.Common.{◌≡◌, ℕ, ◌+◌, ◌<◌, List, [], ◌∷◌, ◌++◌, map, drop, length, get_or, Bool, true, false, Option, Some, None, option_map, cond, if◌then◌else◌, string_bytes, refl, sym, ap, subst, ◌∙◌}
+use Rattle.std.proofs.Common.{◌≡◌, ℕ, ◌+◌, ◌<◌, List, [], ◌∷◌, ◌++◌, drop, length, get_or, Bool, true, false, Option, Some, None, option_map, cond, if◌then◌else◌, string_bytes, refl, sym, ap, subst, ◌∙◌}
 use Rattle.std.proofs.lemmas.List.{drop_more}
 use Rattle.std.specs.Option.{option_or}
 use Rattle.std.specs.Str.{bytes_eq}
-use Rattle.std.specs.Map.{lookup}
 use Rattle.tough_roles.specs.declared.error.Error.{Error}
 use Rattle.tough_roles.specs.declared.error.Error.TheVariants as errors
 use Rattle.tough_roles.specs.declared.signed.Signed.{Signed}
@@ -13,7 +12,7 @@ use Rattle.tough_schema.specs.declared.targets.DelegatedTargets.{DelegatedTarget
 use Rattle.tough_schema.specs.declared.targets.Targets.{Targets, out-Targets}
 use Rattle.tough_schema.specs.Delegations.{delegations_doc}
 use Rattle.tough_schema.specs.Targets.{targets_doc}
-use Rattle.tough_schema.specs.Tree.{Entry, Document, document, Roles, no_roles, bare, with_document}
+use Rattle.tough_schema.specs.Tree.{Roles}
 use Rattle.tough_schema.specs.View.{Role, put_role, view, view_role, view_roles, view_delegated, view_delegations}
 use Rattle.tough_schema.specs.Seek.{Sought, found, missing, undocumented, undelegated, if_found, or_next, seek, seek_in, sought, HasDocument, HasNone, IsUnheld, IsUnsought, standing, standing_in, first_named}
 use Rattle.tough_schema.specs.Seeking.{below_at, step_at, standing_below, standing_at}

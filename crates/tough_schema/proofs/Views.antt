@@ -1,6 +1,6 @@
 -- The view of a tree, level by level.
-use Rattle.std.proofs.Common.{◌≡◌, List, [], ◌∷◌, map, Option, Some, None, option_map, unwrap_or, string_bytes, refl, ap, ◌∙◌, rules}
-use Rattle.tough_schema.specs.Tree.{Entry, Document, document, Roles, no_roles, bare, with_document}
+use Rattle.std.proofs.Common.{◌≡◌, Option, Some, None, option_map, unwrap_or, refl, ap, ◌∙◌}
+use Rattle.tough_schema.specs.Tree.{Document, document, Roles, no_roles}
 use Rattle.tough_schema.specs.View.{Role, role_step, delegated_step, delegations_step, targets_step, view, view_role, view_delegated, view_delegations, view_roles}
 use Rattle.tough_roles.specs.declared.signed.Signed.{Signed}
 use Rattle.tough_schema.specs.declared.delegations.DelegatedRole.{DelegatedRole, out-DelegatedRole, fold_out-DelegatedRole}

@@ -1,10 +1,8 @@
 -- The walk, a role or a document at a time.
-use Rattle.std.proofs.Common.{◌≡◌, ℕ, List, [], ◌∷◌, ◌++◌, map, drop, drop-cons, add-one, get_or, length, ◌<◌, ◌+◌, Bool, true, false, Option, Some, None, option_map, Ordering, Less, Equal, Greater, is_eq, String, Global, string_bytes, string_cmp, nat_cmp, refl, sym, ap, ◌∙◌, arith, rules, cond, if◌then◌else◌, ◌||◌, bytes_eq}
-use Rattle.std.proofs.lemmas.Map.Text.{is_eq-slice_cmp, btree_set_updates_text}
+use Rattle.std.proofs.Common.{◌≡◌, ℕ, List, [], ◌∷◌, drop, drop-cons, add-one, get_or, length, ◌<◌, ◌+◌, Bool, true, false, Option, Some, None, option_map, Ordering, Less, Equal, Greater, is_eq, String, Global, string_bytes, string_cmp, refl, sym, ap, ◌∙◌, cond, if◌then◌else◌, ◌||◌, bytes_eq}
+use Rattle.std.proofs.lemmas.Map.Text.{btree_set_updates_text}
 use Rattle.std.specs.BTreeMap.{is_at}
 use Rattle.std.specs.BTreeSet.{BTreeSet, Updates, contains_text}
-use Rattle.std.specs.Cmp.Lexicographic.{slice_cmp}
-use Rattle.std.specs.List.{list_any}
 use Rattle.std.specs.Map.{lookup}
 use Rattle.tough_schema.specs.Target.{TargetDoc, target_doc}
 use Rattle.tough_schema.specs.declared.target.Target.{Target}
@@ -13,12 +11,12 @@ use Rattle.tough_schema.specs.declared.find.Found.{Found}
 use Rattle.tough_schema.specs.declared.find.Found.TheVariants.{Listed, Stopped, Passed}
 use Rattle.tough_schema.specs.declared.delegations.DelegatedRole.{DelegatedRole, out-DelegatedRole}
 use Rattle.tough_schema.specs.declared.delegations.Delegations.{Delegations, out-Delegations}
-use Rattle.tough_schema.specs.Tree.{Listing, Entry, Document, document, Roles, no_roles, bare, with_document}
+use Rattle.tough_schema.specs.Tree.{Roles}
 use Rattle.tough_schema.specs.View.{Role, put_role, view, view_role, view_roles}
 use Rattle.tough_schema.specs.Search.{Names, add, matches, is_new, listed}
-use Rattle.tough_schema.specs.Walk.{Step, Answer, found, passed, and_then, at_end, ends, walk, walk_document, walk_below, walk_role, names_in, answer_of}
+use Rattle.tough_schema.specs.Walk.{Step, found, passed, and_then, at_end, ends, walk, walk_document, walk_below, walk_role, names_in, answer_of}
 use Rattle.tough_schema.specs.Targets.{listing_doc}
-use Rattle.tough_schema.proofs.Views.{held_roles, view-out, view_role-out, view_delegations-out}
+use Rattle.tough_schema.proofs.Views.{view-out, view_role-out, view_delegations-out}
 use Rattle.tough_names.specs.Named.{Named, by_raw_then_resolved}
 
 -- one role, and then the others

@@ -1,5 +1,5 @@
 -- The entries as they are gathered: words of private clauses.
-use Rattle.std.specs.Prelude.{◌≡◌, List, [], ◌∷◌, ◌++◌, map, Option, Some, None, option_map}
+use Rattle.std.specs.Prelude.{List, [], ◌∷◌, ◌++◌, map, Option, Some, None, option_map}
 use Rattle.std.specs.Borrow.{Bor}
 use Rattle.tough_names.specs.Named.{Named}
 use Rattle.tough_schema.specs.declared.delegations.DelegatedRole.{DelegatedRole}

@@ -1,5 +1,5 @@
 -- Which entries a search for a name comes to, and what it finds (TUF specification 1.0, section 5.6.7).
-use Rattle.std.specs.Prelude.{◌≡◌, ⊤, ℕ, zero, suc, List, [], ◌∷◌, map, filter, Bool, true, false, ◌||◌, ◌&&◌, not, nat_lt, min, if◌then◌else◌, Option, Some, None}
+use Rattle.std.specs.Prelude.{◌≡◌, ⊤, ℕ, zero, suc, List, [], ◌∷◌, filter, Bool, true, false, ◌||◌, ◌&&◌, not, nat_lt, min, if◌then◌else◌, Option, Some, None}
 use Rattle.std.specs.List.{filter_map}
 use Rattle.std.specs.Option.{option_or}
 use Rattle.std.specs.Str.{bytes_eq}
@@ -10,7 +10,7 @@ use Rattle.tough_schema.specs.Target.{TargetDoc}
 use Rattle.tough_schema.specs.Matching.{paths_match}
 use Rattle.tough_roles.specs.declared.error.Error.{Error}
 use Rattle.tough_roles.specs.declared.error.Error.TheVariants as errors
-use Rattle.tough_schema.specs.Tree.{Listing, Entry, Document, document, Roles, Occurrence, stop, preorder, listing_of, roles_of}
+use Rattle.tough_schema.specs.Tree.{Listing, Entry, Document, Occurrence, stop, preorder, listing_of, roles_of}
 
 -- the entry's path set matches the resolved name
 abbrev pub matches : Named → Entry → Bool

@@ -6,7 +6,7 @@ use Rattle.std.specs.Map.{lookup}
 use Rattle.tough_roles.specs.declared.error.Error.{Error}
 use Rattle.tough_roles.specs.declared.error.Error.TheVariants as errors
 use Rattle.tough_schema.specs.Delegations.{DelegationsDoc}
-use Rattle.tough_schema.specs.Tree.{Entry, Document, document, Roles, no_roles, bare, with_document}
+use Rattle.tough_schema.specs.Tree.{Document, document, Roles, no_roles, bare, with_document}
 use Rattle.tough_schema.specs.View.{Role}
 
 -- ---- the role of a name

@@ -5,7 +5,7 @@ use Rattle.tough_schema.specs.declared.seek.Seen.{Seen}
 use Rattle.tough_schema.specs.declared.seek.Seen.TheVariants.{Found, Missing, Undocumented}
 use Rattle.tough_schema.specs.declared.seek.Place.{Place}
 use Rattle.tough_schema.specs.declared.seek.Place.TheVariants.{Here, Under}
-use Rattle.tough_schema.specs.Tree.{Entry, Document, Roles}
+use Rattle.tough_schema.specs.Tree.{Document, Roles}
 use Rattle.tough_schema.specs.View.{Role, view_role, view_delegations}
 use Rattle.tough_schema.specs.Seek.{Sought, found, missing, undocumented, if_found, seek_in, standing_in}
 

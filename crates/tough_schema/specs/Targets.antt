@@ -10,8 +10,7 @@ use Rattle.serde_json.specs.View.{members_view}
 use Rattle.tough_names.specs.declared.name.NameError.{NameError}
 use Rattle.tough_names.specs.Named.{Named, clean, by_raw_then_resolved}
 use Rattle.tough_json.specs.Reading.{◌>>=◌, required, optional}
-use Rattle.tough_json.specs.Writing.{with, with_optional, optional_json, stands_for}
-use Rattle.tough_keys.specs.Key.{KeyDoc}
+use Rattle.tough_json.specs.Writing.{with, with_optional, optional_json}
 use Rattle.tough_roles.specs.Head.{Head, head_at, head_json}
 use Rattle.tough_roles.specs.Table.{table_from, table_json}
 use Rattle.tough_roles.specs.Root.{by_bytes, AreOwn}

@@ -1,5 +1,5 @@
 -- The tree that a `Targets` stands for.
-use Rattle.std.specs.Prelude.{ℕ, List, [], ◌∷◌, map, Option, Some, None, option_map, unwrap_or, string_bytes}
+use Rattle.std.specs.Prelude.{List, [], ◌∷◌, map, Option, Some, None, option_map, unwrap_or, string_bytes}
 use Rattle.std.specs.Int.NonZero.{non_zero_u64_get}
 use Rattle.tough_schema.specs.Paths.{paths_doc}
 use Rattle.tough_schema.specs.Targets.{listing_doc}

@@ -1,5 +1,5 @@
 -- The search as a walk, for private clauses: what it answers, and the names that it has visited then.
-use Rattle.std.specs.Prelude.{◌≡◌, ℕ, List, Bool, true, false, ◌&&◌, not, if◌then◌else◌, Option, Some, None, Result, IfOk, String}
+use Rattle.std.specs.Prelude.{◌≡◌, Bool, ◌&&◌, not, if◌then◌else◌, Option, Some, None, Result, IfOk, String}
 use Rattle.std.specs.declared.alloc.AllocError.{AllocError}
 use Rattle.std.specs.BTreeSet.{BTreeSet, contains_text}
 use Rattle.std.specs.declared.alloc.Global.{Global}
@@ -7,7 +7,7 @@ use Rattle.tough_schema.specs.declared.find.Found.{Found}
 use Rattle.tough_schema.specs.declared.find.Found.TheVariants.{Listed, Stopped, Passed}
 use Rattle.tough_names.specs.Named.{Named}
 use Rattle.tough_schema.specs.Target.{TargetDoc, target_doc}
-use Rattle.tough_schema.specs.Tree.{Listing, Entry, Document, document, Roles, no_roles, bare, with_document}
+use Rattle.tough_schema.specs.Tree.{Entry, Document, document, Roles, no_roles, bare, with_document}
 use Rattle.tough_schema.specs.View.{Role}
 use Rattle.tough_schema.specs.Search.{Names, add, is_new, listed}
 

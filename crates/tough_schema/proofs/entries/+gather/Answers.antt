@@ -1,8 +1,8 @@
-use Rattle.std.proofs.Common.{◌≡◌, ◌++◌, ◌∷◌, [], List, sym, ap, ◌∙◌}
+use Rattle.std.proofs.Common.{◌++◌, List, sym, ap, ◌∙◌}
 use Rattle.tough_schema.specs.declared.delegations.DelegatedRole.{DelegatedRole}
-use Rattle.tough_schema.specs.View.{view, view_role, view_roles}
-use Rattle.tough_schema.specs.Gather.{below, below_in, gathered, shown}
-use Rattle.tough_schema.proofs.Gathers.{below_in-inner, below_in-leaf, below-next, gathered-leaf, gathered-inner, shown-push}
+use Rattle.tough_schema.specs.View.{view_roles}
+use Rattle.tough_schema.specs.Gather.{below, shown}
+use Rattle.tough_schema.proofs.Gathers.{below_in-inner}
 use Rattle.tough_schema.proofs.entries.+gather.Goals as goal
 
 pub add_below-returns-in_ok-add_roles : goal.add_below-returns-in_ok-add_roles

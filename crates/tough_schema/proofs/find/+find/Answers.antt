@@ -1,4 +1,4 @@
-use Rattle.std.proofs.Common.{rules, ◌≡◌, Some, None, option_map, true, false, string_bytes, sym, ap, ◌∙◌, refl}
+use Rattle.std.proofs.Common.{rules, ◌≡◌, option_map, true, false, string_bytes, sym, ap, ◌∙◌, refl}
 use Rattle.std.specs.Option.{option_copied}
 use Rattle.std.specs.BTreeSet.{contains_text}
 use Rattle.tough_schema.specs.declared.delegations.DelegatedRole.{out-DelegatedRole}

@@ -1,10 +1,10 @@
-use Rattle.std.proofs.Common.{◌≡◌, List, Some, None, option_map, true, false, string_bytes, sym, ap, ◌∙◌, rules}
+use Rattle.std.proofs.Common.{◌≡◌, List, Some, None, true, false, string_bytes, sym, ap, ◌∙◌, rules}
 use Rattle.std.specs.Str.{bytes_eq}
 use Rattle.tough_schema.specs.declared.delegations.DelegatedRole.{DelegatedRole, out-DelegatedRole}
 use Rattle.tough_schema.specs.View.{view_roles, view_delegations}
 use Rattle.tough_schema.specs.Seek.{standing, first_named}
 use Rattle.tough_schema.specs.Seeking.{place_of}
-use Rattle.tough_schema.proofs.Seeks.{standing-inner, standing-leaf, standing-next, standing-here, standing-bare, standing-below}
+use Rattle.tough_schema.proofs.Seeks.{standing-inner, standing-next, standing-here, standing-bare}
 use Rattle.tough_schema.proofs.seek.+parent.Goals as goal
 
 pub parent_in-returns-in-None : goal.parent_in-returns-in-None

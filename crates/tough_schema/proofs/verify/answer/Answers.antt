@@ -1,7 +1,7 @@
-use Rattle.std.proofs.Common.{◌≡◌, map, List, Some, None, option_map, IfErr, sym, ap, subst, ◌∙◌}
+use Rattle.std.proofs.Common.{map, List, Some, option_map, IfErr, sym, ap, subst, ◌∙◌}
 use Rattle.tough_json.specs.Results.{RefusesWrite}
 use Rattle.tough_roles.specs.Signature.{signatures_doc}
-use Rattle.tough_roles.specs.Root.{keys_doc, role_keys_doc}
+use Rattle.tough_roles.specs.Root.{role_keys_doc}
 use Rattle.tough_roles.specs.Policy.{policy_of}
 use Rattle.tough_roles.specs.Verdict.{verdict}
 use Rattle.tough_roles.specs.Chain.{text_by}

@@ -1,4 +1,4 @@
-use Rattle.std.proofs.Common.{◌≡◌, sym, ap, ◌∙◌}
+use Rattle.std.proofs.Common.{sym, ap, ◌∙◌}
 use Rattle.tough_schema.specs.Search.{matches}
 use Rattle.tough_schema.proofs.Views.{view_role-out}
 use Rattle.tough_schema.proofs.delegations.DelegatedRole.matches.Goals as goal

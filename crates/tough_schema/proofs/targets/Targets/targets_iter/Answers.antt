@@ -1,4 +1,4 @@
-use Rattle.std.proofs.Common.{◌≡◌, ◌++◌, take, sym, ap, ◌∙◌, append_assoc}
+use Rattle.std.proofs.Common.{◌++◌, take, sym, ap, ◌∙◌, append_assoc}
 use Rattle.tough_schema.specs.Tree.{Listing, listing_of}
 use Rattle.tough_schema.specs.View.{view, view_role}
 use Rattle.tough_schema.specs.Entries.{listed_of, listed_in}

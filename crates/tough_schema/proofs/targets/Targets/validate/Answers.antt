@@ -1,4 +1,4 @@
-use Rattle.std.proofs.Common.{◌≡◌, Some, true, is_some, subst, ◌∙◌}
+use Rattle.std.proofs.Common.{◌≡◌, true, is_some, subst}
 use Rattle.tough_schema.specs.Target.{target_doc}
 use Rattle.tough_schema.specs.View.{view}
 use Rattle.tough_schema.specs.Search.{search}
