@@ -1,5 +1,5 @@
 -- What is written for delegations is read as them, and what is read lists patterns.
-use Rattle.std.proofs.Common.{◌≡◌, ℕ, List, [], ◌∷◌, is_none, codes, Option, Some, None, option_map, chars, refl, sym, ap, subst, ◌∙◌}
+use Rattle.std.proofs.Common.{◌≡◌, ℕ, List, [], ◌∷◌, is_none, codes, Option, Some, None, option_map, chars, refl, ap, subst}
 use Rattle.std.specs.List.Sorted.{IsStrictlySortedBy}
 use Rattle.std.specs.Map.{keys_of}
 use Rattle.serde_json.specs.Data.{Data, boolean, string, array, object, Members, no_members, Items, no_items, item}

@@ -1,5 +1,5 @@
 -- Targets that are read and written one after another.
-use Rattle.std.proofs.Common.{◌≡◌, ℕ, List, [], ◌∷◌, ◌++◌, map, Bool, true, false, Option, Some, None, Result, Ok, Err, Ordering, Less, Equal, Greater, if◌then◌else◌, refl, sym, ap, ◌∙◌}
+use Rattle.std.proofs.Common.{◌≡◌, ℕ, List, [], ◌∷◌, ◌++◌, true, Option, Some, None, Result, Ok, Err, Ordering, Less, Equal, Greater, if◌then◌else◌, refl, ap}
 use Rattle.std.specs.BTreeMap.{insert_entry}
 use Rattle.std.specs.Ordering.{match_ordering}
 use Rattle.std.proofs.lemmas.Slice.Eq.{bytes_eq-Decides}
@@ -8,7 +8,6 @@ use Rattle.tough_names.specs.Named.{Named, clean, by_raw_then_resolved}
 use Rattle.tough_names.specs.declared.name.NameError.{NameError}
 use Rattle.tough_json.specs.Reading.{◌>>=◌}
 use Rattle.tough_json.specs.Writing.{with, all_json}
-use Rattle.tough_json.proofs.WriteLemmas.{some-inj}
 use Rattle.tough_roles.specs.Table.{table_from, table_json}
 use Rattle.tough_schema.specs.declared.target.Target.{Target}
 use Rattle.tough_schema.specs.Target.{TargetDoc, target_doc, target_json}

@@ -1,5 +1,5 @@
 -- Texts that are patterns.
-use Rattle.std.proofs.Common.{◌≡◌, ℕ, List, Option, Some, None, option_map, chars, refl, ap}
+use Rattle.std.proofs.Common.{◌≡◌, ℕ, List, Option, Some, None, option_map, chars, refl}
 use Rattle.tough_names.specs.Glob.{Part}
 use Rattle.tough_names.specs.Grammar.{parts_in}
 use Rattle.tough_names.specs.Spelling.{IsPattern}

@@ -1,15 +1,15 @@
 -- What is written for a target is read as it.
-use Rattle.std.proofs.Common.{◌≡◌, ℕ, List, [], ◌∷◌, length, codes, Option, Some, None, refl, ap, ◌∙◌, sym}
+use Rattle.std.proofs.Common.{◌≡◌, List, [], ◌∷◌, length, codes, Option, Some, None, refl}
 use Rattle.serde_json.specs.Data.{Data, object, Members, no_members, member}
 use Rattle.serde_json.specs.Find.{get_member}
 use Rattle.serde_json.specs.View.{members_view}
 use Rattle.serde_json.proofs.Views.{Entry, get_member-put}
-use Rattle.tough_json.specs.Reading.{◌>>=◌, without, whole}
+use Rattle.tough_json.specs.Reading.{◌>>=◌, whole}
 use Rattle.tough_json.specs.Writing.{if_free, with, with_optional, length_json}
 use Rattle.tough_json.proofs.WriteLemmas.{bind_ok, some-inj, required-with, length-back, without-with, without-absent}
 use Rattle.tough_roles.specs.Timestamp.{hashes_at, hashes_json}
 use Rattle.tough_roles.proofs.TimestampLemmas.{hashes-back}
-use Rattle.tough_schema.specs.Target.{TargetDoc, target_at, target_json, custom_at, unless_empty, object_or_empty}
+use Rattle.tough_schema.specs.Target.{TargetDoc, target_at, target_json, custom_at, unless_empty}
 
 pub unless_empty-filled : (es : List Entry) → (length es ≡ 0 → ⊥) → unless_empty (members_view es) ≡ Some (object (members_view es))
 unless_empty-filled [] h = absurd (h refl)

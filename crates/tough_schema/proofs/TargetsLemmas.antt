@@ -1,21 +1,21 @@
 -- What is written for targets is read as them.
-use Rattle.std.proofs.Common.{◌≡◌, ℕ, List, [], ◌∷◌, Bool, true, false, codes, Option, Some, None, option_map, option_and_then, Result, Ok, Err, if◌then◌else◌, refl, sym, ap, subst, ◌∙◌, rules}
+use Rattle.std.proofs.Common.{◌≡◌, ℕ, List, [], ◌∷◌, Bool, true, false, codes, Option, Some, None, Result, Ok, Err, if◌then◌else◌, refl, sym, ap, subst, ◌∙◌, rules}
 use Rattle.std.specs.Cmp.{IsTotalOrder}
 use Rattle.std.specs.Cmp.Rules.{comparing}
 use Rattle.std.proofs.lemmas.Slice.Eq.{bytes_eq-Decides}
 use Rattle.jiff_core.specs.Timestamp.{IsTimestampNanos}
 use Rattle.serde_json.specs.Data.{Data, object, Members, no_members}
-use Rattle.serde_json.specs.Find.{as_object, get_member}
+use Rattle.serde_json.specs.Find.{as_object}
 use Rattle.tough_names.specs.declared.name.NameError.{NameError}
 use Rattle.tough_names.specs.Named.{Named, clean, by_raw_then_resolved}
 use Rattle.tough_json.specs.Reading.{◌>>=◌, required, optional, present, if_present, without}
 use Rattle.tough_json.specs.Writing.{with, with_optional, optional_json}
 use Rattle.tough_json.proofs.WriteLemmas.{bind_ok, some-inj, required-with, optional-with_some, optional-with_none}
-use Rattle.tough_roles.specs.Head.{Head, head_at, head_json}
+use Rattle.tough_roles.specs.Head.{head_at, head_json}
 use Rattle.tough_roles.proofs.EntryLemmas.{map_ok}
 use Rattle.tough_roles.proofs.HeadLemmas.{head-back}
 use Rattle.tough_roles.proofs.Tables.{AreBack, table-back}
-use Rattle.tough_schema.specs.Target.{TargetDoc, target_at, target_json}
+use Rattle.tough_schema.specs.Target.{TargetDoc, target_json}
 use Rattle.tough_schema.specs.Delegations.{DelegationsDoc, delegations_at, delegations_json}
 use Rattle.tough_schema.specs.Targets.{TargetsDoc, if_clean, name_at, entry_at, listing_at, listing_json, resolves_to, raw_name, targets_at, parts_json, targets_json, IsKept, KeysRise, AreSorted}
 use Rattle.tough_schema.proofs.TargetLemmas.{target-back}

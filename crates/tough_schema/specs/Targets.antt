@@ -10,8 +10,7 @@ use Rattle.serde_json.specs.View.{members_view}
 use Rattle.tough_names.specs.declared.name.NameError.{NameError}
 use Rattle.tough_names.specs.Named.{Named, clean, by_raw_then_resolved}
 use Rattle.tough_json.specs.Reading.{◌>>=◌, required, optional}
-use Rattle.tough_json.specs.Writing.{with, with_optional, optional_json, stands_for}
-use Rattle.tough_keys.specs.Key.{KeyDoc}
+use Rattle.tough_json.specs.Writing.{with, with_optional, optional_json}
 use Rattle.tough_roles.specs.Head.{Head, head_at, head_json}
 use Rattle.tough_roles.specs.Table.{table_from, table_json}
 use Rattle.tough_roles.specs.Root.{by_bytes, AreOwn}
@@ -19,7 +18,7 @@ use Rattle.tough_schema.specs.declared.target.Target.{Target}
 use Rattle.tough_schema.specs.declared.targets.Targets.{Targets, out-Targets}
 use Rattle.tough_schema.specs.declared.targets.DelegatedTargets.{DelegatedTargets, out-DelegatedTargets}
 use Rattle.tough_schema.specs.Target.{TargetDoc, target_doc, target_at, target_json}
-use Rattle.tough_schema.specs.Delegations.{DelegationsDoc, ListPatterns, delegations_doc, delegations_at, delegations_json}
+use Rattle.tough_schema.specs.Delegations.{DelegationsDoc, no_delegations, ListPatterns, delegations_doc, delegations_at, delegations_json}
 
 -- the targets are in the order of their names
 pub record TargetsDoc : Type 0 where
@@ -42,6 +41,10 @@ targets_doc t = let f = out-Targets t in record {
 -- the document of a delegated role, without its name
 abbrev pub delegated_doc : DelegatedTargets → TargetsDoc
 delegated_doc d = targets_doc (out-DelegatedTargets d).targets
+
+-- one that lists nothing, and delegates to no role
+abbrev pub bare_targets : Head → TargetsDoc
+bare_targets head = record { head = head; targets = []; delegations = Some no_delegations; extra = no_members }
 
 -- ---- the listing
 
