@@ -1,0 +1,15 @@
+-- The nodes that files in memory keep, as contents.
+use Rattle.std.specs.Prelude.{List, ℕ, Option, None, Some, option_map, string_bytes}
+use Rattle.std.specs.BTreeMap.{get_by_text}
+use Rattle.tough_files.specs.declared.tree.Stored.{Stored}
+use Rattle.tough_files.specs.declared.tree.Stored.TheVariants.{File, Folder, Link}
+use Rattle.tough_files.specs.declared.tree.Tree.{Tree}
+use Rattle.tough_files.specs.Contents.{Node, file, folder, link, Contents}
+
+abbrev pub node_of : Stored → Node
+node_of (File bytes) = file bytes.items
+node_of Folder = folder
+node_of (Link target) = link (string_bytes target)
+
+abbrev pub contents_of : Tree → Contents
+contents_of tree path = option_map node_of (get_by_text tree.nodes path)
