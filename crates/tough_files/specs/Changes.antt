@@ -1,11 +1,11 @@
 -- What each call answers, and what it leaves (the calls of POSIX, section "System Interfaces", over nodes at paths).
-use Rattle.std.specs.Prelude.{◌≡◌, ◌≢◌, ℕ, Bool, List, [], ◌∷◌, ◌++◌, Option, Some, None, if◌then◌else◌, take, drop, bytes_eq, codes, decimal}
+use Rattle.std.specs.Prelude.{◌≡◌, ◌≢◌, ◌⊎◌, ℕ, Bool, true, false, ◌||◌, IsSome, Contains, List, [], ◌∷◌, ◌++◌, Option, Some, None, if◌then◌else◌, take, drop, bytes_eq, codes, decimal}
 use Rattle.std.specs.Map.{update}
-use Rattle.std.specs.Path.{path_join}
+use Rattle.std.specs.Path.{path_join, path_parent, path_file_name}
 use Rattle.tough_files.specs.declared.files.FileKind.TheVariants.{File, Folder, Link}
 use Rattle.tough_files.specs.declared.files.FilesError.TheVariants.{NotFound, Failed, Memory}
 use Rattle.tough_files.specs.Calls.{Answered, done, found, got, named, listed, refused}
-use Rattle.tough_files.specs.Contents.{Node, file, folder, link, Contents, Same, followed, seen, is_base, has_folder}
+use Rattle.tough_files.specs.Contents.{Node, file, folder, link, Contents, Same, followed, seen, is_base, is_folder, has_folder}
 
 -- what a call answers where there is memory, and what is there after it
 pub record Outcome : Type 0 where
@@ -138,3 +138,49 @@ canonical_answer path (Some node) = named path
 
 abbrev pub canonical_outcome : List ℕ → Contents → Outcome
 canonical_outcome path contents = answer_only (canonical_answer (followed contents path) (contents (followed contents path))) contents
+
+-- p is the path, or stands above it
+pub data IsAbove (p : List ℕ) : List ℕ → Type 0 where
+  itself : IsAbove p p
+  under : {path dir : List ℕ} → path_parent path ≡ Some dir → IsAbove p dir → IsAbove p path
+
+-- what is at p after the folders of the path were made: what was there, or a new folder
+abbrev pub Grows : List ℕ → List ℕ → Option Node → Option Node → Type 0
+Grows path p before after = (after ≡ before) ⊎ ((before ≡ None) × (after ≡ Some folder) × IsAbove p path)
+
+-- a call that makes each folder of the path, and the path itself a folder; on the way it may have made some of them
+pub record MakesFolders (path : List ℕ) (before : Contents) (answered : Answered) (after : Contents) : Type 0 where
+  pub grows : (p : List ℕ) → Grows path p (before p) (after p)
+  pub made : answered ≡ done → (p : List ℕ) → IsAbove p path → is_base p ≡ false → after p ≡ Some folder
+  pub stopped : answered ≡ refused Failed → (p : List ℕ) × IsAbove p path × IsSome (before p) × (is_folder (before p) ≡ false)
+  pub found : answered ≢ refused NotFound
+
+abbrev pub folder_over : List ℕ → Contents → Option Node → Outcome
+folder_over path contents None = does contents path (Some folder)
+folder_over path contents (Some folder) = answer_only done contents
+folder_over path contents (Some other) = answer_only (refused Failed) contents
+
+abbrev pub is_child_of : List ℕ → Option (List ℕ) → Bool
+is_child_of dir None = false
+is_child_of dir (Some parent) = bytes_eq parent dir
+
+-- the name of this path in the folder, if it stands in it
+abbrev pub name_in : List ℕ → List ℕ → Option (List ℕ)
+name_in dir path = if is_child_of dir (path_parent path) then path_file_name path else None
+
+-- the names of what stands in the folder, in some order
+pub record IsListing (dir : List ℕ) (contents : Contents) (names : List (List ℕ)) : Type 0 where
+  pub there : (name : List ℕ) → Contains names name → (path : List ℕ) × IsSome (contents path) × (name_in dir path ≡ Some name)
+  pub all : (path name : List ℕ) → IsSome (contents path) → name_in dir path ≡ Some name → Contains names name
+
+-- the refusal where no folder is
+abbrev pub no_folder : Option Node → Answered
+no_folder None = refused NotFound
+no_folder (Some other) = refused Failed
+
+-- such names of what stands in the folder
+abbrev pub list_outcome : List ℕ → List (List ℕ) → Contents → Outcome
+list_outcome dir names contents = if is_base dir || is_folder (contents dir) then answer_only (listed names) contents else answer_only (no_folder (contents dir)) contents
+
+abbrev pub Lists : List ℕ → Contents → Answered → Contents → Type 0
+Lists dir before answered after = (names : List (List ℕ)) × (answered ≡ listed names → IsListing dir before names) × Gives (list_outcome dir names before) before answered after

@@ -1,6 +1,6 @@
 -- What files hold: a node at each path that is there. Paths are taken as they stand; a link's target is a path (POSIX 1003.1, "Pathname Resolution", with paths that are already resolved).
-use Rattle.std.specs.Prelude.{◌≡◌, ℕ, zero, suc, Bool, true, false, ◌||◌, List, Option, Some, None, if◌then◌else◌, ◌==◌, length, bytes_eq}
-use Rattle.std.specs.Path.{root_dir, path_parent}
+use Rattle.std.specs.Prelude.{◌≡◌, ℕ, zero, suc, Bool, true, false, ◌||◌, List, Option, Some, None, if◌then◌else◌, is_none}
+use Rattle.std.specs.Path.{path_parent}
 
 pub data Node : Type 0 where
   file : List ℕ → Node
@@ -36,9 +36,9 @@ abbrev pub is_folder : Option Node → Bool
 is_folder (Some folder) = true
 is_folder there = false
 
--- the root, and the current folder, are always there
+-- the root, and the current folder, which have no parent and are always there
 abbrev pub is_base : List ℕ → Bool
-is_base path = length path == 0 || bytes_eq path root_dir
+is_base path = is_none (path_parent path)
 
 abbrev pub folder_is_there : Contents → Option (List ℕ) → Bool
 folder_is_there contents None = false

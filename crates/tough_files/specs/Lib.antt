@@ -4,3 +4,4 @@ pub mod Changes
 pub mod Notes
 pub mod Tree
 pub mod Memory
+pub mod System

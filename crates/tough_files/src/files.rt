@@ -52,9 +52,9 @@ impl<T: Drop> From<AllocFailed<T>> for FilesError {
 /// `Failed` is answered exactly where the count of failures goes on by one. A call that found no memory changes nothing,
 /// `make_folders` aside, and isn't told.
 pub trait Files {
-    ghost use Rattle.tough_files.specs.Calls.{Told, told_of, count_after, done_or, found_or, got_or, named_or, kind_of, read_at, create_at, create_in, append_to, rename_to, copy_to, link_to, remove_at, canonical_of};
+    ghost use Rattle.tough_files.specs.Calls.{Told, told_of, count_after, done_or, found_or, got_or, named_or, listed_or, kind_of, read_at, create_at, create_in, append_to, rename_to, copy_to, link_to, remove_at, make_folders_to, canonical_of, list_of};
     ghost use Rattle.tough_files.specs.Contents.{Contents};
-    ghost use Rattle.tough_files.specs.Changes.{Gives, CreatesTemp, kind_outcome, read_outcome, create_outcome, append_outcome, rename_outcome, copy_outcome, link_outcome, remove_outcome, canonical_outcome};
+    ghost use Rattle.tough_files.specs.Changes.{Gives, CreatesTemp, MakesFolders, Lists, kind_outcome, read_outcome, create_outcome, append_outcome, rename_outcome, copy_outcome, link_outcome, remove_outcome, canonical_outcome};
 
     /// Whether these files tell their contents and their calls.
     ghost tells: { Bool };
@@ -123,11 +123,23 @@ pub trait Files {
         ensures gives { tells ≡ true → Gives (remove_outcome path.now (contents self.old)) (contents self.old) (done_or result) (contents self.new) }
         ensures count { count self.new ≡ count_after (done_or result) (count self.old) };
 
+    /// Makes the folder, and those above it. Those that were made before a refusal stay.
+    fn make_folders(&mut self, path: &str) -> Result<(), FilesError>
+        ensures told { tells ≡ true → calls self.new ≡ calls self.old ++ told_of (make_folders_to path.now) (done_or result) }
+        ensures gives { tells ≡ true → MakesFolders path.now (contents self.old) (done_or result) (contents self.new) }
+        ensures count { count self.new ≡ count_after (done_or result) (count self.old) };
+
     /// The path of what stands there, links followed.
     fn canonical(&mut self, path: &str) -> Result<String, FilesError>
         ensures told { tells ≡ true → calls self.new ≡ calls self.old ++ told_of (canonical_of path.now) (named_or result) }
         ensures gives { tells ≡ true → Gives (canonical_outcome path.now (contents self.old)) (contents self.old) (named_or result) (contents self.new) }
         ensures count { count self.new ≡ count_after (named_or result) (count self.old) };
+
+    /// The names of what stands in the folder, in some order.
+    fn list(&mut self, path: &str) -> Result<Vec<String>, FilesError>
+        ensures told { tells ≡ true → calls self.new ≡ calls self.old ++ told_of (list_of path.now) (listed_or result) }
+        ensures gives { tells ≡ true → Lists path.now (contents self.old) (listed_or result) (contents self.new) }
+        ensures count { count self.new ≡ count_after (listed_or result) (count self.old) };
 
     /// How often the device failed, modulo 2^64.
     fn failures(&self) -> u64

@@ -5,8 +5,11 @@
 mod files;
 mod log;
 mod memory;
+mod system;
+mod temp;
 mod tree;
 
 pub use files::{FileKind, Files, FilesError};
 pub use log::{Answer, Call, Request};
 pub use memory::MemoryFiles;
+pub use system::OsFiles;

@@ -1,15 +1,14 @@
 //! Files in memory, which tell their contents and their calls.
-ghost use Rattle.std.specs.Prelude.{◌≡◌, ◌++◌, ℕ, List, None, [], IfOk, IfErr, string_bytes};
+ghost use Rattle.std.specs.Prelude.{◌≡◌, ◌++◌, ℕ, List, None, [], map, IfOk, IfErr, string_bytes};
 ghost use Rattle.tough_files.specs.declared.files.FilesError.TheVariants.{Memory};
-ghost use Rattle.tough_files.specs.Changes.{temp_path};
 ghost use Rattle.tough_files.specs.Notes.{all_told, log_told};
 ghost use Rattle.tough_files.specs.Tree.{contents_of};
 
 use crate::files::{FileKind, Files, FilesError};
 use crate::log::{Answer, Call, Log, Request};
 use crate::tree::{Tree, copied, joined};
-use std::alloc::Global;
-use std::path::Path;
+use crate::temp::temp_path;
+use std::alloc::{AllocError, Global};
 
 /// Files in memory, with the list of their calls. Paths are taken as they stand, and links are followed at a path's end
 /// alone. Nothing is there at first but the root and the current folder. A folder is neither moved nor removed.
@@ -41,20 +40,6 @@ impl MemoryFiles {
         ensures { all_told result.now ≡ memory_calls self.now }
     {
         self.log.calls()
-    }
-}
-
-// The path of the temporary file with this number.
-fn temp_path(alloc: Global, folder: &str, number: usize) -> Result<String, FilesError>
-    ensures path { IfOk result (λ path. string_bytes path ≡ temp_path folder.now number) }
-    ensures memory { IfErr result (λ e. e ≡ Memory) }
-{
-    let Ok(name) = format!(in alloc; ".tmp{number}") else {
-        return Err(FilesError::Memory);
-    };
-    match Path::new(folder).join(alloc, name.as_str()) {
-        Ok(path) => copied(alloc, path.as_str()),
-        Err(_) => Err(FilesError::Memory),
     }
 }
 
@@ -137,7 +122,7 @@ impl Files for MemoryFiles {
         let number = self.log.calls().len();
         let path = match temp_path(self.alloc, folder, number) {
             Ok(path) => path,
-            Err(e) => return Err(e),
+            Err(_) => return Err(FilesError::Memory),
         };
         let answer = match copied(self.alloc, path.as_str()) {
             Ok(answer) => answer,
@@ -224,6 +209,19 @@ impl Files for MemoryFiles {
         result
     }
 
+    fn make_folders(&mut self, path: &str) -> Result<(), FilesError> {
+        let request = match copied(self.alloc, path) {
+            Ok(path) => Request::MakeFolders(path),
+            Err(e) => return Err(e),
+        };
+        if self.log.reserve().is_err() {
+            return Err(FilesError::Memory);
+        }
+        let result = self.tree.make_folders(path);
+        self.log.note_done(request, result);
+        result
+    }
+
     fn canonical(&mut self, path: &str) -> Result<String, FilesError> {
         let request = match copied(self.alloc, path) {
             Ok(path) => Request::Canonical(path),
@@ -247,6 +245,29 @@ impl Files for MemoryFiles {
         }
     }
 
+    fn list(&mut self, path: &str) -> Result<Vec<String>, FilesError> {
+        let request = match copied(self.alloc, path) {
+            Ok(path) => Request::List(path),
+            Err(e) => return Err(e),
+        };
+        if self.log.reserve().is_err() {
+            return Err(FilesError::Memory);
+        }
+        match self.tree.list(path) {
+            Ok(names) => match all_copied(self.alloc, &names) {
+                Ok(answer) => {
+                    self.log.note(request, Answer::Listed(answer));
+                    Ok(names)
+                }
+                Err(_) => Err(FilesError::Memory),
+            },
+            Err(e) => {
+                self.log.note(request, Answer::Refused(e));
+                Err(e)
+            }
+        }
+    }
+
     fn failures(&self) -> u64 {
         self.log.failures()
     }
@@ -262,4 +283,15 @@ fn two_copied(alloc: Global, first: &str, second: &str) -> Result<(String, Strin
         (Ok(first), Ok(second)) => Ok((first, second)),
         _ => Err(FilesError::Memory),
     }
+}
+
+// Copies of the texts.
+fn all_copied(alloc: Global, texts: &Vec<String>) -> Result<Vec<String>, AllocError>
+    ensures { IfOk result (λ copies. map string_bytes copies.items ≡ map string_bytes texts.now.items) }
+{
+    let mut copies = Vec::new(alloc);
+    for text in texts {
+        copies.push(String::from_str(alloc, text.as_str())?)?;
+    }
+    Ok(copies)
 }

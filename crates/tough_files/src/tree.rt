@@ -1,15 +1,15 @@
 //! What stands at each path, in memory.
-ghost use Rattle.std.specs.Prelude.{◌≡◌, ℕ, List, Some, None, OnOk, IfOk, OnErr, IfErr, string_bytes, option_map, option_copied, ◌≢◌, ◌++◌, ◌≤◌, length, take, drop};
+ghost use Rattle.std.specs.Prelude.{◌≡◌, ◌||◌, ℕ, List, Some, None, OnOk, IfOk, OnErr, IfErr, string_bytes, option_map, option_copied, ◌≢◌, ◌++◌, ◌≤◌, length, map, take, drop};
 ghost use Rattle.tough_files.specs.declared.files.FilesError.TheVariants.{Memory};
-ghost use Rattle.tough_files.specs.Calls.{done_or, found_or, got_or, named_if, named, refused};
+ghost use Rattle.tough_files.specs.Calls.{done_or, found_or, got_or, named_if, listed_or, named, refused};
 ghost use Rattle.tough_files.specs.Contents.{Same, followed, seen};
 ghost use Rattle.tough_files.specs.Contents as there;
-ghost use Rattle.tough_files.specs.Changes.{Gives, create_outcome, write_outcome, append_outcome, rename_outcome, copy_outcome, link_outcome, remove_outcome, temp_outcome, temp_over, kind_answer, read_answer, canonical_answer};
+ghost use Rattle.tough_files.specs.Changes.{Gives, MakesFolders, Lists, create_outcome, write_outcome, append_outcome, rename_outcome, copy_outcome, link_outcome, remove_outcome, temp_outcome, temp_over, kind_answer, read_answer, canonical_answer};
 ghost use Rattle.tough_files.specs.Changes as change;
-ghost use Rattle.tough_files.specs.Tree.{node_of, contents_of};
+ghost use Rattle.tough_files.specs.Tree.{node_of, contents_of, entry_names};
 
 use crate::files::{FileKind, FilesError, MAX_LINKS};
-use std::alloc::Global;
+use std::alloc::{AllocError, Global};
 use std::collections::BTreeMap;
 use std::path::Path;
 
@@ -28,11 +28,14 @@ pub(crate) struct Tree {
     nodes: BTreeMap<String, Stored>,
 }
 
-// Whether this is the root, or the current folder.
+// Whether this is the root, or the current folder: it has no parent.
 fn is_base(path: &str) -> bool
     ensures { result ≡ there.is_base path.now }
 {
-    path.is_empty() || path == "/"
+    match Path::new(path).parent() {
+        None => true,
+        Some(_) => false,
+    }
 }
 
 impl Tree {
@@ -90,13 +93,20 @@ impl Tree {
         matches!(self.node(path), Some(Stored::Folder))
     }
 
+    // Whether things may stand here: a folder, the root or the current folder.
+    fn is_place(&self, path: &str) -> bool
+        ensures { result ≡ (there.is_base path.now || there.is_folder (contents_of self.now path.now)) }
+    {
+        is_base(path) || self.is_folder(path)
+    }
+
     // Whether the path's folder is there.
     fn has_folder(&self, path: &str) -> bool
         ensures { result ≡ there.has_folder (contents_of self.now) path.now }
     {
         match Path::new(path).parent() {
             None => false,
-            Some(folder) => is_base(folder.as_str()) || self.is_folder(folder.as_str()),
+            Some(folder) => self.is_place(folder.as_str()),
         }
     }
 
@@ -337,6 +347,80 @@ impl Tree {
             Some(Stored::Link(_)) => Err(FilesError::Failed),
             Some(Stored::File(_)) => copied(self.alloc, path),
             Some(Stored::Folder) => copied(self.alloc, path),
+        }
+    }
+
+    pub(crate) fn make_folders(&mut self, path: &str) -> Result<(), FilesError>
+        ensures { MakesFolders path.now (contents_of self.old) (done_or result) (contents_of self.new) }
+    {
+        match Path::new(path).parent() {
+            None => Ok(()),
+            Some(folder) => match self.make_folders(folder.as_str()) {
+                Ok(()) => self.make_folder(path),
+                Err(e) => Err(e),
+            },
+        }
+    }
+
+    // Makes a folder where nothing stands.
+    fn make_folder(&mut self, path: &str) -> Result<(), FilesError>
+        ensures { Gives (change.folder_over path.now (contents_of self.old) (contents_of self.old path.now)) (contents_of self.old) (done_or result) (contents_of self.new) }
+    {
+        match self.node(path) {
+            None => match copied(self.alloc, path) {
+                Ok(path) => self.put(path, Stored::Folder),
+                Err(e) => Err(e),
+            },
+            Some(Stored::Folder) => Ok(()),
+            Some(Stored::File(_)) => Err(FilesError::Failed),
+            Some(Stored::Link(_)) => Err(FilesError::Failed),
+        }
+    }
+
+    pub(crate) fn list(&self, path: &str) -> Result<Vec<String>, FilesError>
+        ensures { Lists path.now (contents_of self.now) (listed_or result) (contents_of self.now) }
+    {
+        if self.is_place(path) {
+            match self.names_in(path) {
+                Ok(names) => Ok(names),
+                Err(_) => Err(FilesError::Memory),
+            }
+        } else {
+            match self.node(path) {
+                None => Err(FilesError::NotFound),
+                Some(_) => Err(FilesError::Failed),
+            }
+        }
+    }
+
+    // The names of what stands in the folder.
+    fn names_in(&self, folder: &str) -> Result<Vec<String>, AllocError>
+        ensures { IfOk result (λ names. map string_bytes names.items ≡ entry_names folder.now self.now.nodes.entries) }
+    {
+        let mut names = Vec::new(self.alloc);
+        for (path, _) in self.nodes.iter() {
+            match name_in(folder, path.as_str()) {
+                None => {}
+                Some(name) => names.push(String::from_str(self.alloc, name)?)?,
+            }
+        }
+        Ok(names)
+    }
+}
+
+// The name of this path in the folder, if it stands in it.
+fn name_in<'a>(folder: &str, path: &'a str) -> Option<&'a str>
+    ensures { option_copied result ≡ change.name_in folder.now path.now }
+{
+    let path = Path::new(path);
+    match path.parent() {
+        None => None,
+        Some(parent) => {
+            if parent.as_str() == folder {
+                path.file_name()
+            } else {
+                None
+            }
         }
     }
 }

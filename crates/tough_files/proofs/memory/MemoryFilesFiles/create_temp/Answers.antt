@@ -9,5 +9,5 @@ pub returns-in-Err-create_new-clause-gives : goal.returns-in-Err-create_new-clau
 returns-in-Err-create_new-clause-gives c = λ tells.
     let before = memory_contents c.args.self.now in
     let number = length c.calls-number.result.now in
-    let at : c.as_str-2.result.now ≡ temp_path c.args.folder.now number = cc (c.as_str-2.ensures.value, c.in-Ok-temp_path.ensures.path) in
+    let at : c.as_str-2.result.now ≡ temp_path c.args.folder.now number = cc (c.as_str-2.ensures.value, c.in-Ok-temp_path.ensures) in
     (number, subst (λ path. Gives (temp_outcome c.args.folder.now path before) before (refused c.in-Err-create_new.e) (contents_of c.create_new.new.self)) at c.in-Err-create_new.ensures)
