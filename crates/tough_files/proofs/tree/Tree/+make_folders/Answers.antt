@@ -1,4 +1,4 @@
-use Rattle.std.proofs.Common.{◌≡◌, ◌<◌, Some, arith, length, subst}
+use Rattle.std.proofs.Common.{◌≡◌, ◌<◌, Some, arith, rules, length}
 use Rattle.std.proofs.lemmas.Grind.{common_steps}
 use Rattle.std.specs.Path.{path_parent, path_components}
 use Rattle.tough_files.specs.Calls.{done_or}
@@ -9,8 +9,8 @@ use Rattle.tough_files.proofs.tree.Tree.+make_folders.Goals as goal
 pub make_folders-requires : goal.make_folders-requires
 make_folders-requires t c =
     let parent : path_parent c.args.path.now ≡ Some c.as_str.result.now = grind (arith, common_steps) in
-    let less = shorter c.args.path.now c.as_str.result.now parent in
-    (subst (λ n. length (path_components c.as_str.result.now) < n) c.decreases less, tt)
+    let less : length (path_components c.as_str.result.now) < length (path_components c.args.path.now) = shorter c.args.path.now c.as_str.result.now parent in
+    (search rules, tt)
 
 pub returns-in-Ok : goal.returns-in-Ok
 returns-in-Ok t c =
