@@ -13,3 +13,6 @@ pub use files::{FileKind, Files, FilesError};
 pub use log::{Answer, Call, Request};
 pub use memory::MemoryFiles;
 pub use system::OsFiles;
+
+#[cfg(test)]
+mod tests;
