@@ -59,9 +59,9 @@ module _ (path dir : List ℕ) (first before after : Contents) (parent : path_pa
         made = λ e p over base. ⊎_elim
             (λ yes. here p ((bytes_decides path p).0 yes))
             (λ no. ⊎_elim
-                (λ itself_. absurd (false≢true (sym no ∙ (bytes_decides path p).1 (sym itself_))))
-                (λ higher. there p no ∙ held.made refl p higher base)
-                (above over dir parent))
+            (λ itself_. absurd (false≢true (sym no ∙ (bytes_decides path p).1 (sym itself_))))
+            (λ higher. there p no ∙ held.made refl p higher base)
+            (above over dir parent))
             (cases_Bool (bytes_eq path p));
         stopped = λ f. absurd (cc (d, f));
         found = λ n. cc (d, n);

@@ -51,7 +51,7 @@ all_at dir (e ∷ es) path name some named =
     Contains-append_left (option_to_list (name_in dir key)) (entry_names dir es) name (first (name_in dir key) name (subst (λ p. name_in dir p ≡ Some name) at_key named)))
     (λ no.
     Contains-append_right (option_to_list (name_in dir key)) (entry_names dir es) name
-        (all_at dir es path name (subst (λ b. IsSome (option_map node_of (cond b (Some e.1) (lookup (is_at (λ k. slice_cmp nat_cmp path (string_bytes k))) es)))) no some) named))
+    (all_at dir es path name (subst (λ b. IsSome (option_map node_of (cond b (Some e.1) (lookup (is_at (λ k. slice_cmp nat_cmp path (string_bytes k))) es)))) no some) named))
     (cases_Bool same)
 
 pub listing : (tree : Tree) (dir : List ℕ) → IsListing dir (contents_of tree) (entry_names dir tree.nodes.entries)

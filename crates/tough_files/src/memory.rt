@@ -6,8 +6,8 @@ ghost use Rattle.tough_files.specs.Tree.{contents_of};
 
 use crate::files::{FileKind, Files, FilesError};
 use crate::log::{Answer, Call, Log, Request};
-use crate::tree::{Tree, copied, joined};
 use crate::temp::temp_path;
+use crate::tree::{Tree, copied, joined};
 use std::alloc::{AllocError, Global};
 
 /// Files in memory, with the list of their calls. Paths are taken as they stand, and links are followed at a path's end

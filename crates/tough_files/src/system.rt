@@ -59,12 +59,7 @@ fn kind_of(metadata: &Metadata) -> FileKind {
     }
 }
 
-fn read_at(
-    files: &impl rt::Files,
-    path: &str,
-    from: u64,
-    buf: &mut [u8],
-) -> io::Result<usize>
+fn read_at(files: &impl rt::Files, path: &str, from: u64, buf: &mut [u8]) -> io::Result<usize>
     ensures { IfOk result (λ n. n ≤ length buf.new) }
 {
     let mut file = fs::open(files, path)?;

@@ -97,7 +97,12 @@ fn note<T: Debug>(out: &mut String, alloc: Global, answer: &T) -> Result<(), Fai
 }
 
 // Makes and reads files, and looks at what is there.
-fn tries_files<F: Files>(out: &mut String, alloc: Global, files: &mut F, base: &str) -> Result<(), Fail> {
+fn tries_files<F: Files>(
+    out: &mut String,
+    alloc: Global,
+    files: &mut F,
+    base: &str,
+) -> Result<(), Fail> {
     let sub = at(alloc, base, "sub/deep")?;
     let a = at(alloc, base, "a.txt")?;
     let missing = at(alloc, base, "missing")?;
@@ -132,7 +137,12 @@ fn tries_files<F: Files>(out: &mut String, alloc: Global, files: &mut F, base: &
 }
 
 // Links, copies, moves and removes files.
-fn tries_moves<F: Files>(out: &mut String, alloc: Global, files: &mut F, base: &str) -> Result<(), Fail> {
+fn tries_moves<F: Files>(
+    out: &mut String,
+    alloc: Global,
+    files: &mut F,
+    base: &str,
+) -> Result<(), Fail> {
     let sub = at(alloc, base, "sub/deep")?;
     let a = at(alloc, base, "a.txt")?;
     let b = at(alloc, base, "b.txt")?;
@@ -144,7 +154,11 @@ fn tries_moves<F: Files>(out: &mut String, alloc: Global, files: &mut F, base: &
     note(out, alloc, &files.kind(&link, false))?;
     note(out, alloc, &files.kind(&link, true))?;
     note(out, alloc, &text_of(files, alloc, &link)?.as_str())?;
-    note(out, alloc, &(files.canonical(&link)?.as_str() == a.as_str()))?;
+    note(
+        out,
+        alloc,
+        &(files.canonical(&link)?.as_str() == a.as_str()),
+    )?;
     note(out, alloc, &files.link(&a, &link))?;
     note(out, alloc, &files.link(&a, &below))?;
     note(out, alloc, &files.copy(&link, &b))?;
@@ -171,7 +185,12 @@ fn tries_moves<F: Files>(out: &mut String, alloc: Global, files: &mut F, base: &
 }
 
 // Temporary files, true paths and lists of names.
-fn tries_folders<F: Files>(out: &mut String, alloc: Global, files: &mut F, base: &str) -> Result<(), Fail> {
+fn tries_folders<F: Files>(
+    out: &mut String,
+    alloc: Global,
+    files: &mut F,
+    base: &str,
+) -> Result<(), Fail> {
     let sub = at(alloc, base, "sub/deep")?;
     let a = at(alloc, base, "a.txt")?;
     let round = at(alloc, base, "round")?;
@@ -179,7 +198,11 @@ fn tries_folders<F: Files>(out: &mut String, alloc: Global, files: &mut F, base:
     let first = files.create_temp(&sub)?;
     let second = files.create_temp(&sub)?;
     note(out, alloc, &(first != second))?;
-    note(out, alloc, &(first.starts_with(at(alloc, &sub, ".tmp")?.as_str())))?;
+    note(
+        out,
+        alloc,
+        &(first.starts_with(at(alloc, &sub, ".tmp")?.as_str())),
+    )?;
     note(out, alloc, &text_of(files, alloc, &second)?.as_str())?;
     note(out, alloc, &files.create_temp(&missing))?;
     note(out, alloc, &files.create_temp(&a))?;
@@ -187,7 +210,11 @@ fn tries_folders<F: Files>(out: &mut String, alloc: Global, files: &mut F, base:
     note(out, alloc, &files.link(&round, &round))?;
     note(out, alloc, &files.canonical(&round))?;
     note(out, alloc, &files.canonical(&missing))?;
-    note(out, alloc, &(files.canonical(&sub)?.as_str() == sub.as_str()))?;
+    note(
+        out,
+        alloc,
+        &(files.canonical(&sub)?.as_str() == sub.as_str()),
+    )?;
     let mut names = files.list(base)?;
     names.sort()?;
     note(out, alloc, &names.len())?;
