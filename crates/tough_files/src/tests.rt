@@ -4,18 +4,17 @@ use std::fmt::Debug;
 use std::test::Fail;
 use std::{env, fs, process};
 
-const FILES: &str = "Ok(())
+// The answers to what is tried, in its order.
+const MADE: &str = "Ok(())
 Ok(())
 Ok(Folder)
 Ok(())
 Ok(File)
 Ok(())
 Ok(())
-Ok(4)
-true
-Ok(1)
-true
-Ok(0)
+Ok(4) [101, 108, 108, 111]
+Ok(1) [111, 46, 46, 46]
+Ok(0) [46, 46, 46, 46]
 Ok(())
 Ok(0)
 Ok(())
@@ -31,27 +30,26 @@ Err(Failed)
 4
 ";
 
-const MOVES: &str = "Ok(())
+const MOVED: &str = "Ok(())
 Ok(Link)
 Ok(File)
-\"hello\"
-true
+hello
 Err(Failed)
 Err(NotFound)
 Ok(())
 Ok(File)
-\"hello\"
+hello
 Err(NotFound)
 Err(Failed)
 Ok(())
 Ok(())
 Err(NotFound)
-\"hello!\"
+hello!
 Err(NotFound)
 Err(NotFound)
 Err(Failed)
 Ok(())
-\"hello!\"
+hello!
 Ok(())
 Err(NotFound)
 Ok(File)
@@ -60,12 +58,12 @@ Err(Failed)
 8
 ";
 
-const FOLDERS: &str = "true
+const LISTED: &str = "true
 true
-\"\"
+Ok(File)
+Ok(())
 Err(NotFound)
 Err(Failed)
-Ok(())
 Ok(())
 Err(Failed)
 Err(NotFound)
@@ -76,15 +74,36 @@ Err(Failed)
 11
 ";
 
-fn at(alloc: Global, base: &str, name: &str) -> Result<String, AllocError> {
-    format!(in alloc; "{base}/{name}")
+// The paths of what is tried, below a folder that is there.
+#[derive(Drop)]
+struct Paths {
+    alloc: Global,
+    base: String,
+    sub: String,
+    a: String,
+    b: String,
+    c: String,
+    link: String,
+    round: String,
+    missing: String,
+    below: String,
+    under: String,
 }
 
-// The file's text, read in one piece.
-fn text_of<F: Files>(files: &mut F, alloc: Global, path: &str) -> Result<String, Fail> {
-    let mut buffer = [0u8; 64];
-    let count = files.read(path, 0, &mut buffer)?;
-    Ok(String::from_str(alloc, str::from_utf8(&buffer[..count])?)?)
+fn make_paths(alloc: Global, base: &str) -> Result<Paths, AllocError> {
+    Ok(Paths {
+        alloc,
+        base: String::from_str(alloc, base)?,
+        sub: format!(in alloc; "{base}/sub/deep")?,
+        a: format!(in alloc; "{base}/a.txt")?,
+        b: format!(in alloc; "{base}/b.txt")?,
+        c: format!(in alloc; "{base}/c.txt")?,
+        link: format!(in alloc; "{base}/link")?,
+        round: format!(in alloc; "{base}/round")?,
+        missing: format!(in alloc; "{base}/missing")?,
+        below: format!(in alloc; "{base}/missing/x")?,
+        under: format!(in alloc; "{base}/a.txt/x")?,
+    })
 }
 
 // Notes an answer, as it is printed.
@@ -94,132 +113,150 @@ fn note<T: Debug>(out: &mut String, alloc: Global, answer: &T) {
     }
 }
 
-// Makes and reads files, and looks at what is there.
-fn tries_files<F: Files>(
-    out: &mut String,
-    alloc: Global,
-    files: &mut F,
-    base: &str,
-) -> Result<(), Fail> {
-    let sub = at(alloc, base, "sub/deep")?;
-    let a = at(alloc, base, "a.txt")?;
-    let missing = at(alloc, base, "missing")?;
-    let below = at(alloc, base, "missing/x")?;
-    let mut buffer = [0u8; 4];
-    note(out, alloc, &files.make_folders(&sub));
-    note(out, alloc, &files.make_folders(&sub));
-    note(out, alloc, &files.kind(&at(alloc, base, "sub")?, true));
-    note(out, alloc, &files.create(&a));
-    note(out, alloc, &files.kind(&a, true));
-    note(out, alloc, &files.append(&a, b"hel"));
-    note(out, alloc, &files.append(&a, b"lo"));
-    note(out, alloc, &files.read(&a, 1, &mut buffer));
-    note(out, alloc, &(buffer == *b"ello"));
-    note(out, alloc, &files.read(&a, 4, &mut buffer));
-    note(out, alloc, &(buffer == *b"ollo"));
-    note(out, alloc, &files.read(&a, 5, &mut buffer));
-    note(out, alloc, &files.create(&a));
-    note(out, alloc, &files.read(&a, 0, &mut buffer));
-    note(out, alloc, &files.append(&a, b"hello"));
-    note(out, alloc, &files.kind(&missing, true));
-    note(out, alloc, &files.create(&below));
-    note(out, alloc, &files.append(&missing, b"x"));
-    note(out, alloc, &files.read(&missing, 0, &mut buffer));
-    note(out, alloc, &files.failures());
-    note(out, alloc, &files.create(&sub));
-    note(out, alloc, &files.append(&sub, b"x"));
-    note(out, alloc, &files.read(&sub, 0, &mut buffer));
-    note(out, alloc, &files.make_folders(&at(alloc, &a, "x")?));
-    note(out, alloc, &files.failures());
-    Ok(())
+// Notes how much was read from there on, and the buffer.
+fn note_read<F: Files>(out: &mut String, alloc: Global, files: &mut F, path: &str, from: u64) {
+    let mut buffer = *b"....";
+    let answer = files.read(path, from, &mut buffer);
+    if let Ok(text) = format!(in alloc; "{answer:?} {buffer:?}\n") {
+        let _ = out.push_str(text.as_str());
+    }
 }
 
-// Links, copies, moves and removes files.
-fn tries_moves<F: Files>(
-    out: &mut String,
-    alloc: Global,
-    files: &mut F,
-    base: &str,
-) -> Result<(), Fail> {
-    let sub = at(alloc, base, "sub/deep")?;
-    let a = at(alloc, base, "a.txt")?;
-    let b = at(alloc, base, "b.txt")?;
-    let c = at(alloc, base, "c.txt")?;
-    let link = at(alloc, base, "link")?;
-    let missing = at(alloc, base, "missing")?;
-    let below = at(alloc, base, "missing/x")?;
-    note(out, alloc, &files.link(&a, &link));
-    note(out, alloc, &files.kind(&link, false));
-    note(out, alloc, &files.kind(&link, true));
-    note(out, alloc, &text_of(files, alloc, &link)?.as_str());
-    note(
-        out,
-        alloc,
-        &(files.canonical(&link)?.as_str() == a.as_str()),
-    );
-    note(out, alloc, &files.link(&a, &link));
-    note(out, alloc, &files.link(&a, &below));
-    note(out, alloc, &files.copy(&link, &b));
-    note(out, alloc, &files.kind(&b, false));
-    note(out, alloc, &text_of(files, alloc, &b)?.as_str());
-    note(out, alloc, &files.copy(&missing, &b));
-    note(out, alloc, &files.copy(&sub, &b));
-    note(out, alloc, &files.append(&b, b"!"));
-    note(out, alloc, &files.rename(&b, &c));
-    note(out, alloc, &files.kind(&b, false));
-    note(out, alloc, &text_of(files, alloc, &c)?.as_str());
-    note(out, alloc, &files.rename(&missing, &c));
-    note(out, alloc, &files.rename(&c, &below));
-    note(out, alloc, &files.rename(&c, &sub));
-    note(out, alloc, &files.rename(&c, &a));
-    note(out, alloc, &text_of(files, alloc, &link)?.as_str());
-    note(out, alloc, &files.remove(&link));
-    note(out, alloc, &files.kind(&link, false));
-    note(out, alloc, &files.kind(&a, false));
-    note(out, alloc, &files.remove(&missing));
-    note(out, alloc, &files.remove(&sub));
-    note(out, alloc, &files.failures());
-    Ok(())
+// Notes the file's text.
+fn note_text<F: Files>(out: &mut String, files: &mut F, path: &str) {
+    let mut buffer = [0u8; 64];
+    if let Ok(count) = files.read(path, 0, &mut buffer) {
+        if let Some(bytes) = buffer.get(..count) {
+            if let Ok(text) = str::from_utf8(bytes) {
+                let _ = out.push_str(text);
+                let _ = out.push('\n');
+            }
+        }
+    }
 }
 
-// Temporary files, true paths and lists of names.
-fn tries_folders<F: Files>(
-    out: &mut String,
-    alloc: Global,
-    files: &mut F,
-    base: &str,
-) -> Result<(), Fail> {
-    let sub = at(alloc, base, "sub/deep")?;
-    let a = at(alloc, base, "a.txt")?;
-    let round = at(alloc, base, "round")?;
-    let missing = at(alloc, base, "missing")?;
-    let first = files.create_temp(&sub)?;
-    let second = files.create_temp(&sub)?;
-    note(out, alloc, &(first != second));
-    note(
-        out,
-        alloc,
-        &(first.starts_with(at(alloc, &sub, ".tmp")?.as_str())),
-    );
-    note(out, alloc, &text_of(files, alloc, &second)?.as_str());
-    note(out, alloc, &files.create_temp(&missing));
-    note(out, alloc, &files.create_temp(&a));
-    note(out, alloc, &files.remove(&first));
-    note(out, alloc, &files.link(&round, &round));
-    note(out, alloc, &files.canonical(&round));
-    note(out, alloc, &files.canonical(&missing));
-    note(
-        out,
-        alloc,
-        &(files.canonical(&sub)?.as_str() == sub.as_str()),
-    );
-    let mut names = files.list(base)?;
-    names.sort()?;
-    note(out, alloc, &names);
-    note(out, alloc, &files.list(&missing));
-    note(out, alloc, &files.list(&a));
-    note(out, alloc, &files.failures());
-    Ok(())
+fn makes<F: Files>(out: &mut String, files: &mut F, p: &Paths) {
+    note(out, p.alloc, &files.make_folders(&p.sub));
+    note(out, p.alloc, &files.make_folders(&p.sub));
+    note(out, p.alloc, &files.kind(&p.sub, true));
+    note(out, p.alloc, &files.create(&p.a));
+    note(out, p.alloc, &files.kind(&p.a, true));
+    note(out, p.alloc, &files.append(&p.a, b"hel"));
+    note(out, p.alloc, &files.append(&p.a, b"lo"));
+}
+
+fn reads<F: Files>(out: &mut String, files: &mut F, p: &Paths) {
+    let mut buffer = *b"....";
+    note_read(out, p.alloc, files, &p.a, 1);
+    note_read(out, p.alloc, files, &p.a, 4);
+    note_read(out, p.alloc, files, &p.a, 5);
+    note(out, p.alloc, &files.create(&p.a));
+    note(out, p.alloc, &files.read(&p.a, 0, &mut buffer));
+    note(out, p.alloc, &files.append(&p.a, b"hello"));
+}
+
+fn misses<F: Files>(out: &mut String, files: &mut F, p: &Paths) {
+    let mut buffer = *b"....";
+    note(out, p.alloc, &files.kind(&p.missing, true));
+    note(out, p.alloc, &files.create(&p.below));
+    note(out, p.alloc, &files.append(&p.missing, b"x"));
+    note(out, p.alloc, &files.read(&p.missing, 0, &mut buffer));
+    note(out, p.alloc, &files.failures());
+}
+
+fn fails<F: Files>(out: &mut String, files: &mut F, p: &Paths) {
+    let mut buffer = *b"....";
+    note(out, p.alloc, &files.create(&p.sub));
+    note(out, p.alloc, &files.append(&p.sub, b"x"));
+    note(out, p.alloc, &files.read(&p.sub, 0, &mut buffer));
+    note(out, p.alloc, &files.make_folders(&p.under));
+    note(out, p.alloc, &files.failures());
+}
+
+fn links<F: Files>(out: &mut String, files: &mut F, p: &Paths) {
+    note(out, p.alloc, &files.link(&p.a, &p.link));
+    note(out, p.alloc, &files.kind(&p.link, false));
+    note(out, p.alloc, &files.kind(&p.link, true));
+    note_text(out, files, &p.link);
+    note(out, p.alloc, &files.link(&p.a, &p.link));
+    note(out, p.alloc, &files.link(&p.a, &p.below));
+}
+
+fn copies<F: Files>(out: &mut String, files: &mut F, p: &Paths) {
+    note(out, p.alloc, &files.copy(&p.link, &p.b));
+    note(out, p.alloc, &files.kind(&p.b, false));
+    note_text(out, files, &p.b);
+    note(out, p.alloc, &files.copy(&p.missing, &p.b));
+    note(out, p.alloc, &files.copy(&p.sub, &p.b));
+    note(out, p.alloc, &files.append(&p.b, b"!"));
+}
+
+fn moves<F: Files>(out: &mut String, files: &mut F, p: &Paths) {
+    note(out, p.alloc, &files.rename(&p.b, &p.c));
+    note(out, p.alloc, &files.kind(&p.b, false));
+    note_text(out, files, &p.c);
+    note(out, p.alloc, &files.rename(&p.missing, &p.c));
+    note(out, p.alloc, &files.rename(&p.c, &p.below));
+    note(out, p.alloc, &files.rename(&p.c, &p.sub));
+    note(out, p.alloc, &files.rename(&p.c, &p.a));
+    note_text(out, files, &p.link);
+}
+
+fn removes<F: Files>(out: &mut String, files: &mut F, p: &Paths) {
+    note(out, p.alloc, &files.remove(&p.link));
+    note(out, p.alloc, &files.kind(&p.link, false));
+    note(out, p.alloc, &files.kind(&p.a, false));
+    note(out, p.alloc, &files.remove(&p.missing));
+    note(out, p.alloc, &files.remove(&p.sub));
+    note(out, p.alloc, &files.failures());
+}
+
+fn makes_temporary<F: Files>(out: &mut String, files: &mut F, p: &Paths) {
+    if let Ok(first) = files.create_temp(&p.sub) {
+        if let Ok(second) = files.create_temp(&p.sub) {
+            note(out, p.alloc, &(first != second));
+            note(out, p.alloc, &first.starts_with(p.sub.as_str()));
+            note(out, p.alloc, &files.kind(&second, false));
+            note(out, p.alloc, &files.remove(&first));
+        }
+    }
+    note(out, p.alloc, &files.create_temp(&p.missing));
+    note(out, p.alloc, &files.create_temp(&p.a));
+}
+
+fn lists<F: Files>(out: &mut String, files: &mut F, p: &Paths) {
+    note(out, p.alloc, &files.link(&p.round, &p.round));
+    note(out, p.alloc, &files.canonical(&p.round));
+    note(out, p.alloc, &files.canonical(&p.missing));
+    if let Ok(path) = files.canonical(&p.sub) {
+        note(out, p.alloc, &(path == p.sub));
+    }
+    if let Ok(mut names) = files.list(&p.base) {
+        let _ = names.sort();
+        note(out, p.alloc, &names);
+    }
+    note(out, p.alloc, &files.list(&p.missing));
+    note(out, p.alloc, &files.list(&p.a));
+    note(out, p.alloc, &files.failures());
+}
+
+fn tries_making<F: Files>(out: &mut String, files: &mut F, p: &Paths) {
+    makes(out, files, p);
+    reads(out, files, p);
+    misses(out, files, p);
+    fails(out, files, p);
+}
+
+fn tries_moving<F: Files>(out: &mut String, files: &mut F, p: &Paths) {
+    links(out, files, p);
+    copies(out, files, p);
+    moves(out, files, p);
+    removes(out, files, p);
+}
+
+fn tries_listing<F: Files>(out: &mut String, files: &mut F, p: &Paths) {
+    makes_temporary(out, files, p);
+    lists(out, files, p);
 }
 
 #[test]
@@ -227,36 +264,37 @@ fn files_in_memory(rt: HostRuntime) -> Result<(), Fail> {
     let alloc = rt.alloc();
     let mut files = MemoryFiles::new(alloc);
     files.make_folders("/base")?;
+    let p = make_paths(alloc, "/base")?;
     let mut out = String::new(alloc);
-    tries_files(&mut out, alloc, &mut files, "/base")?;
-    assert_eq!(rt; out.as_str(), FILES);
+    tries_making(&mut out, &mut files, &p);
+    assert_eq!(rt; out.as_str(), MADE);
     out.clear();
-    tries_moves(&mut out, alloc, &mut files, "/base")?;
-    assert_eq!(rt; out.as_str(), MOVES);
+    tries_moving(&mut out, &mut files, &p);
+    assert_eq!(rt; out.as_str(), MOVED);
     out.clear();
-    tries_folders(&mut out, alloc, &mut files, "/base")?;
-    assert_eq!(rt; out.as_str(), FOLDERS);
+    tries_listing(&mut out, &mut files, &p);
+    assert_eq!(rt; out.as_str(), LISTED);
     Ok(())
 }
 
 #[test]
 fn files_of_the_system(rt: HostRuntime) -> Result<(), Fail> {
     let alloc = rt.alloc();
-    let id = process::id(rt.process());
-    let folder = env::temp_dir(&rt)?;
-    let folder = format!(in alloc; "{}/tough_files_{id}", folder.as_str())?;
+    let number = process::id(rt.process());
+    let parent = env::temp_dir(&rt)?;
+    let folder = format!(in alloc; "{}/tough_files_{number}", parent.display())?;
     fs::create_dir(&rt, folder.as_str())?;
     let mut files = OsFiles::new(rt.clone()?);
-    let base = files.canonical(&folder)?;
+    let p = make_paths(alloc, &files.canonical(&folder)?)?;
     let mut out = String::new(alloc);
-    tries_files(&mut out, alloc, &mut files, &base)?;
-    assert_eq!(rt; out.as_str(), FILES);
+    tries_making(&mut out, &mut files, &p);
+    assert_eq!(rt; out.as_str(), MADE);
     out.clear();
-    tries_moves(&mut out, alloc, &mut files, &base)?;
-    assert_eq!(rt; out.as_str(), MOVES);
+    tries_moving(&mut out, &mut files, &p);
+    assert_eq!(rt; out.as_str(), MOVED);
     out.clear();
-    tries_folders(&mut out, alloc, &mut files, &base)?;
-    assert_eq!(rt; out.as_str(), FOLDERS);
+    tries_listing(&mut out, &mut files, &p);
+    assert_eq!(rt; out.as_str(), LISTED);
     fs::remove_dir_all(&rt, folder.as_str())?;
     Ok(())
 }
