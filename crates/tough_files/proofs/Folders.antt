@@ -1,14 +1,13 @@
 -- Making a folder after the one above it.
-use Rattle.std.proofs.Common.{◌≡◌, ◌≢◌, ℕ, Bool, true, false, List, Option, Some, None, IsSome, is_some, ◌⊎◌, inl, inr, ⊎_elim, refl, sym, ap, subst, ◌∙◌, bytes_eq, cond, length, length-append, ◌<◌, ◌+◌, [], ◌∷◌, arith}
-use Rattle.std.specs.Map.{update}
+use Rattle.std.proofs.Common.{◌≡◌, ℕ, false, List, Option, Some, None, is_some, ◌⊎◌, inl, inr, ⊎_elim, refl, sym, ap, subst, ◌∙◌, bytes_eq, length, length-append, ◌<◌, ◌+◌, [], ◌∷◌, arith}
 use Rattle.std.specs.Path.{path_parent, path_components}
 use Rattle.std.proofs.lemmas.Paths.{path_components_parent}
 use Rattle.std.specs.Cmp.Lexicographic.{bytes_decides}
 use Rattle.std.proofs.lemmas.Bool.{cases_Bool, false≢true}
 use Rattle.tough_files.specs.declared.files.FilesError.{FilesError}
-use Rattle.tough_files.specs.declared.files.FilesError.TheVariants.{NotFound, Failed, Memory}
-use Rattle.tough_files.specs.Calls.{Answered, done, found, got, named, listed, refused}
-use Rattle.tough_files.specs.Contents.{Node, file, folder, link, Contents, Same, is_base, is_folder}
+use Rattle.tough_files.specs.declared.files.FilesError.TheVariants.{Failed, Memory}
+use Rattle.tough_files.specs.Calls.{Answered, done, refused}
+use Rattle.tough_files.specs.Contents.{Node, file, folder, link, Contents, Same, is_folder}
 use Rattle.tough_files.specs.Changes.{Outcome, Gives, IsAbove, itself, under, Grows, MakesFolders, folder_over, put}
 
 -- what a call gave, by whether it found memory

@@ -1,5 +1,5 @@
 -- Following links, a step at a time.
-use Rattle.std.proofs.Common.{◌≡◌, ◌-◌, ◌<◌, ℕ, zero, suc, List, Option, Some, None, arith, refl, ap}
+use Rattle.std.proofs.Common.{◌≡◌, ◌-◌, ◌<◌, ℕ, zero, suc, List, Option, Some, arith, refl, ap}
 use Rattle.tough_files.specs.Contents.{Contents, Node, link, past_link, follow}
 
 pub past : (n : ℕ) (contents : Contents) (path target : List ℕ) → 0 < n → contents path ≡ Some (link target) → follow n contents path ≡ follow (n - 1) contents target

@@ -1,5 +1,5 @@
 -- The names of a folder's entries, and what stands in the folder.
-use Rattle.std.proofs.Common.{◌≡◌, ℕ, Bool, true, false, cond, List, [], ◌∷◌, ◌++◌, Option, Some, None, Contains, IsSome, String, option_map, option_to_list, string_bytes, bytes_eq, is_eq, nat_cmp, arith, refl, sym, ap, subst, ◌∙◌, ◌⊎◌, inl, inr, ⊎_elim}
+use Rattle.std.proofs.Common.{◌≡◌, ℕ, Bool, true, false, cond, List, [], ◌∷◌, Option, Some, None, Contains, IsSome, String, option_map, option_to_list, string_bytes, is_eq, nat_cmp, arith, refl, sym, subst, ◌∙◌, ⊎_elim}
 use Rattle.std.specs.Cmp.Lexicographic.{slice_cmp, bytes_decides}
 use Rattle.std.specs.Map.{lookup}
 use Rattle.std.specs.BTreeMap.{is_at}

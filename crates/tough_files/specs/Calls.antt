@@ -2,7 +2,7 @@
 use Rattle.std.specs.Prelude.{ℕ, ◌+◌, ◌%◌, ◌^◌, Bool, List, [], ◌∷◌, map, take, Result, Ok, Err, Vec, String, string_bytes}
 use Rattle.tough_files.specs.declared.files.FileKind.{FileKind}
 use Rattle.tough_files.specs.declared.files.FilesError.{FilesError}
-use Rattle.tough_files.specs.declared.files.FilesError.TheVariants.{NotFound, Failed, Memory}
+use Rattle.tough_files.specs.declared.files.FilesError.TheVariants.{Failed, Memory}
 
 -- paths, contents and names are the bytes of their texts
 pub data Asked : Type 0 where

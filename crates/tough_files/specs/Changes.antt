@@ -1,5 +1,5 @@
 -- What each call answers, and what it leaves (the calls of POSIX, section "System Interfaces", over nodes at paths).
-use Rattle.std.specs.Prelude.{◌≡◌, ◌≢◌, ◌⊎◌, ℕ, Bool, true, false, ◌||◌, IsSome, Contains, List, [], ◌∷◌, ◌++◌, Option, Some, None, if◌then◌else◌, take, drop, bytes_eq, codes, decimal}
+use Rattle.std.specs.Prelude.{◌≡◌, ◌≢◌, ◌⊎◌, ℕ, Bool, false, ◌||◌, IsSome, Contains, List, [], ◌++◌, Option, Some, None, if◌then◌else◌, take, drop, bytes_eq, codes, decimal}
 use Rattle.std.specs.Map.{update}
 use Rattle.std.specs.Path.{path_join, path_parent, path_file_name}
 use Rattle.tough_files.specs.declared.files.FileKind.TheVariants.{File, Folder, Link}

@@ -1,5 +1,5 @@
 -- The nodes that files in memory keep, as contents.
-use Rattle.std.specs.Prelude.{List, [], ◌∷◌, ◌++◌, ℕ, Option, None, Some, option_map, option_to_list, String, string_bytes}
+use Rattle.std.specs.Prelude.{List, [], ◌∷◌, ◌++◌, ℕ, option_map, option_to_list, String, string_bytes}
 use Rattle.std.specs.BTreeMap.{get_by_text}
 use Rattle.tough_files.specs.declared.tree.Stored.{Stored}
 use Rattle.tough_files.specs.declared.tree.Stored.TheVariants.{File, Folder, Link}

@@ -1,4 +1,4 @@
-use Rattle.std.proofs.Common.{◌≡◌, subst, ◌∙◌}
+use Rattle.std.proofs.Common.{◌≡◌, subst}
 use Rattle.tough_files.specs.Calls.{done_or}
 use Rattle.tough_files.specs.Contents.{followed}
 use Rattle.tough_files.specs.Changes.{Gives, copy_over}
