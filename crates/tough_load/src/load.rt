@@ -15,13 +15,13 @@ ghost use Rattle.tough_load.specs.Asking.{IsStep, IsFetch};
 ghost use Rattle.tough_load.specs.Loading.{Reaches, Ends, Gives, Walks};
 ghost use Rattle.tough_load.specs.Running.{CanPoll};
 
-use crate::clock::Clock;
 use crate::keeper::Keeper;
 use crate::steps::take_step;
 use futures::task::{Context, Poll};
 use futures::{Future, ready};
 use std::alloc::{AllocError, Global};
 use tough_client::{Answer, Ask, Core, Error, Fault, Loaded, Request};
+use tough_disk::Clock;
 use tough_net::{Collect, Transport, TransportError, fetch_whole};
 use tough_roles::Verify;
 use tough_vault::Receipt;
@@ -96,7 +96,7 @@ fn start<T: Transport>(
     }
 }
 
-impl<T: Transport, K: Keeper, C: Clock, V: Verify + Drop> Load<T, K, C, V> {
+impl<T: Transport, K: Keeper, C: Clock + Drop, V: Verify + Drop> Load<T, K, C, V> {
     ghost use Rattle.tough_load.specs.Words.{core_of};
 
     /// The machine, which stands also after the load is ready.
@@ -218,7 +218,7 @@ impl<T: Transport, K: Keeper, C: Clock, V: Verify + Drop> Load<T, K, C, V> {
     }
 }
 
-impl<T: Transport, K: Keeper, C: Clock, V: Verify + Drop> Future for Load<T, K, C, V> {
+impl<T: Transport, K: Keeper, C: Clock + Drop, V: Verify + Drop> Future for Load<T, K, C, V> {
     type Output = Result<Loaded, Error>;
 
     ghost can_poll = { λ m. CanPoll T.Stream.can_poll m.fetch };
