@@ -1,2 +1,3 @@
 pub mod Trails
 pub mod Loads
+pub mod Trusts

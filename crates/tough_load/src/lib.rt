@@ -2,6 +2,7 @@
 #![tactic(auto)]
 
 mod keeper;
+pub mod laws;
 mod load;
 mod steps;
 
