@@ -1,7 +1,7 @@
 use crate::role_type::RoleType;
 use std::alloc::AllocError;
-use tough_base::TargetName;
 use thiserror::Error as ThisError;
+use tough_base::TargetName;
 
 /// Why a role isn't verified, or a query of a tree of targets has no answer.
 #[derive(Debug, Drop, ThisError)]
