@@ -18,6 +18,8 @@ pub data Failure : Type 0 where
   ParseMetadata : RoleType → Failure
   -- so many new roots were met
   MaxUpdatesExceeded : ℕ → Failure
+  -- the base URL can't be parsed
+  ParseUrl : Failure
   -- the file's name can't be joined to the base URL
   JoinUrl : Failure
   -- the file couldn't be fetched
@@ -34,6 +36,7 @@ failure_of (error.ParseTrustedMetadata source) = ParseTrustedMetadata
 failure_of (error.VerifyTrustedMetadata source) = VerifyTrustedMetadata (refused source)
 failure_of (error.ParseMetadata role source) = ParseMetadata role
 failure_of (error.MaxUpdatesExceeded n) = MaxUpdatesExceeded n
+failure_of (error.ParseUrl source) = ParseUrl
 failure_of (error.JoinUrl path source) = JoinUrl
 failure_of (error.Transport source) = Transport
 failure_of (error.SystemTimeSteppedBackward now later) = Checked (check.SystemTimeSteppedBackward now.nanosecond later.nanosecond)

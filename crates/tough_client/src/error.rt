@@ -39,6 +39,12 @@ pub enum Error {
         /// The limit.
         max_root_updates: u64,
     },
+    /// A base URL can't be parsed.
+    #[error("Failed to parse a URL: {source}")]
+    ParseUrl {
+        /// What was wrong.
+        source: ParseError,
+    },
     /// A file's name can't be joined to the base URL.
     #[error("Failed to join '{path}' to the base URL: {source}")]
     JoinUrl {
