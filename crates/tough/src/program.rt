@@ -1,0 +1,156 @@
+//! The program `tough`.
+
+use crate::Error;
+use std::alloc::{AllocError, AllocGlobal, Global};
+use std::io::{self, Read, Write};
+use std::random::RandomSource;
+use std::{fs, rt};
+use tough_load::{DirStore, Loaded, RepositoryLoader, SystemClock, drive};
+use tough_net::FilesystemTransport;
+use tough_roles::DemoVerify;
+use tough_vault::Vault;
+use url::{ParseError, Url};
+
+const WARNING: &str = "tough: demo verifier, signatures prove nothing";
+
+const LOAD: &str = "usage: tough load ROOT METADATA TARGETS STORE";
+
+const GET: &str = "usage: tough get ROOT METADATA TARGETS STORE NAME OUTDIR";
+
+// Why a run failed.
+#[derive(Drop)]
+enum Fault {
+    /// The root couldn't be read.
+    FileRead(io::Error),
+    /// The load couldn't be begun, or refused.
+    Load(Error),
+}
+
+impl From<AllocError> for Fault {
+    ghost from_gives = { λ _ _. ⊤ };
+
+    fn from(_: AllocError) -> Fault {
+        Fault::Load(Error::Memory)
+    }
+}
+
+// The URL of a word.
+fn url(alloc: Global, word: &str) -> Result<Url, Fault> {
+    match Url::parse(alloc, word) {
+        Ok(url) => Ok(url),
+        Err(ParseError::OutOfMemory) => Err(Fault::Load(Error::Memory)),
+        Err(source) => Err(Fault::Load(Error::ParseUrl { source })),
+    }
+}
+
+// The bytes of a file.
+fn read_file(files: &impl rt::Files, alloc: Global, path: &str) -> io::Result<Vec<u8>> {
+    let mut file = fs::open(files, path)?;
+    let mut bytes = Vec::new(alloc);
+    file.read_to_end(&mut bytes)?;
+    Ok(bytes)
+}
+
+// Loads a repository from files into a folder.
+fn load<R>(
+    rt: &R,
+    root: &str,
+    metadata: &str,
+    targets: &str,
+    store: &str,
+) -> Result<Loaded, Fault>
+where
+    R: rt::Files + rt::Clock + RandomSource + AllocGlobal + Clone + Drop,
+{
+    let alloc = rt.alloc();
+    let metadata = url(alloc, metadata)?;
+    let targets = url(alloc, targets)?;
+    let bytes = match read_file(rt, alloc, root) {
+        Ok(bytes) => bytes,
+        Err(error) => return Err(Fault::FileRead(error)),
+    };
+    let folder = String::from_str(alloc, store)?;
+    let mut vault = Vault::new(alloc, DirStore::new(rt.clone()?, folder));
+    let loader = RepositoryLoader::new(alloc, bytes.as_slice(), metadata, targets)
+        .transport(FilesystemTransport::new(rt.clone()?))
+        .verifier(DemoVerify)
+        .clock(SystemClock::new(rt.clone()?))
+        .keeper(&mut vault);
+    let mut load = match loader.load() {
+        Ok(load) => load,
+        Err(error) => return Err(Fault::Load(error)),
+    };
+    match drive(rt, &mut load) {
+        Ok(Ok(loaded)) => Ok(loaded),
+        Ok(Err(error)) => Err(Fault::Load(error)),
+        Err(_) => Err(Fault::Load(Error::Memory)),
+    }
+}
+
+// The versions of what was loaded.
+fn print<O: Write>(out: &mut O, loaded: &Loaded) -> io::Result<()> {
+    writeln!(out, "root {}", loaded.known.root.signed.version)?;
+    writeln!(out, "timestamp {}", loaded.known.timestamp.signed.version)?;
+    writeln!(out, "snapshot {}", loaded.known.snapshot.signed.version)?;
+    writeln!(out, "targets {}", loaded.targets.signed.version)
+}
+
+// Tells why a run failed.
+fn tell<E: Write>(err: &mut E, fault: &Fault) -> io::Result<()> {
+    match fault {
+        Fault::FileRead(error) => writeln!(err, "tough: Failed to read the root: {error}"),
+        Fault::Load(error) => writeln!(err, "tough: {error}"),
+    }
+}
+
+// Runs the words, and tells whether that succeeded.
+fn work<R, O, E>(rt: &R, words: &[String], out: &mut O, err: &mut E) -> io::Result<bool>
+where
+    R: rt::Files + rt::Clock + RandomSource + AllocGlobal + Clone + Drop,
+    O: Write,
+    E: Write,
+{
+    writeln!(err, "{WARNING}")?;
+    let [command, root, metadata, targets, store] = words else {
+        writeln!(err, "{LOAD}\n{GET}")?;
+        return Ok(false);
+    };
+    if command.as_str() != "load" {
+        writeln!(err, "{LOAD}\n{GET}")?;
+        return Ok(false);
+    }
+    match load(
+        rt,
+        root.as_str(),
+        metadata.as_str(),
+        targets.as_str(),
+        store.as_str(),
+    ) {
+        Ok(loaded) => {
+            print(out, &loaded)?;
+            Ok(true)
+        }
+        Err(fault) => {
+            tell(err, &fault)?;
+            Ok(false)
+        }
+    }
+}
+
+/// Runs the program on its words, without its name, over two writers, and answers its status: 0, or 1 where it failed.
+///
+/// `load ROOT METADATA TARGETS STORE` loads the repository whose metadata and targets lie at the two URLs (of the scheme `file`), from the
+/// root in the file ROOT into the folder STORE, and prints the versions of its root, timestamp, snapshot and targets, a line each. A fault
+/// is a line on `err`. Other words print how the program is used there. Each run first says there that its verifier proves nothing.
+pub fn run<R, O, E>(rt: &R, words: &[String], out: &mut O, err: &mut E) -> u8
+where
+    R: rt::Files + rt::Clock + RandomSource + AllocGlobal + Clone + Drop,
+    O: Write,
+    E: Write,
+{
+    match work(rt, words, out, err) {
+        Ok(true) => 0,
+        Ok(false) => 1,
+        Err(_) => 1,
+    }
+}

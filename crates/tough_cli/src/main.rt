@@ -1,0 +1,17 @@
+//! The program `tough`: loads a repository from files.
+#![tactic(auto)]
+
+use std::env;
+use std::io;
+use std::process;
+
+fn main(rt: HostRuntime) -> io::Result<()> {
+    let mut words = Vec::new(rt.alloc());
+    for word in env::args(&rt)?.skip(1) {
+        words.push(word)?;
+    }
+    let mut out = io::stdout(&rt);
+    let mut err = io::stderr(&rt);
+    let status = tough::run(&rt, words.as_slice(), &mut out, &mut err);
+    process::exit(&rt, status)
+}
