@@ -4,11 +4,23 @@
 #![tactic(auto)]
 
 pub mod error;
+mod program;
 pub mod schema;
 
 pub use error::Error;
-pub use tough_base::{NameError, SafeUrlPath, TargetName, encode_filename};
+pub use program::run;
+pub use tough_base::{
+    FileKind, Files, FilesError, MemoryFiles, NameError, OsFiles, SafeUrlPath, TargetName,
+    encode_filename,
+};
 pub use tough_client::{
-    Entry, ExpirationEnforcement, ListedVersion, MemoryStore, Receipt, Refusal, SnapshotVersions,
-    StepError, Store, StoreError, TimestampVersions, Tip, Vault,
+    Answer, Ask, Clock, Core, DirStore, DocumentName, Entry, ExpirationEnforcement, Fault, Keeper,
+    Limits, ListedVersion, Load, MemoryStore, Receipt, Refusal, Repository, RepositoryLoader,
+    Request, SnapshotVersions, StepError, Store, StoreError, SystemClock, TimestampVersions, Tip,
+    Vault, drive,
+};
+pub use tough_net::{
+    Cause, Collect, DigestCheck, FilesystemTransport, HttpError, IntoVec, MaxSize,
+    MemoryTransport, RetryCore, Transport, TransportError, TransportErrorKind, TransportStream,
+    fetch_max_size, fetch_sha256, fetch_whole,
 };

@@ -1,14 +1,15 @@
 //! The program `tough`.
 
+ghost use Rattle.std.specs.Prelude.{⊤};
+
 use crate::Error;
 use std::alloc::{AllocError, AllocGlobal, Global};
 use std::io::{self, Read, Write};
 use std::random::RandomSource;
 use std::{fs, rt};
-use tough_load::{DirStore, Loaded, RepositoryLoader, SystemClock, drive};
+use tough_client::{DirStore, Repository, RepositoryLoader, SystemClock, Vault, drive};
 use tough_net::FilesystemTransport;
-use tough_roles::DemoVerify;
-use tough_vault::Vault;
+use tough_schema::DemoVerify;
 use url::{ParseError, Url};
 
 const WARNING: &str = "tough: demo verifier, signatures prove nothing";
@@ -58,7 +59,7 @@ fn load<R>(
     metadata: &str,
     targets: &str,
     store: &str,
-) -> Result<Loaded, Fault>
+) -> Result<Repository, Fault>
 where
     R: rt::Files + rt::Clock + RandomSource + AllocGlobal + Clone + Drop,
 {
@@ -88,11 +89,11 @@ where
 }
 
 // The versions of what was loaded.
-fn print<O: Write>(out: &mut O, loaded: &Loaded) -> io::Result<()> {
-    writeln!(out, "root {}", loaded.known.root.signed.version)?;
-    writeln!(out, "timestamp {}", loaded.known.timestamp.signed.version)?;
-    writeln!(out, "snapshot {}", loaded.known.snapshot.signed.version)?;
-    writeln!(out, "targets {}", loaded.targets.signed.version)
+fn print<O: Write>(out: &mut O, loaded: &Repository) -> io::Result<()> {
+    writeln!(out, "root {}", loaded.root().signed.version)?;
+    writeln!(out, "timestamp {}", loaded.timestamp().signed.version)?;
+    writeln!(out, "snapshot {}", loaded.snapshot().signed.version)?;
+    writeln!(out, "targets {}", loaded.targets().signed.version)
 }
 
 // Tells why a run failed.

@@ -4,8 +4,9 @@ pub use tough_base::{
     CjsonError, Decode, DecodeError, Decoded, EcdsaFlex, EcdsaPem, Encode, Hex, PathHashPrefix,
     PathPattern, PatternError, RsaPem, canonical,
 };
-pub use tough_roles::{
-    DemoSign, DemoVerify, EcdsaKey, EcdsaScheme, Ed25519Key, Ed25519Scheme, Error, Hashes, Key,
-    Metafile, ReadError, Role, RoleKeys, RoleType, Root, RsaKey, RsaScheme, Sign, SignError,
-    Signature, Signed, Snapshot, Timestamp, Verify, WriteError, canonical_form,
+pub use tough_schema::{
+    DelegatedRole, DelegatedTargets, Delegations, DemoSign, DemoVerify, EcdsaKey, EcdsaScheme,
+    Ed25519Key, Ed25519Scheme, Error, Hashes, Key, KeyParseError, Metafile, PathSet, ReadError,
+    Role, RoleKeys, RoleType, Root, RsaKey, RsaScheme, Sign, SignError, Signature, Signed,
+    Snapshot, Target, Targets, Timestamp, Verify, WriteError, canonical_form,
 };

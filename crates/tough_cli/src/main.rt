@@ -3,9 +3,9 @@
 
 use std::env;
 use std::io;
-use std::process;
+use std::process::ExitCode;
 
-fn main(rt: HostRuntime) -> io::Result<()> {
+fn main(rt: HostRuntime) -> io::Result<ExitCode> {
     let mut words = Vec::new(rt.alloc());
     for word in env::args(&rt)?.skip(1) {
         words.push(word)?;
@@ -13,5 +13,5 @@ fn main(rt: HostRuntime) -> io::Result<()> {
     let mut out = io::stdout(&rt);
     let mut err = io::stderr(&rt);
     let status = tough::run(&rt, words.as_slice(), &mut out, &mut err);
-    process::exit(&rt, status)
+    Ok(ExitCode::from(status))
 }

@@ -1,8 +1,3 @@
-pub mod Walking
-pub mod Sound
-pub mod Whole
-pub mod Rotated
-pub mod Settling
-pub mod Alike
+pub mod Trails
 pub mod Loads
-pub mod Clears
+pub mod Trusts

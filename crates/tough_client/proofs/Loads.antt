@@ -1,166 +1,87 @@
--- Documents that are served are loaded.
-use Rattle.std.specs.Prelude.{◌≡◌, ℕ, ℤ, ◌+◌, ◌-◌, ◌^◌, ◌<◌, ◌==◌, List, [], ◌∷◌, Option, Some, None, Bool, true, false, not, nat_lt, Result, Ok, Err, if◌then◌else◌}
-use Rattle.std.proofs.Common.{refl, sym, ◌∙◌, ap, subst, arith}
-use Rattle.std.proofs.lemmas.Bool.{eq-eqb, lt-ltb}
-use Rattle.std.proofs.Math.Nat.{sub_self}
-use Rattle.serde_json.specs.Data.{Data}
+-- How what a load may come to follows from one step of it.
+use Rattle.std.specs.Prelude.{◌≡◌, ℕ, List, [], ◌∷◌, Result, Ok, Option, Some, None, IfSome, IsSome, Vec, option_map}
+use Rattle.std.specs.declared.alloc.Global.{Global}
+use Rattle.std.proofs.Common.{refl, sym, inl, inr, subst}
+use Rattle.url.specs.Parts.{Parts}
+use Rattle.futures.specs.Runs.{Runs, Within}
 use Rattle.tough_keys.specs.Same.{Verifies}
-use Rattle.tough_roles.specs.Signature.{SignedDoc}
-use Rattle.tough_roles.specs.Root.{RootDoc, root_json}
-use Rattle.tough_roles.specs.Timestamp.{MetafileDoc}
-use Rattle.tough_roles.specs.Policy.{policy}
-use Rattle.tough_roles.specs.Verdict.{Refused, verdict}
-use Rattle.tough_roles.specs.Chain.{ReachesUnder, text_by}
-use Rattle.tough_roles.specs.declared.role_type.RoleType.{RoleType}
-use Rattle.tough_roles.specs.declared.role_type.RoleType.TheVariants as role
-use Rattle.tough_roles.proofs.Reached.{reaches-to}
-use Rattle.tough_schema.specs.Targets.{TargetsDoc, targets_json}
-use Rattle.tough_vault.specs.Checks.{VerifyMetadata, VersionMismatch, ExpiredMetadata, is_expired}
-use Rattle.tough_vault.specs.Documents.{timestamp_in, snapshot_in, metafile_in}
-use Rattle.tough_vault.specs.Files.{snapshot_file, targets_file}
-use Rattle.tough_client.specs.Failure.{Failure, ParseTrustedMetadata, VerifyTrustedMetadata, ParseMetadata, MaxUpdatesExceeded, Checked}
-use Rattle.tough_client.specs.Walk.{if_read, if_verified, root_in, root_verdict, first_root}
-use Rattle.tough_client.specs.Outcomes.{unless, and_then}
-use Rattle.tough_client.specs.Requests.{RequestDoc, root_request, timestamp_request, snapshot_request, targets_request}
-use Rattle.tough_client.specs.Rotation.{is_rotated}
-use Rattle.tough_client.specs.Listed.{targets_in, targets_verdict, lists_roles, bare_targets}
-use Rattle.tough_client.specs.Stages.{WalkDoc, BaseDoc, LoadedDoc, StageDoc, SettingDoc, CoreDoc}
-use Rattle.tough_client.specs.Stages as at
-use Rattle.tough_client.specs.Questions as ask
-use Rattle.tough_client.specs.Answered.{NotFound, AnswerDoc}
-use Rattle.tough_client.specs.Answered as got
-use Rattle.tough_client.specs.Machine.{question, question_at, answered, settled, stage_after, walked, began, base_of, walk_ended, want_snapshot, known_of, want_targets, targets_checked, accepted_targets, new_targets}
-use Rattle.tough_client.specs.Runs.{run, IsFresh}
-use Rattle.tough_client.specs.Loadable.{Files, Gets, Honest, AllHonest, Loadable}
-use Rattle.tough_client.proofs.Alike.{not-rotated}
+use Rattle.tough_vault.specs.declared.entry.Receipt.{Receipt}
+use Rattle.tough_vault.specs.declared.checks.StepError.{StepError}
+use Rattle.tough_net.specs.declared.error.TransportError.{TransportError}
+use Rattle.tough_net.specs.declared.collect.Collect.{Collect}
+use Rattle.tough_net.specs.Items.{Item}
+use Rattle.tough_net.specs.Collecting.{Bounds, Collects, collected, bounds_of, held_by}
+use Rattle.tough_net.proofs.CollectLemmas.{Collects-Within}
+use Rattle.tough_update.specs.Requests.{RequestDoc}
+use Rattle.tough_update.specs.Failure.{Failure}
+use Rattle.tough_update.specs.Stages.{LoadedDoc, CoreDoc, Taken}
+use Rattle.tough_update.specs.Questions.{Question}
+use Rattle.tough_update.specs.Questions as ask
+use Rattle.tough_update.specs.Answered.{AnswerDoc}
+use Rattle.tough_update.specs.Machine.{question}
+use Rattle.tough_update.specs.Promises.{Goes, ended}
+use Rattle.tough_client.specs.Acts.{Act}
+use Rattle.tough_client.specs.Fetching.{Comes, Fetches, IsStarted, answer_of, bounds}
+use Rattle.tough_client.specs.Loading.{StepsAt, Allows, Leads, Reaches, Ends, Gives}
 
-signed-ok : {A : Type 0} (v : Verifies) (holder : RootDoc) (type : RoleType) (json : A → Option Data) (d : SignedDoc A) → ReachesUnder v holder type json d
-    → verdict v (policy holder type) (text_by json d.role) d.signatures ≡ Ok (tt {0})
-signed-ok v holder type json d r =
-    ap (λ p. verdict v p (text_by json d.role) d.signatures) r.there ∙ (ap (λ t. verdict v (Some r.asked) t d.signatures) r.canonical ∙ reaches-to v r.asked r.text d.signatures r.reached)
+module _ {T S K : Type 0} (refuses : T → Parts → TransportError → Type 0) (serves : T → Parts → Runs Item) (keeps : Verifies → K → Act → Result Receipt StepError → K → Type 0) (yields : S → Runs Item)
+    (verifies : Verifies) (base : Parts) (t : T) where
+  -- a poll of the fetch that is pending
+  pub Reaches_pending : (fetch : Option (Collect S)) (f f' : Collect S) (c : CoreDoc) (k : K) (c' : CoreDoc) (k' : K)
+      → fetch ≡ Some f → ((r : Result (Vec ℕ Global) TransportError) → Comes yields f' r → Comes yields f r)
+      → Reaches refuses serves keeps yields verifies base t (Some f') c k c' k' → Reaches refuses serves keeps yields verifies base t fetch c k c' k'
+  Reaches_pending fetch f f' c k c' k' is same h = rw is (h.0, h.1, h.2, same h.0 h.3, h.4, h.5)
 
-gets-bytes : (o : Option (List ℕ)) (bytes : List ℕ) → o ≡ Some bytes → (x : AnswerDoc) → Gets o x → x ≡ got.Bytes bytes
-gets-bytes o bytes e x h = subst (λ p. Gets p x) e h
+  -- the fetch is done
+  pub Reaches_came : (fetch : Option (Collect S)) (f : Collect S) (outcome : Result (Vec ℕ Global) TransportError) (a : AnswerDoc) (c next : CoreDoc) (k : K) (c' : CoreDoc) (k' : K)
+      → fetch ≡ Some f → Comes yields f outcome → a ≡ answer_of outcome → Goes verifies c a next
+      → Reaches refuses serves keeps yields verifies base t None next k c' k' → Reaches refuses serves keeps yields verifies base t fetch c k c' k'
+  Reaches_came fetch f outcome a c next k c' k' is came e goes h = rw is (outcome, next, h.0, came, subst (λ x. Goes verifies c x next) e goes, h.1)
 
-gets-none : (o : Option (List ℕ)) → o ≡ None → (x : AnswerDoc) → Gets o x → x ≡ got.NotStarted NotFound
-gets-none o e x h = subst (λ p. Gets p x) e h
+  -- an answer without a fetch that runs
+  pub Reaches_answer : (fetch : Option (Collect S)) (a : AnswerDoc) (c next : CoreDoc) (k l : K) (c' : CoreDoc) (k' : K)
+      → fetch ≡ None → Allows refuses serves keeps yields verifies base t (question c) k a l → Goes verifies c a next
+      → Reaches refuses serves keeps yields verifies base t fetch next l c' k' → Reaches refuses serves keeps yields verifies base t fetch c k c' k'
+  Reaches_answer fetch a c next k l c' k' is allowed goes = rw is (λ h. (a ∷ h.0, (next, l, allowed, goes, h.1)))
 
-none-first : (n limit : ℕ) → 0 < limit → nat_lt (n - n) limit ≡ true
-none-first n limit h = ap (λ k. nat_lt k limit) (sub_self n) ∙ lt-ltb 0 limit h
+  allows-at : (q : Question) (k : K) (a : AnswerDoc) (next : K) → StepsAt keeps verifies q k a next → Allows refuses serves keeps yields verifies base t q k a next
+  allows-at ask.Moment k a next h = absurd h
+  allows-at (ask.Fetch r) k a next h = absurd h
+  allows-at (ask.NoteTime now) k a next h = h
+  allows-at (ask.PutRoot root) k a next h = h
+  allows-at ask.ClearRotated k a next h = h
+  allows-at (ask.AdvanceTimestamp root d start enforced) k a next h = h
+  allows-at (ask.AdvanceSnapshot root listed d start enforced) k a next h = h
+  allows-at (ask.PutTargets d) k a next h = h
+  allows-at ask.Ready k a next h = absurd h
 
-not-equal : (m n : ℕ) → m < n → (m == n) ≡ false
-not-equal m n h = grind (arith, h)
+  pub step-allows : (p q : Question) (k : K) (a : AnswerDoc) (next : K) → p ≡ q → StepsAt keeps verifies p k a next → Allows refuses serves keeps yields verifies base t q k a next
+  step-allows p q k a next is h = allows-at q k a next (subst (λ (x : Question). StepsAt keeps verifies x k a next) is h)
 
-module _ (v : Verifies) (files : Files) (s : SettingDoc) (l : LoadedDoc) (able : Loadable v files s l) where
-  abbrev in_stage : StageDoc → CoreDoc
-  in_stage st = record { setting = s; stage = st }
+  -- a fetch begins
+  pub Reaches_started : (fetch : Option (Collect S)) (f : Collect S) (r : RequestDoc) (c : CoreDoc) (k : K) (c' : CoreDoc) (k' : K)
+      → fetch ≡ None → question c ≡ ask.Fetch r → IsStarted serves yields t base r f
+      → Reaches refuses serves keeps yields verifies base t (Some f) c k c' k' → Reaches refuses serves keeps yields verifies base t fetch c k c' k'
+  Reaches_started fetch f r c k c' k' is asked s h =
+      let came : Collects (bounds s.url r) (yields (collected f)) [] h.0 = subst (λ (x : List ℕ). Collects (bounds s.url r) (yields (collected f)) x h.0) s.fresh (subst (λ (b : Bounds). Collects b (yields (collected f)) (held_by f) h.0) s.asked h.3) in
+      let served = Collects-Within (bounds s.url r) (serves t s.url) (yields (collected f)) [] s.served h.0 came in
+      rw is (answer_of h.0 ∷ h.2, (h.1, k, rw asked (inr (inr (s.url, s.joined, inr (h.0, refl, served))), refl), h.4, h.5))
 
-  -- honest answers lead from here to the documents
-  abbrev pub Leads : StageDoc → Type 0
-  Leads st = (answers : List AnswerDoc) → AllHonest v files l.known.start (in_stage st) answers → question (run v (in_stage st) answers) ≡ ask.Ready → (run v (in_stage st) answers).stage ≡ at.Done (Ok l)
+  -- nothing more is asked
+  pub Ends_ready : {X : Type 0} (view : X → Result LoadedDoc Failure) (fetch : Option (Collect S)) (c left : CoreDoc) (k : K) (o : Option X)
+      → fetch ≡ None → option_map view o ≡ ended c.stage → (IsSome o → left ≡ record { setting = c.setting; stage = Taken })
+      → IfSome o (λ r. Ends refuses serves keeps yields verifies base t fetch c k (view r) left k)
+  Ends_ready view fetch c left k None is e l = tt
+  Ends_ready view fetch c left k (Some r) is e l = (c, rw is ([], (refl, refl)), sym e, l refl)
 
-  leads-turn : (st next : StageDoc) (a : AnswerDoc) → (question_at s.enforced st ≡ ask.Ready → ⊥) → ((x : AnswerDoc) → Honest files l.known.start (question_at s.enforced st) x → x ≡ a)
-      → settled (stage_after v s st a) ≡ next → Leads next → Leads st
-  leads-turn st next a busy only moves go [] h ready = absurd (busy ready)
-  leads-turn st next a busy only moves go (x ∷ rest) h ready =
-      subst (λ y. Leads y) (sym (ap (λ y. settled (stage_after v s st y)) (only x h.0) ∙ moves)) go rest h.1 ready
+  module _ (fetch later : Option (Collect S)) (c d : CoreDoc) (k l : K)
+      (follows : (c' : CoreDoc) (k' : K) → Reaches refuses serves keeps yields verifies base t later d l c' k' → Reaches refuses serves keeps yields verifies base t fetch c k c' k') where
+    pub Ends-follows : (r : Result LoadedDoc Failure) (left : CoreDoc) (kept : K) → Ends refuses serves keeps yields verifies base t later d l r left kept → Ends refuses serves keeps yields verifies base t fetch c k r left kept
+    Ends-follows r left kept h = (h.0, follows h.0 kept h.1, h.2, h.3)
 
-  leads-done : Leads (at.Done (Ok l))
-  leads-done [] h ready = refl
-  leads-done (x ∷ rest) h ready = absurd h.0
+    pub Gives-follows : (r : Result LoadedDoc Failure) → Gives refuses serves keeps yields verifies base t later d l r → Gives refuses serves keeps yields verifies base t fetch c k r
+    Gives-follows r h = (h.0, h.1, Ends-follows r h.0 h.1 h.2)
 
-  abbrev walk : WalkDoc
-  walk = record { start = l.known.start; first = l.known.root; last = l.known.root }
-
-  abbrev base : BaseDoc
-  base = record { start = l.known.start; root = l.known.root }
-
-  leads-put_targets : Leads (at.PutTargets l.known l.targets)
-  leads-put_targets = leads-turn (at.PutTargets l.known l.targets) (at.Done (Ok l)) (got.Step (Ok (tt {0}))) (λ e. cc) (λ x h. h) refl leads-done
-
-  taken : (bytes : List ℕ) → targets_in bytes ≡ Some l.targets → bare_targets bytes ≡ Ok l.targets
-  taken bytes h =
-      ap (λ o. if_read (ParseMetadata role.Targets) o (λ d. unless (ParseMetadata role.Targets) (not (lists_roles d.role.delegations)) (Ok d))) h
-      ∙ ap (λ b. unless (ParseMetadata role.Targets) (not b) (Ok l.targets)) able.no_roles
-
-  checked : targets_checked v s.enforced l.known able.targets_entry.version l.targets ≡ Ok (tt {0})
-  checked =
-      let fault : Refused → Failure = λ r. Checked (VerifyMetadata role.Targets (Some r)) in
-      let expiring : Bool → Result Unit Failure = λ b. unless (Checked (ExpiredMetadata role.Targets)) (not b) (Ok (tt {0})) in
-      let versioned : Bool → Result Unit Failure = λ b. unless (Checked (VersionMismatch role.Targets l.targets.role.head.version able.targets_entry.version)) b (expiring (is_expired s.enforced l.known.start l.targets.role.head.expires)) in
-      ap (λ w. if_verified fault w (versioned (l.targets.role.head.version == able.targets_entry.version))) (signed-ok v l.known.root.role role.Targets targets_json l.targets able.targets_signed)
-      ∙ (ap versioned (eq-eqb _ _ able.targets_version) ∙ ap expiring able.targets_in_time)
-
-  moves-targets : new_targets v s.enforced l.known able.targets_entry.version able.targets.bytes ≡ Ok (at.PutTargets l.known l.targets)
-  moves-targets =
-      ap (λ r. and_then r (accepted_targets v s.enforced l.known able.targets_entry.version)) (taken able.targets.bytes able.targets.reading)
-      ∙ ap (λ r. and_then r (λ u. Ok (at.PutTargets l.known l.targets))) checked
-
-  abbrev targets_wanted : StageDoc
-  targets_wanted = at.FetchTargets l.known able.targets_entry.version (targets_request s.limits l.known.root.role.consistent_snapshot able.targets_entry)
-
-  leads-fetch_targets : Leads targets_wanted
-  leads-fetch_targets = leads-turn targets_wanted (at.PutTargets l.known l.targets) (got.Bytes able.targets.bytes) (λ e. cc)
-      (gets-bytes _ able.targets.bytes able.targets.served) (ap settled moves-targets) leads-put_targets
-
-  leads-put_snapshot : Leads (at.PutSnapshot l.known able.entry.version)
-  leads-put_snapshot = leads-turn (at.PutSnapshot l.known able.entry.version) targets_wanted (got.Step (Ok (tt {0}))) (λ e. cc) (λ x h. h)
-      (ap (λ o. settled (want_targets s.limits l.known o)) able.targets_listed) leads-fetch_targets
-
-  abbrev snapshot_wanted : StageDoc
-  snapshot_wanted = at.FetchSnapshot base l.known.timestamp able.entry.version (snapshot_request s.limits l.known.root.role.consistent_snapshot able.entry)
-
-  leads-fetch_snapshot : Leads snapshot_wanted
-  leads-fetch_snapshot = leads-turn snapshot_wanted (at.PutSnapshot l.known able.entry.version) (got.Bytes able.snapshot.bytes) (λ e. cc)
-      (gets-bytes _ able.snapshot.bytes able.snapshot.served)
-      (ap (λ o. settled (if_read (ParseMetadata role.Snapshot) o (λ d. Ok (at.PutSnapshot (known_of base l.known.timestamp d) able.entry.version)))) able.snapshot.reading)
-      leads-put_snapshot
-
-  leads-put_timestamp : Leads (at.PutTimestamp base l.known.timestamp)
-  leads-put_timestamp = leads-turn (at.PutTimestamp base l.known.timestamp) snapshot_wanted (got.Step (Ok (tt {0}))) (λ e. cc) (λ x h. h)
-      (ap (λ o. settled (want_snapshot s.limits base l.known.timestamp o)) able.listed) leads-fetch_snapshot
-
-  leads-fetch_timestamp : Leads (at.FetchTimestamp base (timestamp_request s.limits))
-  leads-fetch_timestamp = leads-turn (at.FetchTimestamp base (timestamp_request s.limits)) (at.PutTimestamp base l.known.timestamp) (got.Bytes able.timestamp.bytes) (λ e. cc)
-      (gets-bytes _ able.timestamp.bytes able.timestamp.served)
-      (ap (λ o. settled (if_read (ParseMetadata role.Timestamp) o (λ d. Ok (at.PutTimestamp base d)))) able.timestamp.reading)
-      leads-put_timestamp
-
-  leads-put_last : Leads (at.PutLast walk)
-  leads-put_last = leads-turn (at.PutLast walk) (at.FetchTimestamp base (timestamp_request s.limits)) (got.Step (Ok (tt {0}))) (λ e. cc) (λ x h. h)
-      (let cleared : Result StageDoc Failure = Ok (at.Clear base) in
-      let kept : Result StageDoc Failure = Ok (at.FetchTimestamp base (timestamp_request s.limits)) in
-      ap settled
-      (ap (λ b. unless (Checked (ExpiredMetadata role.Root)) (not b) (if is_rotated l.known.root.role l.known.root.role then cleared else kept)) able.root_in_time
-      ∙ ap (λ b. if b then cleared else kept) (not-rotated l.known.root.role)))
-      leads-fetch_timestamp
-
-  abbrev root_wanted : StageDoc
-  root_wanted = at.FetchRoot walk (root_request s.limits (l.known.root.role.head.version + 1))
-
-  leads-fetch_root : Leads root_wanted
-  leads-fetch_root = leads-turn root_wanted (at.PutLast walk) (got.NotStarted NotFound) (λ e. cc) (gets-none _ able.no_next) refl leads-put_last
-
-  first : first_root v s.trusted ≡ Ok l.known.root
-  first =
-      let fault : Refused → Failure = λ r. VerifyTrustedMetadata (Some r) in
-      ap (λ o. if_read ParseTrustedMetadata o (λ d. if_verified fault (root_verdict v d.role d) (Ok d))) able.root
-      ∙ ap (λ w. if_verified fault w (Ok l.known.root)) (signed-ok v l.known.root.role role.Root root_json l.known.root able.root_signed)
-
-  begins : walked s.limits walk ≡ Ok root_wanted
-  begins =
-      let ended : Result StageDoc Failure = Ok (at.PutLast walk) in
-      let more : Result StageDoc Failure = Ok root_wanted in
-      ap (λ b. unless (MaxUpdatesExceeded s.limits.max_root_updates) b (if l.known.root.role.head.version == 2 ^ 64 - 1 then ended else more)) (none-first l.known.root.role.head.version s.limits.max_root_updates able.one_update)
-      ∙ ap (λ b. if b then ended else more) (not-equal l.known.root.role.head.version (2 ^ 64 - 1) able.root_low)
-
-  leads-note_time : Leads (at.NoteTime l.known.start)
-  leads-note_time = leads-turn (at.NoteTime l.known.start) root_wanted (got.Step (Ok (tt {0}))) (λ e. cc) (λ x h. h)
-      (ap settled (ap (λ r. and_then r (λ root. walked s.limits (record { start = l.known.start; first = root; last = root }))) first ∙ begins)) leads-fetch_root
-
-  pub leads-moment : Leads at.Moment
-  leads-moment = leads-turn at.Moment (at.NoteTime l.known.start) (got.Moment l.known.start) (λ e. cc) (λ x h. h) refl leads-note_time
-
-pub loads : (v : Verifies) (c : CoreDoc) (files : Files) (l : LoadedDoc) (answers : List AnswerDoc) → IsFresh c → Loadable v files c.setting l → AllHonest v files l.known.start c answers
-    → question (run v c answers) ≡ ask.Ready → (run v c answers).stage ≡ at.Done (Ok l)
-loads v c files l answers fresh able h ready = subst (λ st. Leads v files c.setting l able st) (sym fresh) (leads-moment v files c.setting l able) answers h ready
+-- what holds at some parts holds at equal ones
+pub at_equal : {X Y Z : Type 0} (P : X → Y → Z → Type 0) (x x' : X) (y y' : Y) (z z' : Z) → x ≡ x' → y ≡ y' → z ≡ z' → P x y z → P x' y' z'
+at_equal P x x' y y' z z' e f g h = subst (λ w. P x' y' w) g (subst (λ w. P x' w z) f (subst (λ w. P w y z) e h))

@@ -1,29 +1,27 @@
-//! Laws over whole updates.
+//! What a load that succeeds promises.
 
-ghost use Rattle.std.specs.Prelude.{◌≡◌, List, Ok};
+ghost use Rattle.std.specs.Prelude.{◌≡◌, None, Ok, List};
+ghost use Rattle.url.specs.Parts.{Parts};
 ghost use Rattle.tough_keys.specs.Same.{Verifies};
-ghost use Rattle.tough_client.specs.Stages.{LoadedDoc, CoreDoc, Done};
-ghost use Rattle.tough_client.specs.Answered.{AnswerDoc};
-ghost use Rattle.tough_client.specs.Questions.{ClearRotated, Ready};
-ghost use Rattle.tough_client.specs.Machine.{question};
-ghost use Rattle.tough_client.specs.Loadable.{Files, AllHonest, Loadable};
-ghost use Rattle.tough_client.specs.Runs.{run, Along, IsFresh, Loaded, WasRotated};
+ghost use Rattle.tough_update.specs.Stages.{LoadedDoc, CoreDoc};
+ghost use Rattle.tough_update.specs.Answered.{AnswerDoc};
+ghost use Rattle.tough_update.specs.Runs.{IsFresh, Loaded};
+ghost use Rattle.tough_client.specs.Loading.{Gives};
 
-/// An update that succeeds gives documents that are trusted, whatever was answered.
-pub fn trusts()
-    ensures { (verifies : Verifies) (c : CoreDoc) (answers : List AnswerDoc) (l : LoadedDoc) → IsFresh c → Along verifies c answers → (run verifies c answers).stage ≡ Done (Ok l) → Loaded verifies c answers l }
-{}
+use crate::keeper::Keeper;
+use tough_update::laws::trusts;
+use tough_net::Transport;
 
-/// Documents without delegated roles that are served, and that vouch for one another, are loaded: with honest answers, an update that
-/// becomes ready ends with them.
-pub fn loads()
-    ensures { (verifies : Verifies) (c : CoreDoc) (files : Files) (l : LoadedDoc) (answers : List AnswerDoc) → IsFresh c → Loadable verifies files c.setting l → AllHonest verifies files l.known.start c answers → question (run verifies c answers) ≡ Ready → (run verifies c answers).stage ≡ Done (Ok l) }
-{}
-
-/// Timestamp and snapshot are forgotten only where the last root has other keys for them than the one that was handed in.
-pub fn clears()
-    ensures { (verifies : Verifies) (c : CoreDoc) (answers : List AnswerDoc) → IsFresh c → question (run verifies c answers) ≡ ClearRotated → WasRotated verifies c.setting.trusted }
-{}
+/// A load that succeeds gives documents that are trusted: a chain of roots from the bytes that were handed in ends in its root, under
+/// which timestamp, snapshot and targets reach their thresholds; each names the next; under `Safe` none of them had expired when the load
+/// noted the time; and the root after the last one was asked for. For every verifier, transport and keeper (TUF specification 5).
+pub fn loads_are_trusted<T: Transport, K: Keeper>()
+    ensures { (verifies : Verifies) (base : Parts) (t : T) (c : CoreDoc) (k : K) (l : LoadedDoc) → IsFresh c
+        → Gives T.refuses T.serves K.keeps T.Stream.yields verifies base t None c k (Ok l)
+        → (answers : List AnswerDoc) × Loaded verifies c answers l }
+{
+    trusts();
+}
 
 /// How many laws this file states.
-pub const LAWS: usize = 3;
+pub const LAWS: usize = 1;

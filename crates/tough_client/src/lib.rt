@@ -1,22 +1,22 @@
-//! The client's workflow (TUF specification 5): from the bytes of a trusted root to what it vouches for.
+//! Loads repositories (TUF specification 5): what is fetched, verified, compared and stored, in which order.
 #![tactic(auto)]
 
-mod error;
+mod driving;
+mod keeper;
 pub mod laws;
-mod limits;
-mod machine;
-mod request;
-mod rotation;
-mod stage;
-mod turns;
-mod walk;
+mod load;
+mod loader;
+mod steps;
 
-pub use error::Error;
-pub use limits::Limits;
-pub use machine::Core;
-pub use request::{Answer, Ask, Fault, Request};
-pub use stage::{Known, Loaded};
+pub use driving::drive;
+pub use keeper::Keeper;
+pub use load::Load;
+pub use loader::{RepositoryLoader, Unset};
+pub use tough_disk::{Clock, DirStore, SystemClock};
+pub use tough_update::{
+    Answer, Ask, Core, Error, Fault, Known, Limits, Loaded as Repository, Request,
+};
 pub use tough_vault::{
-    Entry, ExpirationEnforcement, ListedVersion, MemoryStore, Receipt, Refusal, SnapshotVersions,
-    StepError, Store, StoreError, TimestampVersions, Tip, Vault,
+    DocumentName, Entry, ExpirationEnforcement, ListedVersion, MemoryStore, Receipt, Refusal,
+    SnapshotVersions, StepError, Store, StoreError, TimestampVersions, Tip, Vault,
 };

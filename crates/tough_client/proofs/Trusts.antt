@@ -1,0 +1,118 @@
+-- A load that succeeds is a run of the machine that succeeds, on answers that keep their promises.
+use Rattle.std.specs.Prelude.{◌≡◌, ◌⊎◌, ◌≤◌, ℕ, List, [], ◌∷◌, length, Option, Some, None, IfSome, Bool, true, IsTrue, ◌&&◌, nat_le, Result, Ok, Err, ⊤}
+use Rattle.std.proofs.Common.{refl, sym, ap, ◌∙◌, subst, inl, inr, arith}
+use Rattle.std.proofs.lemmas.Bool.Decides.{nat_tests}
+use Rattle.std.proofs.lemmas.Slice.Eq.{bytes_eq-Decides}
+use Rattle.sha2.specs.Sha256.{sha256}
+use Rattle.url.specs.Parts.{Parts}
+use Rattle.futures.specs.Runs.{Runs}
+use Rattle.tough_keys.specs.Same.{Verifies}
+use Rattle.tough_vault.specs.declared.entry.Receipt.{Receipt}
+use Rattle.tough_vault.specs.declared.checks.StepError.{StepError}
+use Rattle.tough_net.specs.declared.error.TransportError.{TransportError}
+use Rattle.tough_net.specs.Items.{Item}
+use Rattle.tough_net.specs.Collecting.{Fits}
+use Rattle.tough_update.specs.Failure.{Failure, Memory}
+use Rattle.tough_update.specs.Requests.{RequestDoc, has_digest, fits_request}
+use Rattle.tough_update.specs.Stages.{LoadedDoc, StageDoc, CoreDoc}
+use Rattle.tough_update.specs.Stages as at
+use Rattle.tough_update.specs.Questions.{Question}
+use Rattle.tough_update.specs.Questions as ask
+use Rattle.tough_update.specs.Answered.{AnswerDoc}
+use Rattle.tough_update.specs.Answered as got
+use Rattle.tough_update.specs.Machine.{question, question_at, answered}
+use Rattle.tough_update.specs.Promises.{Goes, ended}
+use Rattle.tough_update.specs.Runs.{Keeps, run, Along}
+use Rattle.tough_client.specs.Acts.{Act, CheckedIfOk, AdvanceTimestamp, AdvanceSnapshot}
+use Rattle.tough_client.specs.Fetching.{Fetches, bounds}
+use Rattle.tough_client.specs.Loading.{Allows, Leads}
+
+both-true : (b c : Bool) → b ≡ true → c ≡ true → IsTrue (b && c)
+both-true true c h k = k
+both-true false c h k = absurd (cc (h))
+
+within : (n m : ℕ) → n ≤ m → nat_le n m ≡ true
+within n m h = grind (arith, nat_tests)
+
+digest-has : (o : Option (List ℕ)) (bytes : List ℕ) → IfSome o (λ d. sha256 bytes ≡ d) → has_digest o bytes ≡ true
+digest-has None bytes h = refl
+digest-has (Some d) bytes h = (bytes_eq-Decides (sha256 bytes) d).1 h
+
+fits-true : (url : Parts) (r : RequestDoc) (bytes : List ℕ) → Fits (bounds url r) bytes → IsTrue (fits_request r bytes)
+fits-true url r bytes h = both-true _ _ (within (length bytes) r.max_size h.0) (digest-has r.sha256 bytes h.1)
+
+pub done-at : (s : StageDoc) (r : Result LoadedDoc Failure) → ended s ≡ Some r → s ≡ at.Done r
+done-at at.Moment r h = absurd (cc (h))
+done-at (at.NoteTime n) r h = absurd (cc (h))
+done-at (at.FetchRoot w q) r h = absurd (cc (h))
+done-at (at.PutRoot w) r h = absurd (cc (h))
+done-at (at.PutLast w) r h = absurd (cc (h))
+done-at (at.Clear b) r h = absurd (cc (h))
+done-at (at.FetchTimestamp b q) r h = absurd (cc (h))
+done-at (at.PutTimestamp b t) r h = absurd (cc (h))
+done-at (at.FetchSnapshot b t n q) r h = absurd (cc (h))
+done-at (at.PutSnapshot k n) r h = absurd (cc (h))
+done-at (at.FetchTargets k n q) r h = absurd (cc (h))
+done-at (at.PutTargets k d) r h = absurd (cc (h))
+done-at (at.Done x) r h = cc (h)
+done-at at.Taken r h = absurd (cc (h))
+
+module _ {T S K : Type 0} (refuses : T → Parts → TransportError → Type 0) (serves : T → Parts → Runs Item) (keeps : Verifies → K → Act → Result Receipt StepError → K → Type 0) (yields : S → Runs Item)
+    (verifies : Verifies) (base : Parts) (t : T)
+    (checks : (old : K) (act : Act) (r : Result Receipt StepError) (new : K) → keeps verifies old act r new → CheckedIfOk verifies act r) where
+  fetched-fits : (r : RequestDoc) (bytes : List ℕ) → Fetches refuses serves t base r (got.Bytes bytes) → IsTrue (fits_request r bytes)
+  fetched-fits r bytes (inl h) = absurd (cc (h))
+  fetched-fits r bytes (inr (inl h)) = absurd (cc (h.1))
+  fetched-fits r bytes (inr (inr (url, is, inl h))) = absurd (cc (h.1))
+  fetched-fits r bytes (inr (inr (url, is, inr (Ok v, e, h)))) = subst (λ (b : List ℕ). IsTrue (fits_request r b)) (cc (e)) (fits-true url r v.items h.2.1)
+  fetched-fits r bytes (inr (inr (url, is, inr (Err x, e, h)))) = absurd (cc (e))
+
+  allowed-keeps : (q : Question) (k : K) (a : AnswerDoc) (next : K) → Allows refuses serves keeps yields verifies base t q k a next → Keeps verifies q a
+  allowed-keeps ask.Moment k a next h = tt
+  allowed-keeps (ask.Fetch r) k (got.Moment n) next h = tt
+  allowed-keeps (ask.Fetch r) k (got.Bytes bytes) next h = fetched-fits r bytes h.0
+  allowed-keeps (ask.Fetch r) k (got.NotStarted f) next h = tt
+  allowed-keeps (ask.Fetch r) k (got.Cut f) next h = tt
+  allowed-keeps (ask.Fetch r) k (got.Step x) next h = tt
+  allowed-keeps (ask.NoteTime now) k a next h = tt
+  allowed-keeps (ask.PutRoot root) k a next h = tt
+  allowed-keeps ask.ClearRotated k a next h = tt
+  allowed-keeps (ask.AdvanceTimestamp root d start enforced) k (got.Moment n) next h = tt
+  allowed-keeps (ask.AdvanceTimestamp root d start enforced) k (got.Bytes b) next h = tt
+  allowed-keeps (ask.AdvanceTimestamp root d start enforced) k (got.NotStarted f) next h = tt
+  allowed-keeps (ask.AdvanceTimestamp root d start enforced) k (got.Cut f) next h = tt
+  allowed-keeps (ask.AdvanceTimestamp root d start enforced) k (got.Step (Err f)) next h = tt
+  allowed-keeps (ask.AdvanceTimestamp root d start enforced) k (got.Step (Ok u)) next (inl (Ok r, e, h)) = checks k (AdvanceTimestamp root d start enforced) (Ok r) next h
+  allowed-keeps (ask.AdvanceTimestamp root d start enforced) k (got.Step (Ok u)) next (inl (Err r, e, h)) = absurd (cc (e))
+  allowed-keeps (ask.AdvanceTimestamp root d start enforced) k (got.Step (Ok u)) next (inr h) = absurd (cc (h.0))
+  allowed-keeps (ask.AdvanceSnapshot root listed d start enforced) k (got.Moment n) next h = tt
+  allowed-keeps (ask.AdvanceSnapshot root listed d start enforced) k (got.Bytes b) next h = tt
+  allowed-keeps (ask.AdvanceSnapshot root listed d start enforced) k (got.NotStarted f) next h = tt
+  allowed-keeps (ask.AdvanceSnapshot root listed d start enforced) k (got.Cut f) next h = tt
+  allowed-keeps (ask.AdvanceSnapshot root listed d start enforced) k (got.Step (Err f)) next h = tt
+  allowed-keeps (ask.AdvanceSnapshot root listed d start enforced) k (got.Step (Ok u)) next (inl (Ok r, e, h)) = checks k (AdvanceSnapshot root listed d start enforced) (Ok r) next h
+  allowed-keeps (ask.AdvanceSnapshot root listed d start enforced) k (got.Step (Ok u)) next (inl (Err r, e, h)) = absurd (cc (e))
+  allowed-keeps (ask.AdvanceSnapshot root listed d start enforced) k (got.Step (Ok u)) next (inr h) = absurd (cc (h.0))
+  allowed-keeps (ask.PutTargets d) k a next h = tt
+  allowed-keeps ask.Ready k a next h = tt
+
+  nothing-follows : (q : Question) (k : K) (a : AnswerDoc) (next : K) → q ≡ ask.Ready → Allows refuses serves keeps yields verifies base t q k a next → ⊥
+  nothing-follows q k a next is h = subst (λ (x : Question). Allows refuses serves keeps yields verifies base t x k a next) is h
+
+  -- where memory was wanting, that is how it ends
+  spent : (answers : List AnswerDoc) (c : CoreDoc) (k : K) (c' : CoreDoc) (k' : K) → c.stage ≡ at.Done (Err Memory)
+      → Leads refuses serves keeps yields verifies base t c k answers c' k' → c'.stage ≡ at.Done (Err Memory)
+  spent [] c k c' k' is h = ap (λ (d : CoreDoc). d.stage) h.0 ∙ is
+  spent (a ∷ rest) c k c' k' is h = absurd (nothing-follows (question c) k a h.1 (ap (question_at c.setting.enforced) is) h.2)
+
+  pub leads-run : (answers : List AnswerDoc) (c : CoreDoc) (k : K) (c' : CoreDoc) (k' : K) (l : LoadedDoc) → c'.stage ≡ at.Done (Ok l)
+      → Leads refuses serves keeps yields verifies base t c k answers c' k' → ((run verifies c answers).stage ≡ at.Done (Ok l)) × Along verifies c answers
+  leads-run [] c k c' k' l is h = (ap (λ (d : CoreDoc). d.stage) (sym h.0) ∙ is, tt)
+  leads-run (a ∷ rest) c k c' k' l is (mid, next, allowed, inl e, more) =
+      let r = leads-run rest mid next c' k' l is more in (
+        ap (λ (d : CoreDoc). (run verifies d rest).stage) (sym e) ∙ r.0,
+        allowed-keeps (question c) k a next allowed,
+        subst (λ (d : CoreDoc). Along verifies d rest) e r.1,
+      )
+  leads-run (a ∷ rest) c k c' k' l is (mid, next, allowed, inr e, more) =
+      absurd (cc (is, spent rest mid next c' k' (ap (λ (d : CoreDoc). d.stage) e) more))

@@ -1,0 +1,26 @@
+use Rattle.tough_roles.specs.Signature.{signed_doc}
+use Rattle.tough_roles.specs.Root.{root_doc}
+use Rattle.tough_roles.specs.Timestamp.{timestamp_doc}
+use Rattle.tough_roles.specs.Snapshot.{snapshot_doc}
+use Rattle.tough_vault.specs.Checks.{enforces}
+use Rattle.tough_client.specs.Acts.{NoteTime, PutRoot, ClearRotated, AdvanceTimestamp, AdvanceSnapshot}
+use Rattle.tough_client.proofs.Trails.{Walks_step}
+use Rattle.tough_client.proofs.steps.take_step.Goals as goal
+
+pub returns-in-NoteTime-clause-walked : goal.returns-in-NoteTime-clause-walked
+returns-in-NoteTime-clause-walked g c = Walks_step g.K.Keeper.keeps (g.V.Verify.verifies c.args.verifier.now) c.args.keeper.now c.note_time.new.self _ c.note_time.result (c.note_time.ensures _)
+
+pub returns-in-PutRoot-clause-walked : goal.returns-in-PutRoot-clause-walked
+returns-in-PutRoot-clause-walked g c = Walks_step g.K.Keeper.keeps (g.V.Verify.verifies c.args.verifier.now) c.args.keeper.now c.put_root.new.self _ c.put_root.result (c.put_root.ensures _)
+
+pub returns-in-ClearRotated-clause-walked : goal.returns-in-ClearRotated-clause-walked
+returns-in-ClearRotated-clause-walked g c = Walks_step g.K.Keeper.keeps (g.V.Verify.verifies c.args.verifier.now) c.args.keeper.now c.clear_rotated.new.self _ c.clear_rotated.result (c.clear_rotated.ensures _)
+
+pub returns-in-AdvanceTimestamp-clause-walked : goal.returns-in-AdvanceTimestamp-clause-walked
+returns-in-AdvanceTimestamp-clause-walked g c = Walks_step g.K.Keeper.keeps (g.V.Verify.verifies c.args.verifier.now) c.args.keeper.now c.advance_timestamp.new.self _ c.advance_timestamp.result c.advance_timestamp.ensures
+
+pub returns-in-AdvanceSnapshot-clause-walked : goal.returns-in-AdvanceSnapshot-clause-walked
+returns-in-AdvanceSnapshot-clause-walked g c = Walks_step g.K.Keeper.keeps (g.V.Verify.verifies c.args.verifier.now) c.args.keeper.now c.advance_snapshot.new.self _ c.advance_snapshot.result c.advance_snapshot.ensures
+
+pub returns-in-PutTargets-clause-walked : goal.returns-in-PutTargets-clause-walked
+returns-in-PutTargets-clause-walked g c = Walks_step g.K.Keeper.keeps (g.V.Verify.verifies c.args.verifier.now) c.args.keeper.now c.put_document.new.self _ c.put_document.result (c.put_document.ensures _)

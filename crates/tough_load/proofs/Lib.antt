@@ -1,3 +1,0 @@
-pub mod Trails
-pub mod Loads
-pub mod Trusts

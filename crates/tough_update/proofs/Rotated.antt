@@ -1,0 +1,71 @@
+-- Lists of values and of keys, side by side.
+use Rattle.std.proofs.Common.{◌≡◌, ◌≢◌, ℕ, zero, suc, ◌+◌, ◌<◌, List, [], ◌∷◌, length, drop, get_or, Option, Some, None, Bool, true, false, ◌&&◌, String, refl, sym, ap, ◌∙◌, add-one, arith}
+use Rattle.std.proofs.Math.Seq.{drop-nil}
+use Rattle.tough_base.specs.Spelled.{Spelled}
+use Rattle.tough_keys.specs.Key.{KeyDoc}
+use Rattle.tough_roles.specs.Root.{key_under}
+use Rattle.std.specs.declared.alloc.Global.{Global}
+use Rattle.std.specs.Str.{bytes_eq}
+use Rattle.std.specs.Prelude.{string_bytes}
+use Rattle.serde_json.specs.declared.value.Value.{Value}
+use Rattle.serde_json.specs.View.{view, items_view, members_view}
+use Rattle.tough_update.specs.Rotation.{same, same_items, same_members, same_key, key_in, ahead_of, keys_under, same_keys}
+
+pub no-right : (b : Bool) → (b && false) ≡ false
+no-right true = refl
+no-right false = refl
+
+pub unequal-items : (vs ws : List Value) → length vs ≢ length ws → same_items (items_view vs) (items_view ws) ≡ false
+unequal-items [] [] h = absurd (h refl)
+unequal-items [] (w ∷ ws) h = refl
+unequal-items (v ∷ vs) [] h = refl
+unequal-items (v ∷ vs) (w ∷ ws) h = ap (λ b. same (view v) (view w) && b) (unequal-items vs ws (λ e. h (ap suc e))) ∙ no-right (same (view v) (view w))
+
+pub unequal-members : (ms ns : List (String Global × Value)) → length ms ≢ length ns → same_members (members_view ms) (members_view ns) ≡ false
+unequal-members [] [] h = absurd (h refl)
+unequal-members [] (n ∷ ns) h = refl
+unequal-members (m ∷ ms) [] h = refl
+unequal-members (m ∷ ms) (n ∷ ns) h =
+    let head : Bool = bytes_eq (string_bytes m.0) (string_bytes n.0) && same (view m.1) (view n.1) in
+    ap (λ b. head && b) (unequal-members ms ns (λ e. h (ap suc e))) ∙ no-right head
+
+-- ---- keys, place by place
+
+pub key_in-at : (keys : List (Spelled × KeyDoc)) (ids : List Spelled) (place : ℕ) (id : Spelled) → place < length ids → id ≡ get_or ids place id → key_in keys (drop place ids) ≡ key_under keys id
+key_in-at keys [] place id h e = absurd (omega (arith, h))
+key_in-at keys (x ∷ ids) zero id h e = ap (key_under keys) (sym e)
+key_in-at keys (x ∷ ids) (suc n) id h e = key_in-at keys ids n id (omega (arith, h)) e
+
+drop-next : (ids : List Spelled) (n : ℕ) → drop 1 (drop n ids) ≡ drop (suc n) ids
+drop-next [] n = ap (drop 1) (drop-nil n)
+drop-next (id ∷ ids) zero = refl
+drop-next (id ∷ ids) (suc n) = drop-next ids n
+
+keys-step : (keys : List (Spelled × KeyDoc)) (ids : List Spelled) → keys_under keys ids ≡ ahead_of (key_in keys ids) (keys_under keys (drop 1 ids))
+keys-step keys [] = refl
+keys-step keys (id ∷ ids) = refl
+
+-- the keys from a place on: that of the place, and those from the next place on
+pub keys-from : (keys : List (Spelled × KeyDoc)) (ids : List Spelled) (place : ℕ) → keys_under keys (drop place ids) ≡ ahead_of (key_in keys (drop place ids)) (keys_under keys (drop (suc place) ids))
+keys-from keys ids place = keys-step keys (drop place ids) ∙ ap (λ r. ahead_of (key_in keys (drop place ids)) (keys_under keys r)) (drop-next ids place)
+
+-- both have the same key at a place: from there on the lists are the same where they are from the next place on
+pub next-place : (ks : List (Spelled × KeyDoc)) (ids : List Spelled) (js : List (Spelled × KeyDoc)) (jds : List Spelled) (place : ℕ) (k j : KeyDoc)
+    → key_in ks (drop place ids) ≡ Some k → key_in js (drop place jds) ≡ Some j → same_key k j ≡ true
+    → same_keys (keys_under ks (drop place ids)) (keys_under js (drop place jds)) ≡ same_keys (keys_under ks (drop (place + 1) ids)) (keys_under js (drop (place + 1) jds))
+next-place ks ids js jds place k j h i t =
+    let one : keys_under ks (drop place ids) ≡ k ∷ keys_under ks (drop (place + 1) ids) =
+    keys-from ks ids place ∙ (ap (λ o. ahead_of o (keys_under ks (drop (suc place) ids))) h ∙ ap (λ n. k ∷ keys_under ks (drop n ids)) (sym (add-one place))) in
+    let two : keys_under js (drop place jds) ≡ j ∷ keys_under js (drop (place + 1) jds) =
+    keys-from js jds place ∙ (ap (λ o. ahead_of o (keys_under js (drop (suc place) jds))) i ∙ ap (λ n. j ∷ keys_under js (drop n jds)) (sym (add-one place))) in
+    ap (λ xs. same_keys xs (keys_under js (drop place jds))) one
+    ∙ (ap (λ ys. same_keys (k ∷ keys_under ks (drop (place + 1) ids)) ys) two
+    ∙ ap (λ b. b && same_keys (keys_under ks (drop (place + 1) ids)) (keys_under js (drop (place + 1) jds))) t)
+
+-- of the lists from a place on: where one has no key there, both end or they differ
+pub last-place : (ks : List (Spelled × KeyDoc)) (ids : List Spelled) (js : List (Spelled × KeyDoc)) (jds : List Spelled) (place : ℕ)
+    → same_keys (keys_under ks (drop place ids)) (keys_under js (drop place jds))
+    ≡ same_keys (ahead_of (key_in ks (drop place ids)) (keys_under ks (drop (suc place) ids))) (ahead_of (key_in js (drop place jds)) (keys_under js (drop (suc place) jds)))
+last-place ks ids js jds place =
+    ap (λ xs. same_keys xs (keys_under js (drop place jds))) (keys-from ks ids place)
+    ∙ ap (λ ys. same_keys (ahead_of (key_in ks (drop place ids)) (keys_under ks (drop (suc place) ids))) ys) (keys-from js jds place)

@@ -1,0 +1,31 @@
+-- How a turn of the program ends.
+use Rattle.std.proofs.Common.{◌≡◌, ◌⊎◌, List, ℕ, Result, Ok, Err, refl, sym, ap, ◌∙◌, inl, inr}
+use Rattle.tough_keys.specs.Same.{Verifies}
+use Rattle.tough_update.specs.Failure.{Failure, ParseTrustedMetadata, VerifyTrustedMetadata, ParseMetadata, MaxUpdatesExceeded, JoinUrl, Transport, Checked, DatastoreOpen, DatastoreCreate, DatastoreRemove, Memory, IsRefused}
+use Rattle.tough_update.specs.Stages.{StageDoc, SettingDoc, CoreDoc, Done}
+use Rattle.tough_update.specs.Answered.{AnswerDoc}
+use Rattle.tough_update.specs.Machine.{settled, stage_after}
+use Rattle.tough_update.specs.Promises.{Settles, Goes}
+
+pub went : (r : Result StageDoc Failure) (stage : StageDoc) → r ≡ Ok stage → Settles r stage
+went r stage h = inl (sym (ap settled h))
+
+pub failed : (r : Result StageDoc Failure) (f : Failure) → IsRefused f r → Settles r (Done (Err f))
+failed r Memory h = inr refl
+failed r ParseTrustedMetadata h = inl (sym (ap settled h))
+failed r (VerifyTrustedMetadata v) h = inl (sym (ap settled h))
+failed r (ParseMetadata role) h = inl (sym (ap settled h))
+failed r (MaxUpdatesExceeded n) h = inl (sym (ap settled h))
+failed r JoinUrl h = inl (sym (ap settled h))
+failed r Transport h = inl (sym (ap settled h))
+failed r (Checked reason) h = inl (sym (ap settled h))
+failed r DatastoreOpen h = inl (sym (ap settled h))
+failed r DatastoreCreate h = inl (sym (ap settled h))
+failed r DatastoreRemove h = inl (sym (ap settled h))
+
+pub goes : (v : Verifies) (old : CoreDoc) (trusted : List ℕ) (stage : StageDoc) (a : AnswerDoc) (new : StageDoc) → trusted ≡ old.setting.trusted → stage ≡ old.stage
+    → Settles (stage_after v (record { trusted = trusted; limits = old.setting.limits; enforced = old.setting.enforced }) stage a) new
+    → Goes v old a (record { setting = old.setting; stage = new })
+goes v old trusted stage a new t s (inl h) =
+    inl (ap (λ x. record { setting = old.setting; stage = x }) (h ∙ (ap (λ x. settled (stage_after v (record { trusted = x; limits = old.setting.limits; enforced = old.setting.enforced }) stage a)) t ∙ ap (λ x. settled (stage_after v old.setting x a)) s)))
+goes v old trusted stage a new t s (inr h) = inr (ap (λ x. record { setting = old.setting; stage = x }) h)

@@ -1,0 +1,373 @@
+-- What holds of each stage, and that each answer keeps it.
+use Rattle.std.specs.Prelude.{◌≡◌, ℕ, ℤ, ◌+◌, ◌-◌, ◌^◌, ◌==◌, ◌≤◌, List, [], ◌∷◌, length, Option, Some, None, IfSome, Bool, true, false, IsTrue, ⊤, Result, Ok, Err, nat_lt, nat_le, not, ◌&&◌, is_some, if◌then◌else◌}
+use Rattle.std.proofs.Common.{◌≤ℤ◌, int_lt, refl, sym, ◌∙◌, ap, subst, arith}
+use Rattle.jiff_core.proofs.SignedLemmas.{signed_arith}
+use Rattle.std.proofs.lemmas.Bool.{eqb-true, leb-true}
+use Rattle.std.proofs.lemmas.Slice.Eq.{bytes_eq-Decides}
+use Rattle.sha2.specs.Sha256.{sha256}
+use Rattle.tough_keys.specs.Same.{Verifies}
+use Rattle.tough_roles.specs.Signature.{SignedDoc}
+use Rattle.tough_roles.specs.Root.{RootDoc, root_json}
+use Rattle.tough_roles.specs.Timestamp.{TimestampDoc, MetafileDoc, timestamp_json}
+use Rattle.tough_roles.specs.Snapshot.{SnapshotDoc, snapshot_json}
+use Rattle.tough_roles.specs.Verdict.{Refused}
+use Rattle.tough_roles.specs.Chain.{ReachesUnder, IsNext}
+use Rattle.tough_roles.specs.declared.role_type.RoleType.{RoleType}
+use Rattle.tough_roles.specs.declared.role_type.RoleType.TheVariants as role
+use Rattle.tough_roles.proofs.Reached.{ok-reaches}
+use Rattle.tough_vault.specs.Checks.{Reason, refuse, or_else, VersionMismatch, VerifyMetadata, OlderMetadata, TimestampMetaLength, expiry, is_expired, ExpiredMetadata, verified, timestamp_first, timestamp_form, snapshot_first, snapshot_form}
+use Rattle.tough_vault.specs.Documents.{timestamp_in, snapshot_in, metafile_in, timestamp_verdict, snapshot_verdict}
+use Rattle.tough_vault.specs.Files.{snapshot_file, targets_file}
+use Rattle.tough_update.specs.declared.limits.Limits.{Limits}
+use Rattle.tough_update.specs.Failure.{Failure, ParseTrustedMetadata, VerifyTrustedMetadata, ParseMetadata, MaxUpdatesExceeded, Checked}
+use Rattle.tough_update.specs.Walk.{first_root, next_root, root_in, root_verdict, if_read, if_verified, if_next}
+use Rattle.tough_update.specs.Requests.{RequestDoc, bound, stated_digest, has_digest, fits_request, root_request, timestamp_request, snapshot_request, targets_request}
+use Rattle.tough_schema.specs.Targets.{TargetsDoc, targets_json}
+use Rattle.tough_update.specs.Outcomes.{unless, and_then}
+use Rattle.tough_update.specs.Rotation.{is_rotated}
+use Rattle.tough_update.specs.Listed.{targets_in, targets_verdict, lists_roles, bare_targets}
+use Rattle.tough_update.specs.Stages.{WalkDoc, BaseDoc, KnownDoc, StageDoc, SettingDoc}
+use Rattle.tough_update.specs.Stages as at
+use Rattle.tough_update.specs.Answered.{FaultDoc, Unjoined, NotFound, Faulty, NoMemory, AnswerDoc}
+use Rattle.tough_update.specs.Answered as got
+use Rattle.tough_update.specs.Machine.{walked, began, new_root, base_of, walk_ended, new_timestamp, want_snapshot, known_of, new_snapshot, want_targets, targets_checked, accepted_targets, new_targets, settled, stage_after, question_at}
+use Rattle.tough_update.specs.Trusted.{Chain, handed_in, followed, Named, Lists}
+use Rattle.tough_update.specs.Runs.{Keeps, EndsWalk}
+use Rattle.tough_update.proofs.Walking.{under, follows}
+
+-- ---- checks that passed
+
+pub or_first : (a b : Option Reason) → or_else a b ≡ None → a ≡ None
+or_first None b h = refl
+or_first (Some r) b h = cc
+
+pub or_second : (a b : Option Reason) → or_else a b ≡ None → b ≡ None
+or_second None b h = h
+or_second (Some r) b h = cc
+
+pub not_refused : (b : Bool) (r : Reason) → refuse (not b) r ≡ None → b ≡ true
+not_refused true r h = refl
+not_refused false r h = cc
+
+pub refuse-none : (b : Bool) (r : Reason) → refuse b r ≡ None → b ≡ false
+refuse-none true r h = cc
+refuse-none false r h = refl
+
+pub ok-same : {A : Type 0} (x y : A) (r : Result A Failure) → r ≡ Ok x → r ≡ Ok y → x ≡ y
+ok-same x y r g h = cc
+
+pub is_verified : (type : RoleType) (v : Result Unit Refused) → verified type v ≡ None → v ≡ Ok (tt {0})
+is_verified type (Ok u) h = refl
+is_verified type (Err r) h = cc
+
+-- ---- requests that bytes fit
+
+pub has-true : (b c : Bool) → IsTrue (b && c) → IsTrue b × IsTrue c
+has-true true c h = (refl, h)
+has-true false c h = cc
+
+pub size-stated : (o : Option ℕ) (limit n : ℕ) → n ≤ bound o limit → IfSome o (λ k. n ≤ k)
+size-stated None limit n h = tt
+size-stated (Some k) limit n h = h
+
+pub digest-stated : (o : Option (List ℕ)) (bytes : List ℕ) → IsTrue (has_digest o bytes) → IfSome o (λ d. sha256 bytes ≡ d)
+digest-stated None bytes h = tt
+digest-stated (Some d) bytes h = (bytes_eq-Decides _ _).0 h
+
+-- ---- documents that were read and verified
+
+pub if_verified-ok : {A : Type 0} (f : Refused → Failure) (v : Result Unit Refused) (next : Result A Failure) (a : A) → if_verified f v next ≡ Ok a → (v ≡ Ok (tt {0})) × (next ≡ Ok a)
+if_verified-ok f (Ok u) next a h = (refl, h)
+if_verified-ok f (Err r) next a h = cc
+
+pub if_read-ok : {A B : Type 0} (f : Failure) (o : Option A) (next : A → Result B Failure) (b : B) → if_read f o next ≡ Ok b → (a : A) × (o ≡ Some a) × (next a ≡ Ok b)
+if_read-ok f None next b h = cc
+if_read-ok f (Some a) next b h = (a, refl, h)
+
+if-ok : {A : Type 0} (b : Bool) (x y : A) (f : Failure) → (if b then Ok x else Err f) ≡ Ok y → IsTrue b × (x ≡ y)
+if-ok true x y f h = (refl, cc)
+if-ok false x y f h = cc
+
+pub not-true : (b : Bool) → IsTrue (not b) → b ≡ false
+not-true true h = cc
+not-true false h = refl
+
+pub first-fine : (verifies : Verifies) (bytes : List ℕ) (root : SignedDoc RootDoc) → first_root verifies bytes ≡ Ok root → Chain verifies bytes root
+first-fine verifies bytes root h =
+    let r = if_read-ok ParseTrustedMetadata (root_in bytes) (λ d. if_verified (λ x. VerifyTrustedMetadata (Some x)) (root_verdict verifies d.role d) (Ok d)) root h in
+    let v = if_verified-ok (λ x. VerifyTrustedMetadata (Some x)) (root_verdict verifies r.0.role r.0) (Ok r.0) root r.2 in
+    let same : r.0 ≡ root = ok-same r.0 root (Ok r.0) refl v.1 in
+    subst (λ (x : SignedDoc RootDoc). Chain verifies bytes x) same (handed_in r.0 r.1 (under verifies r.0.role r.0 v.0))
+
+pub next-fine : (verifies : Verifies) (old : SignedDoc RootDoc) (bytes : List ℕ) (root : SignedDoc RootDoc) → next_root verifies old.role bytes ≡ Ok root → IsNext verifies old root
+next-fine verifies old bytes root h =
+    let fault : Refused → Failure = λ x. Checked (VerifyMetadata role.Root (Some x)) in
+    let r = if_read-ok (ParseMetadata role.Root) (root_in bytes) (λ d. if_verified fault (root_verdict verifies old.role d) (if_verified fault (root_verdict verifies d.role d) (if_next old.role d))) root h in
+    let u = if_verified-ok fault (root_verdict verifies old.role r.0) (if_verified fault (root_verdict verifies r.0.role r.0) (if_next old.role r.0)) root r.2 in
+    let v = if_verified-ok fault (root_verdict verifies r.0.role r.0) (if_next old.role r.0) root u.1 in
+    let n = if-ok (r.0.role.head.version == old.role.head.version + 1) r.0 root (Checked (OlderMetadata role.Root old.role.head.version r.0.role.head.version)) v.1 in
+    subst (λ (x : SignedDoc RootDoc). IsNext verifies old x) n.1 (follows verifies old.role old r.0 refl u.0 v.0 (eqb-true _ _ n.0))
+
+-- targets that were taken are what the bytes are
+pub bare-read : (bytes : List ℕ) (d : SignedDoc TargetsDoc) → bare_targets bytes ≡ Ok d → targets_in bytes ≡ Some d
+bare-read bytes d h =
+    let r = if_read-ok (ParseMetadata role.Targets) (targets_in bytes) (λ x. unless (ParseMetadata role.Targets) (not (lists_roles x.role.delegations)) (Ok x)) d h in
+    let n = if-ok (not (lists_roles r.0.role.delegations)) r.0 d (ParseMetadata role.Targets) r.2 in
+    r.1 ∙ ap Some n.1
+
+unless-ok : {A : Type 0} (f : Failure) (b : Bool) (r : Result A Failure) (a : A) → unless f b r ≡ Ok a → IsTrue b × (r ≡ Ok a)
+unless-ok f true r a h = (refl, h)
+unless-ok f false r a h = cc
+
+-- targets that passed their checks
+pub checked-ok : (verifies : Verifies) (enforced : Bool) (k : KnownDoc) (listed : ℕ) (d : SignedDoc TargetsDoc) (u : Unit {0}) → targets_checked verifies enforced k listed d ≡ Ok u
+    → (targets_verdict verifies k.root.role d ≡ Ok (tt {0})) × (d.role.head.version ≡ listed) × (is_expired enforced k.start d.role.head.expires ≡ false)
+checked-ok verifies enforced k listed d u h =
+    let expiring = unless (Checked (ExpiredMetadata role.Targets)) (not (is_expired enforced k.start d.role.head.expires)) (Ok (tt {0})) in
+    let v = if_verified-ok (λ x. Checked (VerifyMetadata role.Targets (Some x))) (targets_verdict verifies k.root.role d)
+    (unless (Checked (VersionMismatch role.Targets d.role.head.version listed)) (d.role.head.version == listed) expiring) u h in
+    let w = unless-ok (Checked (VersionMismatch role.Targets d.role.head.version listed)) (d.role.head.version == listed) expiring u v.1 in
+    let x = unless-ok (Checked (ExpiredMetadata role.Targets)) (not (is_expired enforced k.start d.role.head.expires)) (Ok (tt {0})) u w.1 in
+    (v.0, eqb-true _ _ w.0, not-true _ x.0)
+
+-- ---- steps that succeeded
+
+le_from_lt : (a b : ℤ) → int_lt a b ≡ false → b ≤ℤ a
+le_from_lt a b h = omega (arith, signed_arith, h)
+
+pub not-expired : (type : RoleType) (enforced : Bool) (start expires : ℤ) → expiry type enforced start expires ≡ None → is_expired enforced start expires ≡ false
+not-expired type enforced start expires h = refuse-none (is_expired enforced start expires) (ExpiredMetadata type) h
+
+pub in-time : (enforced : Bool) (start expires : ℤ) → enforced ≡ true → is_expired enforced start expires ≡ false → start ≤ℤ expires
+in-time true start expires e h = le_from_lt expires start h
+in-time false start expires e h = cc
+
+pub timestamp-passes : (verifies : Verifies) (root : RootDoc) (t : SignedDoc TimestampDoc) → timestamp_first (timestamp_verdict verifies root t) t.role ≡ None
+    → ReachesUnder verifies root role.Timestamp timestamp_json t × (length t.role.meta ≡ 1)
+timestamp-passes verifies root t h =
+    let v = is_verified role.Timestamp (timestamp_verdict verifies root t) (or_first _ _ h) in
+    let form : timestamp_form t.role ≡ None = or_first _ _ (or_second (verified role.Timestamp (timestamp_verdict verifies root t)) (or_else (timestamp_form t.role) None) h) in
+    (ok-reaches verifies root role.Timestamp timestamp_json t (Ok (tt {0})) v, eqb-true _ _ (not_refused (length t.role.meta == 1) (TimestampMetaLength t.role.head.version (length t.role.meta)) (or_first _ _ form)))
+
+pub snapshot-passes : (verifies : Verifies) (root : RootDoc) (listed : ℕ) (d : SignedDoc SnapshotDoc) → snapshot_first listed (snapshot_verdict verifies root d) d.role ≡ None
+    → ReachesUnder verifies root role.Snapshot snapshot_json d × (d.role.head.version ≡ listed)
+snapshot-passes verifies root listed d h =
+    let later = or_second (refuse (not (d.role.head.version == listed)) (VersionMismatch role.Snapshot d.role.head.version listed)) (or_else (verified role.Snapshot (snapshot_verdict verifies root d)) (or_else (snapshot_form d.role) None)) h in
+    let v = is_verified role.Snapshot (snapshot_verdict verifies root d) (or_first _ _ later) in
+    (ok-reaches verifies root role.Snapshot snapshot_json d (Ok (tt {0})) v, eqb-true _ _ (not_refused (d.role.head.version == listed) (VersionMismatch role.Snapshot d.role.head.version listed) (or_first _ _ h)))
+
+-- ---- results
+
+module _ (P : StageDoc → Type 0) (bad : (f : Failure) → P (at.Done (Err f))) where
+  abbrev pub Fine : Result StageDoc Failure → Type 0
+  Fine r = P (settled r)
+
+  pub unless-fine : (f : Failure) (b : Bool) (r : Result StageDoc Failure) → (IsTrue b → Fine r) → Fine (unless f b r)
+  unless-fine f true r good = good refl
+  unless-fine f false r good = bad f
+
+  pub if-fine : (b : Bool) (r s : Result StageDoc Failure) → (IsTrue b → Fine r) → Fine s → Fine (if b then r else s)
+  if-fine true r s one two = one refl
+  if-fine false r s one two = two
+
+  pub and_then-fine : {A : Type 0} (r : Result A Failure) (f : A → Result StageDoc Failure) → ((a : A) → r ≡ Ok a → Fine (f a)) → Fine (and_then r f)
+  and_then-fine (Ok a) f good = good a refl
+  and_then-fine (Err e) f good = bad e
+
+module _ (verifies : Verifies) (s : SettingDoc) (N : ℤ → Type 0) (E : SignedDoc RootDoc → Type 0) where
+  -- whether a moment is within an expiry, where that counts
+  abbrev pub InTime : ℤ → ℤ → Type 0
+  InTime start expires = is_expired s.enforced start expires ≡ false
+
+  abbrev pub BaseFine : ℤ → SignedDoc RootDoc → Type 0
+  BaseFine start root = N start × Chain verifies s.trusted root × E root × InTime start root.role.head.expires
+
+  abbrev pub TimestampFine : ℤ → SignedDoc RootDoc → SignedDoc TimestampDoc → Type 0
+  TimestampFine start root t = ReachesUnder verifies root.role role.Timestamp timestamp_json t × (length t.role.meta ≡ 1) × InTime start t.role.head.expires
+
+  -- what the fetched snapshot is, before it is accepted
+  pub record Fetched (t : SignedDoc TimestampDoc) (d : SignedDoc SnapshotDoc) (listed : ℕ) : Type 0 where
+    pub entry : MetafileDoc
+    pub there : metafile_in t.role.meta snapshot_file ≡ Some entry
+    pub version : listed ≡ entry.version
+    pub bytes : List ℕ
+    pub reading : snapshot_in bytes ≡ Some d
+    pub digest : IfSome (stated_digest entry.hashes) (λ x. sha256 bytes ≡ x)
+    pub size : IfSome entry.length (λ n. length bytes ≤ n)
+
+  pub record KnownFine (k : KnownDoc) : Type 0 where
+    pub root : BaseFine k.start k.root
+    pub timestamp : TimestampFine k.start k.root k.timestamp
+    pub snapshot : ReachesUnder verifies k.root.role role.Snapshot snapshot_json k.snapshot
+    pub in_time : InTime k.start k.snapshot.role.head.expires
+    pub named : Lists snapshot_in k.timestamp.role.meta snapshot_file k.snapshot.role.head.version k.snapshot
+
+  -- the entry that the snapshot is fetched by
+  abbrev pub Asked : BaseDoc → SignedDoc TimestampDoc → ℕ → RequestDoc → Type 0
+  Asked b t listed r = (m : MetafileDoc) × (metafile_in t.role.meta snapshot_file ≡ Some m) × (listed ≡ m.version) × (r ≡ snapshot_request s.limits b.root.role.consistent_snapshot m)
+
+  -- the entry that the targets are fetched by
+  abbrev pub AskedTargets : KnownDoc → ℕ → RequestDoc → Type 0
+  AskedTargets k listed r = (m : MetafileDoc) × (metafile_in k.snapshot.role.meta targets_file ≡ Some m) × (listed ≡ m.version) × (r ≡ targets_request s.limits k.root.role.consistent_snapshot m)
+
+  abbrev pub TargetsFine : KnownDoc → SignedDoc TargetsDoc → Type 0
+  TargetsFine k d = ReachesUnder verifies k.root.role role.Targets targets_json d × Lists targets_in k.snapshot.role.meta targets_file d.role.head.version d × InTime k.start d.role.head.expires
+
+  abbrev pub Holds : StageDoc → Type 0
+  Holds (at.FetchRoot w r) = N w.start × Chain verifies s.trusted w.last × (r ≡ root_request s.limits (w.last.role.head.version + 1))
+  Holds (at.PutRoot w) = N w.start × Chain verifies s.trusted w.last
+  Holds (at.PutLast w) = N w.start × Chain verifies s.trusted w.last × E w.last
+  Holds (at.Clear b) = BaseFine b.start b.root
+  Holds (at.FetchTimestamp b r) = BaseFine b.start b.root
+  Holds (at.PutTimestamp b t) = BaseFine b.start b.root
+  Holds (at.FetchSnapshot b t listed r) = BaseFine b.start b.root × TimestampFine b.start b.root t × Asked b t listed r
+  Holds (at.PutSnapshot k listed) = BaseFine k.start k.root × TimestampFine k.start k.root k.timestamp × Fetched k.timestamp k.snapshot listed
+  Holds (at.FetchTargets k listed r) = KnownFine k × AskedTargets k listed r
+  Holds (at.PutTargets k d) = KnownFine k × TargetsFine k d
+  Holds (at.Done (Ok l)) = KnownFine l.known × TargetsFine l.known l.targets
+  Holds _ = ⊤
+
+  pub bad : (f : Failure) → Holds (at.Done (Err f))
+  bad f = tt
+
+  module _ (at_end : (r : SignedDoc RootDoc) → r.role.head.version ≡ 2 ^ 64 - 1 → E r) where
+    walked-fine : (w : WalkDoc) → N w.start → Chain verifies s.trusted w.last → Fine Holds bad (walked s.limits w)
+    walked-fine w n c = unless-fine Holds bad (MaxUpdatesExceeded s.limits.max_root_updates) (nat_lt (w.last.role.head.version - w.first.role.head.version) s.limits.max_root_updates)
+        (if w.last.role.head.version == 2 ^ 64 - 1 then Ok (at.PutLast w) else Ok (at.FetchRoot w (root_request s.limits (w.last.role.head.version + 1)))) (λ _.
+        if-fine Holds bad (w.last.role.head.version == 2 ^ 64 - 1) (Ok (at.PutLast w)) (Ok (at.FetchRoot w (root_request s.limits (w.last.role.head.version + 1))))
+        (λ e. (n, c, at_end w.last (eqb-true _ _ e))) (n, c, refl))
+
+    began-fine : (start : ℤ) → N start → Fine Holds bad (began verifies s.limits s.trusted start)
+    began-fine start n = and_then-fine Holds bad (first_root verifies s.trusted) (λ root. walked s.limits (record { start = start; first = root; last = root })) (λ root is.
+        walked-fine (record { start = start; first = root; last = root }) n (first-fine verifies s.trusted root is))
+
+    new_root-fine : (w : WalkDoc) (bytes : List ℕ) → N w.start → Chain verifies s.trusted w.last → Fine Holds bad (new_root verifies w bytes)
+    new_root-fine w bytes n c = and_then-fine Holds bad (next_root verifies w.last.role bytes) (λ root. Ok (at.PutRoot (record { start = w.start; first = w.first; last = root }))) (λ root is.
+        (n, followed w.last root c (next-fine verifies w.last bytes root is)))
+
+    walk_ended-fine : (w : WalkDoc) → N w.start → Chain verifies s.trusted w.last → E w.last → Fine Holds bad (walk_ended s.limits s.enforced w)
+    walk_ended-fine w n c e = unless-fine Holds bad (Checked (ExpiredMetadata role.Root)) (not (is_expired s.enforced w.start w.last.role.head.expires))
+        (if is_rotated w.first.role w.last.role then Ok (at.Clear (base_of w)) else Ok (at.FetchTimestamp (base_of w) (timestamp_request s.limits))) (λ t.
+        if-fine Holds bad (is_rotated w.first.role w.last.role) (Ok (at.Clear (base_of w))) (Ok (at.FetchTimestamp (base_of w) (timestamp_request s.limits)))
+        (λ _. (n, c, e, not-true _ t)) (n, c, e, not-true _ t))
+
+    new_timestamp-fine : (b : BaseDoc) (o : Option (SignedDoc TimestampDoc)) → BaseFine b.start b.root → Fine Holds bad (if_read (ParseMetadata role.Timestamp) o (λ t. Ok (at.PutTimestamp b t)))
+    new_timestamp-fine b None h = tt
+    new_timestamp-fine b (Some t) h = h
+
+    want_snapshot-fine : (b : BaseDoc) (t : SignedDoc TimestampDoc) (o : Option MetafileDoc) → metafile_in t.role.meta snapshot_file ≡ o
+        → BaseFine b.start b.root → TimestampFine b.start b.root t → Fine Holds bad (want_snapshot s.limits b t o)
+    want_snapshot-fine b t None is h k = tt
+    want_snapshot-fine b t (Some m) is h k = (h, k, (m, is, refl, refl))
+
+    new_snapshot-fine : (b : BaseDoc) (t : SignedDoc TimestampDoc) (listed : ℕ) (r : RequestDoc) (bytes : List ℕ) (o : Option (SignedDoc SnapshotDoc)) → snapshot_in bytes ≡ o
+        → IsTrue (fits_request r bytes) → BaseFine b.start b.root → TimestampFine b.start b.root t → Asked b t listed r
+        → Fine Holds bad (if_read (ParseMetadata role.Snapshot) o (λ d. Ok (at.PutSnapshot (known_of b t d) listed)))
+    new_snapshot-fine b t listed r bytes None is fit h k a = tt
+    new_snapshot-fine b t listed r bytes (Some d) is fit h k a =
+        let fit1 : IsTrue (fits_request (snapshot_request s.limits b.root.role.consistent_snapshot a.0) bytes) = subst (λ q. IsTrue (fits_request q bytes)) a.3 fit in
+        let both : IsTrue (nat_le (length bytes) (bound a.0.length s.limits.max_snapshot_size)) × IsTrue (has_digest (stated_digest a.0.hashes) bytes) = has-true _ _ fit1 in (
+          h,
+          k,
+          record {
+            entry = a.0;
+            there = a.1;
+            version = a.2;
+            bytes = bytes;
+            reading = is;
+            digest = digest-stated (stated_digest a.0.hashes) bytes both.1;
+            size = size-stated a.0.length s.limits.max_snapshot_size (length bytes) (leb-true _ _ both.0);
+          },
+        )
+
+    -- the snapshot was accepted
+    known-fine : (k : KnownDoc) (listed : ℕ) → BaseFine k.start k.root → TimestampFine k.start k.root k.timestamp → Fetched k.timestamp k.snapshot listed
+        → (snapshot_first listed (snapshot_verdict verifies k.root.role k.snapshot) k.snapshot.role ≡ None) × (expiry role.Snapshot s.enforced k.start k.snapshot.role.head.expires ≡ None) → KnownFine k
+    known-fine k listed b t f p = record {
+      root = b;
+      timestamp = t;
+      snapshot = (snapshot-passes verifies k.root.role listed k.snapshot p.0).0;
+      in_time = not-expired role.Snapshot s.enforced k.start k.snapshot.role.head.expires p.1;
+      named = (f.entry, f.there, record { bytes = f.bytes; reading = f.reading; digest = f.digest; size = f.size; listed = (snapshot-passes verifies k.root.role listed k.snapshot p.0).1 ∙ f.version });
+    }
+
+    want_targets-fine : (k : KnownDoc) (o : Option MetafileDoc) → metafile_in k.snapshot.role.meta targets_file ≡ o → KnownFine k → Fine Holds bad (want_targets s.limits k o)
+    want_targets-fine k None is h = tt
+    want_targets-fine k (Some m) is h = (h, (m, is, refl, refl))
+
+    accepted_targets-fine : (k : KnownDoc) (listed : ℕ) (r : RequestDoc) (bytes : List ℕ) (d : SignedDoc TargetsDoc) → targets_in bytes ≡ Some d
+        → IsTrue (fits_request r bytes) → KnownFine k → AskedTargets k listed r → Fine Holds bad (accepted_targets verifies s.enforced k listed d)
+    accepted_targets-fine k listed r bytes d is fit h a =
+        let fit1 : IsTrue (fits_request (targets_request s.limits k.root.role.consistent_snapshot a.0) bytes) = subst (λ q. IsTrue (fits_request q bytes)) a.3 fit in
+        let both : IsTrue (nat_le (length bytes) (bound a.0.length s.limits.max_targets_size)) × IsTrue (has_digest (stated_digest a.0.hashes) bytes) = has-true _ _ fit1 in
+        and_then-fine Holds bad (targets_checked verifies s.enforced k listed d) (λ u. Ok (at.PutTargets k d)) (λ u passed.
+        let c = checked-ok verifies s.enforced k listed d u passed in (
+          h,
+          (
+            ok-reaches verifies k.root.role role.Targets targets_json d (Ok (tt {0})) c.0,
+            (
+              a.0,
+              a.1,
+              record {
+                bytes = bytes;
+                reading = is;
+                digest = digest-stated (stated_digest a.0.hashes) bytes both.1;
+                size = size-stated a.0.length s.limits.max_targets_size (length bytes) (leb-true _ _ both.0);
+                listed = c.1 ∙ a.2;
+              },
+            ),
+            c.2,
+          ),
+        ))
+
+    new_targets-fine : (k : KnownDoc) (listed : ℕ) (r : RequestDoc) (bytes : List ℕ) → IsTrue (fits_request r bytes) → KnownFine k → AskedTargets k listed r
+        → Fine Holds bad (new_targets verifies s.enforced k listed bytes)
+    new_targets-fine k listed r bytes fit h a = and_then-fine Holds bad (bare_targets bytes) (accepted_targets verifies s.enforced k listed) (λ d is.
+        accepted_targets-fine k listed r bytes d (bare-read bytes d is) fit h a)
+
+    pub answer-fine : (stage : StageDoc) (a : AnswerDoc) → Keeps verifies (question_at s.enforced stage) a
+        → ((w : WalkDoc) (r : RequestDoc) → stage ≡ at.FetchRoot w r → r ≡ root_request s.limits (w.last.role.head.version + 1) → EndsWalk a → E w.last)
+        → ((now : ℤ) → stage ≡ at.NoteTime now → a ≡ got.Step (Ok (tt {0})) → N now)
+        → Holds stage → Fine Holds bad (stage_after verifies s stage a)
+    answer-fine (at.Moment) (got.Moment now) keeps asked noted h = tt
+    answer-fine (at.FetchRoot w r) (got.Bytes bytes) keeps asked noted h = new_root-fine w bytes h.0 h.1
+    answer-fine (at.FetchTimestamp b r) (got.Bytes bytes) keeps asked noted h = new_timestamp-fine b (timestamp_in bytes) h
+    answer-fine (at.FetchSnapshot b t listed r) (got.Bytes bytes) keeps asked noted h = new_snapshot-fine b t listed r bytes (snapshot_in bytes) refl keeps h.0 h.1 h.2
+    answer-fine (at.FetchTargets k listed r) (got.Bytes bytes) keeps asked noted h = new_targets-fine k listed r bytes keeps h.0 h.1
+    answer-fine (at.FetchRoot w r) (got.NotStarted Unjoined) keeps asked noted h = tt
+    answer-fine (at.FetchRoot w r) (got.NotStarted NotFound) keeps asked noted h = (h.0, h.1, asked w r refl h.2 tt)
+    answer-fine (at.FetchRoot w r) (got.NotStarted Faulty) keeps asked noted h = (h.0, h.1, asked w r refl h.2 tt)
+    answer-fine (at.FetchRoot w r) (got.NotStarted NoMemory) keeps asked noted h = tt
+    answer-fine (at.FetchTimestamp b r) (got.NotStarted f) keeps asked noted h = tt
+    answer-fine (at.FetchSnapshot b t listed r) (got.NotStarted f) keeps asked noted h = tt
+    answer-fine (at.FetchTargets k listed r) (got.NotStarted f) keeps asked noted h = tt
+    answer-fine (at.FetchRoot w r) (got.Cut Unjoined) keeps asked noted h = tt
+    answer-fine (at.FetchRoot w r) (got.Cut NotFound) keeps asked noted h = (h.0, h.1, asked w r refl h.2 tt)
+    answer-fine (at.FetchRoot w r) (got.Cut Faulty) keeps asked noted h = tt
+    answer-fine (at.FetchRoot w r) (got.Cut NoMemory) keeps asked noted h = tt
+    answer-fine (at.FetchTimestamp b r) (got.Cut f) keeps asked noted h = tt
+    answer-fine (at.FetchSnapshot b t listed r) (got.Cut f) keeps asked noted h = tt
+    answer-fine (at.FetchTargets k listed r) (got.Cut f) keeps asked noted h = tt
+    answer-fine (at.NoteTime now) (got.Step (Ok u)) keeps asked noted h = began-fine now (noted now refl refl)
+    answer-fine (at.PutRoot w) (got.Step (Ok u)) keeps asked noted h = walked-fine w h.0 h.1
+    answer-fine (at.PutLast w) (got.Step (Ok u)) keeps asked noted h = walk_ended-fine w h.0 h.1 h.2
+    answer-fine (at.Clear b) (got.Step (Ok u)) keeps asked noted h = h
+    answer-fine (at.PutTimestamp b t) (got.Step (Ok u)) keeps asked noted h =
+        let p = timestamp-passes verifies b.root.role t keeps.0 in
+        want_snapshot-fine b t (metafile_in t.role.meta snapshot_file) refl h (p.0, p.1, not-expired role.Timestamp s.enforced b.start t.role.head.expires keeps.1)
+    answer-fine (at.PutSnapshot k listed) (got.Step (Ok u)) keeps asked noted h =
+        want_targets-fine k (metafile_in k.snapshot.role.meta targets_file) refl (known-fine k listed h.0 h.1 h.2 keeps)
+    answer-fine (at.PutTargets k d) (got.Step (Ok u)) keeps asked noted h = h
+    answer-fine (at.NoteTime now) (got.Step (Err f)) keeps asked noted h = tt
+    answer-fine (at.PutRoot w) (got.Step (Err f)) keeps asked noted h = tt
+    answer-fine (at.PutLast w) (got.Step (Err f)) keeps asked noted h = tt
+    answer-fine (at.Clear b) (got.Step (Err f)) keeps asked noted h = tt
+    answer-fine (at.PutTimestamp b t) (got.Step (Err f)) keeps asked noted h = tt
+    answer-fine (at.PutSnapshot k listed) (got.Step (Err f)) keeps asked noted h = tt
+    answer-fine (at.PutTargets k d) (got.Step (Err f)) keeps asked noted h = tt
+    answer-fine stage (got.Moment now) keeps asked noted h = h
+    answer-fine stage (got.Bytes bytes) keeps asked noted h = h
+    answer-fine stage (got.NotStarted f) keeps asked noted h = h
+    answer-fine stage (got.Cut f) keeps asked noted h = h
+    answer-fine stage (got.Step (Ok u)) keeps asked noted h = h
+    answer-fine stage (got.Step (Err f)) keeps asked noted h = h

@@ -1,0 +1,89 @@
+-- Whole updates.
+use Rattle.std.specs.Prelude.{◌≡◌, ◌+◌, ℤ, List, [], ◌∷◌, ◌++◌, Ok, true}
+use Rattle.std.proofs.Common.{refl, sym, ◌∙◌, ap, subst, inl, inr}
+use Rattle.tough_keys.specs.Same.{Verifies}
+use Rattle.tough_roles.specs.Signature.{SignedDoc}
+use Rattle.tough_roles.specs.Root.{RootDoc}
+use Rattle.tough_update.specs.Requests.{RequestDoc, root_request}
+use Rattle.tough_update.specs.Stages.{WalkDoc, LoadedDoc, StageDoc, CoreDoc}
+use Rattle.tough_update.specs.Stages as at
+use Rattle.tough_update.specs.Questions as ask
+use Rattle.tough_update.specs.Answered.{AnswerDoc}
+use Rattle.tough_update.specs.Answered as got
+use Rattle.tough_update.specs.Machine.{question, question_at, answered, settled, stage_after}
+use Rattle.tough_update.specs.Runs.{run, Along, EndsWalk, HasNoted, IsLast, IsFresh, Loaded}
+use Rattle.tough_update.proofs.Sound.{Holds, KnownFine, answer-fine, in-time}
+
+run-last : (v : Verifies) (h : List AnswerDoc) (c : CoreDoc) (a : AnswerDoc) → run v c (h ++ a ∷ []) ≡ answered v (run v c h) a
+run-last v [] c a = refl
+run-last v (x ∷ h) c a = run-last v h (answered v c x) a
+
+over-append : (h : List AnswerDoc) (a : AnswerDoc) (rest : List AnswerDoc) → h ++ a ∷ rest ≡ (h ++ a ∷ []) ++ rest
+over-append [] a rest = refl
+over-append (x ∷ h) a rest = ap (λ r. x ∷ r) (over-append h a rest)
+
+module _ (v : Verifies) (c : CoreDoc) (all : List AnswerDoc) where
+  abbrev Last : SignedDoc RootDoc → Type 0
+  Last = IsLast v c all
+
+  abbrev in_stage : StageDoc → CoreDoc
+  in_stage st = record { setting = c.setting; stage = st }
+
+  asked : (h rest : List AnswerDoc) (a : AnswerDoc) (st : StageDoc) → all ≡ h ++ a ∷ rest → run v c h ≡ in_stage st
+      → (w : WalkDoc) (r : RequestDoc) → st ≡ at.FetchRoot w r → r ≡ root_request c.setting.limits (w.last.role.head.version + 1) → EndsWalk a → Last w.last
+  asked h rest a st is stands w r e f ends = inl (record {
+    before = h;
+    answer = a;
+    after = rest;
+    all = is;
+    asked = ap question stands ∙ (ap (question_at c.setting.enforced) e ∙ ap ask.Fetch f);
+    ends = ends;
+  })
+
+  abbrev Noted : ℤ → Type 0
+  Noted = HasNoted v c all
+
+  noted : (h rest : List AnswerDoc) (a : AnswerDoc) (st : StageDoc) → all ≡ h ++ a ∷ rest → run v c h ≡ in_stage st
+      → (now : ℤ) → st ≡ at.NoteTime now → a ≡ got.Step (Ok (tt {0})) → Noted now
+  noted h rest a st is stands now e f = record {
+    before = h;
+    after = rest;
+    all = is ∙ ap (λ x. h ++ x ∷ rest) f;
+    asked = ap question stands ∙ ap (question_at c.setting.enforced) e;
+  }
+
+  along-holds : (rest h : List AnswerDoc) (st : StageDoc) → all ≡ h ++ rest → run v c h ≡ in_stage st → Along v (in_stage st) rest
+      → Holds v c.setting Noted Last st → Holds v c.setting Noted Last (run v (in_stage st) rest).stage
+  along-holds [] h st is stands keeps holds = holds
+  along-holds (a ∷ rest) h st is stands keeps holds =
+      along-holds rest (h ++ a ∷ []) (settled (stage_after v c.setting st a))
+      (is ∙ over-append h a rest)
+      (run-last v h c a ∙ ap (λ s. answered v s a) stands)
+      keeps.1
+      (answer-fine v c.setting Noted Last (λ r e. inr e) st a keeps.0 (asked h rest a st is stands) (noted h rest a st is stands) holds)
+
+pub loaded : (v : Verifies) (c : CoreDoc) (answers : List AnswerDoc) (l : LoadedDoc) → IsFresh c → Along v c answers → (run v c answers).stage ≡ at.Done (Ok l) → Loaded v c answers l
+loaded v c answers l fresh keeps is =
+    let both : Holds v c.setting (HasNoted v c answers) (IsLast v c answers) (at.Done (Ok l)) =
+    subst (Holds v c.setting (HasNoted v c answers) (IsLast v c answers)) is
+    (along-holds v c answers answers [] c.stage refl refl keeps (subst (Holds v c.setting (HasNoted v c answers) (IsLast v c answers)) (sym fresh) tt)) in
+    let known : KnownFine v c.setting (HasNoted v c answers) (IsLast v c answers) l.known = both.0 in
+    record {
+      trusted = record {
+        root = known.root.1;
+        timestamp = known.timestamp.0;
+        alone = known.timestamp.1;
+        snapshot = known.snapshot;
+        snapshot_named = known.named;
+        targets_signed = both.1.0;
+        targets_named = both.1.1;
+      };
+      unexpired = λ e. record {
+        root = in-time c.setting.enforced _ _ e known.root.3;
+        timestamp = in-time c.setting.enforced _ _ e known.timestamp.2;
+        snapshot = in-time c.setting.enforced _ _ e known.in_time;
+        targets = in-time c.setting.enforced _ _ e both.1.2;
+      };
+      noted = known.root.0;
+      last = known.root.2;
+    }

@@ -1,0 +1,11 @@
+use Rattle.std.proofs.Common.{sym, ◌∙◌}
+use Rattle.tough_keys.specs.Key.{key_doc}
+use Rattle.tough_roles.specs.Root.{keys_doc}
+use Rattle.tough_update.proofs.Rotated.{next-place}
+use Rattle.tough_update.proofs.rotation.are_same_keys.Goals as goal
+
+pub loop-place-preserved : goal.loop-place-preserved
+loop-place-preserved c =
+    sym (next-place (keys_doc c.args.old.now.keys.entries) c.args.old_ids.now (keys_doc c.args.new.now.keys.entries) c.args.new_ids.now c.loop-place.place
+    (key_doc c.in-Some-Some.old.now) (key_doc c.in-Some-Some.new.now) (sym c.in-Some-Some.ensures) (sym c.in-Some-Some.ensures') (sym c.is_same_key.ensures ∙ c.if-not-is_same_key.false))
+    ∙ c.loop-place.invariant

@@ -1,0 +1,75 @@
+-- Why an update failed, apart from the texts of causes.
+use Rattle.std.specs.Prelude.{◌≡◌, ℕ, ℤ, List, Option, Result, Ok, Err, string_bytes, ⊤}
+use Rattle.tough_roles.specs.declared.role_type.RoleType.{RoleType}
+use Rattle.tough_roles.specs.Verdict.{Refused}
+use Rattle.tough_vault.specs.Checks as check
+use Rattle.tough_vault.specs.Checks.{Reason, refused, reason_of}
+use Rattle.tough_vault.specs.declared.checks.StepError.{StepError}
+use Rattle.tough_vault.specs.declared.checks.StepError.TheVariants as steps
+use Rattle.tough_update.specs.declared.error.Error.{Error}
+use Rattle.tough_update.specs.declared.error.Error.TheVariants as error
+
+pub data Failure : Type 0 where
+  -- the bytes that were handed in are no signed root
+  ParseTrustedMetadata : Failure
+  -- the root that was handed in doesn't reach its own threshold
+  VerifyTrustedMetadata : Option Refused → Failure
+  -- the bytes are no signed document of the role
+  ParseMetadata : RoleType → Failure
+  -- so many new roots were met
+  MaxUpdatesExceeded : ℕ → Failure
+  -- the base URL can't be parsed
+  ParseUrl : Failure
+  -- the file's name can't be joined to the base URL
+  JoinUrl : Failure
+  -- the file couldn't be fetched
+  Transport : Failure
+  -- a check refused
+  Checked : Reason → Failure
+  DatastoreOpen : Failure
+  DatastoreCreate : Failure
+  DatastoreRemove : Failure
+  Memory : Failure
+
+abbrev pub failure_of : Error → Failure
+failure_of (error.ParseTrustedMetadata source) = ParseTrustedMetadata
+failure_of (error.VerifyTrustedMetadata source) = VerifyTrustedMetadata (refused source)
+failure_of (error.ParseMetadata role source) = ParseMetadata role
+failure_of (error.MaxUpdatesExceeded n) = MaxUpdatesExceeded n
+failure_of (error.ParseUrl source) = ParseUrl
+failure_of (error.JoinUrl path source) = JoinUrl
+failure_of (error.Transport source) = Transport
+failure_of (error.SystemTimeSteppedBackward now later) = Checked (check.SystemTimeSteppedBackward now.nanosecond later.nanosecond)
+failure_of error.DatastoreSerialize = Checked check.DatastoreSerialize
+failure_of (error.VerifyMetadata role source) = Checked (check.VerifyMetadata role (refused source))
+failure_of (error.VersionMismatch role fetched expected) = Checked (check.VersionMismatch role fetched expected)
+failure_of (error.TimestampMetaLength version count) = Checked (check.TimestampMetaLength version count)
+failure_of (error.MissingSnapshotMeta version) = Checked (check.MissingSnapshotMeta version)
+failure_of (error.SnapshotTargetsMetaMissing version) = Checked (check.SnapshotTargetsMetaMissing version)
+failure_of (error.OlderMetadata role current new) = Checked (check.OlderMetadata role current new)
+failure_of (error.OlderSnapshotInTimestamp a b c d) = Checked (check.OlderSnapshotInTimestamp a b c d)
+failure_of (error.SnapshotRoleMissing name old new) = Checked (check.SnapshotRoleMissing (string_bytes name) old new)
+failure_of (error.SnapshotRoleRollback name was old now new) = Checked (check.SnapshotRoleRollback (string_bytes name) was old now new)
+failure_of (error.ExpiredMetadata role) = Checked (check.ExpiredMetadata role)
+failure_of error.DatastoreOpen = DatastoreOpen
+failure_of error.DatastoreCreate = DatastoreCreate
+failure_of error.DatastoreRemove = DatastoreRemove
+failure_of error.Memory = Memory
+
+-- a refusal is this failure; want of memory may come in its place
+abbrev pub IsRefused : {A : Type 0} → Failure → Result A Failure → Type 0
+IsRefused Memory answer = ⊤
+IsRefused failure answer = answer ≡ Err failure
+
+-- what a call gives, seen by view, is the answer
+abbrev pub Gives : {X A : Type 0} → (X → A) → Result A Failure → Result X Error → Type 0
+Gives view answer (Ok x) = answer ≡ Ok (view x)
+Gives view answer (Err e) = IsRefused (failure_of e) answer
+
+-- the failure that a refused step is
+abbrev pub step_failure : StepError → Failure
+step_failure (steps.Refused r) = Checked (reason_of r)
+step_failure steps.DatastoreOpen = DatastoreOpen
+step_failure steps.DatastoreCreate = DatastoreCreate
+step_failure steps.DatastoreRemove = DatastoreRemove
+step_failure steps.Memory = Memory

@@ -1,0 +1,15 @@
+pub mod Failure
+pub mod Walk
+pub mod Outcomes
+pub mod Requests
+pub mod Rotation
+pub mod Listed
+pub mod Stages
+pub mod Questions
+pub mod Answered
+pub mod Machine
+pub mod View
+pub mod Promises
+pub mod Trusted
+pub mod Runs
+pub mod Loadable

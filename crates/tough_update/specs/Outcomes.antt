@@ -1,0 +1,10 @@
+-- Checks one after another.
+use Rattle.std.specs.Prelude.{Bool, Result, Ok, Err, if◌then◌else◌}
+use Rattle.tough_update.specs.Failure.{Failure}
+
+abbrev pub unless : {A : Type 0} → Failure → Bool → Result A Failure → Result A Failure
+unless f b next = if b then next else Err f
+
+abbrev pub and_then : {A B : Type 0} → Result A Failure → (A → Result B Failure) → Result B Failure
+and_then (Ok a) f = f a
+and_then (Err e) f = Err e

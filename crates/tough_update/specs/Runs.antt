@@ -1,0 +1,83 @@
+-- Runs of an update, over any answers.
+use Rattle.std.specs.Prelude.{◌≡◌, ◌⊎◌, ℕ, ℤ, ◌+◌, ◌-◌, ◌^◌, List, [], ◌∷◌, ◌++◌, Option, Some, None, Bool, true, IsTrue, ⊤, Result, Ok, Err}
+use Rattle.tough_keys.specs.Same.{Verifies}
+use Rattle.tough_roles.specs.Signature.{SignedDoc}
+use Rattle.tough_roles.specs.Root.{RootDoc}
+use Rattle.tough_roles.specs.declared.role_type.RoleType.TheVariants as role
+use Rattle.tough_vault.specs.Checks.{timestamp_first, snapshot_first, expiry}
+use Rattle.tough_vault.specs.Documents.{timestamp_verdict, snapshot_verdict}
+use Rattle.tough_update.specs.Requests.{fits_request, root_request}
+use Rattle.tough_update.specs.Stages.{LoadedDoc, CoreDoc, Moment}
+use Rattle.tough_update.specs.Questions.{Question}
+use Rattle.tough_update.specs.Questions as ask
+use Rattle.tough_update.specs.Answered.{FaultDoc, NotFound, Faulty, AnswerDoc}
+use Rattle.tough_update.specs.Answered as got
+use Rattle.tough_update.specs.Machine.{question, answered}
+use Rattle.tough_update.specs.Walk.{root_in}
+use Rattle.tough_update.specs.Rotation.{is_rotated}
+use Rattle.tough_update.specs.Trusted.{Chain, Trusted, Unexpired}
+
+-- What an answer promises, by what was asked: bytes fit, and a step that succeeds has made its checks on what it was given.
+abbrev pub Keeps : Verifies → Question → AnswerDoc → Type 0
+Keeps verifies (ask.Fetch r) (got.Bytes bytes) = IsTrue (fits_request r bytes)
+Keeps verifies (ask.AdvanceTimestamp root t start enforced) (got.Step (Ok u)) =
+    (timestamp_first (timestamp_verdict verifies root t) t.role ≡ None) × (expiry role.Timestamp enforced start t.role.head.expires ≡ None)
+Keeps verifies (ask.AdvanceSnapshot root listed s start enforced) (got.Step (Ok u)) =
+    (snapshot_first listed (snapshot_verdict verifies root s) s.role ≡ None) × (expiry role.Snapshot enforced start s.role.head.expires ≡ None)
+Keeps verifies _ _ = ⊤
+
+-- the machine after these answers
+abbrev pub run : Verifies → CoreDoc → List AnswerDoc → CoreDoc
+run verifies c [] = c
+run verifies c (a ∷ rest) = run verifies (answered verifies c a) rest
+
+-- each answer keeps its promise
+abbrev pub Along : Verifies → CoreDoc → List AnswerDoc → Type 0
+Along verifies c [] = ⊤
+Along verifies c (a ∷ rest) = Keeps verifies (question c) a × Along verifies (answered verifies c a) rest
+
+-- an error of starting, or a file that the stream doesn't find
+abbrev pub EndsWalk : AnswerDoc → Type 0
+EndsWalk (got.NotStarted NotFound) = ⊤
+EndsWalk (got.NotStarted Faulty) = ⊤
+EndsWalk (got.Cut NotFound) = ⊤
+EndsWalk _ = ⊥
+
+-- the root after this one was asked for, and answered so
+pub record AskedNext (verifies : Verifies) (c : CoreDoc) (answers : List AnswerDoc) (r : SignedDoc RootDoc) : Type 0 where
+  pub before : List AnswerDoc
+  pub answer : AnswerDoc
+  pub after : List AnswerDoc
+  pub all : answers ≡ before ++ answer ∷ after
+  pub asked : question (run verifies c before) ≡ ask.Fetch (root_request c.setting.limits (r.role.head.version + 1))
+  pub ends : EndsWalk answer
+
+-- no root follows: the next one was asked for and there is none, or no version is left
+abbrev pub IsLast : Verifies → CoreDoc → List AnswerDoc → SignedDoc RootDoc → Type 0
+IsLast verifies c answers r = AskedNext verifies c answers r ⊎ (r.role.head.version ≡ 2 ^ 64 - 1)
+
+-- this moment was noted: it was asked for, and the step succeeded
+pub record HasNoted (verifies : Verifies) (c : CoreDoc) (answers : List AnswerDoc) (start : ℤ) : Type 0 where
+  pub before : List AnswerDoc
+  pub after : List AnswerDoc
+  pub all : answers ≡ before ++ got.Step (Ok (tt {0})) ∷ after
+  pub asked : question (run verifies c before) ≡ ask.NoteTime start
+
+-- what an update that succeeds promises
+pub record Loaded (verifies : Verifies) (c : CoreDoc) (answers : List AnswerDoc) (l : LoadedDoc) : Type 0 where
+  pub trusted : Trusted verifies c.setting.trusted l.known l.targets
+  pub unexpired : c.setting.enforced ≡ true → Unexpired l.known l.targets
+  pub noted : HasNoted verifies c answers l.known.start
+  pub last : IsLast verifies c answers l.known.root
+
+-- nothing was answered yet
+abbrev pub IsFresh : CoreDoc → Type 0
+IsFresh c = c.stage ≡ Moment
+
+-- the keys of timestamp or snapshot differ between the root that was handed in and one that ends a chain from it
+pub record WasRotated (verifies : Verifies) (trusted : List ℕ) : Type 0 where
+  pub first : SignedDoc RootDoc
+  pub handed_in : root_in trusted ≡ Some first
+  pub last : SignedDoc RootDoc
+  pub chain : Chain verifies trusted last
+  pub rotated : is_rotated first.role last.role ≡ true

@@ -1,0 +1,66 @@
+-- The states of an update (TUF specification 1.0, section 5): each stage waits for one answer, and has what is known by then.
+use Rattle.std.specs.Prelude.{ℕ, ℤ, List, Bool, Result}
+use Rattle.tough_roles.specs.Signature.{SignedDoc}
+use Rattle.tough_roles.specs.Root.{RootDoc}
+use Rattle.tough_roles.specs.Timestamp.{TimestampDoc}
+use Rattle.tough_roles.specs.Snapshot.{SnapshotDoc}
+use Rattle.tough_schema.specs.Targets.{TargetsDoc}
+use Rattle.tough_update.specs.declared.limits.Limits.{Limits}
+use Rattle.tough_update.specs.Failure.{Failure}
+use Rattle.tough_update.specs.Requests.{RequestDoc}
+
+-- ---- what is known
+
+-- a walk from root to root: when the update began, the root that was handed in, and the last one
+pub record WalkDoc : Type 0 where
+  pub start : ℤ
+  pub first : SignedDoc RootDoc
+  pub last : SignedDoc RootDoc
+
+-- the root that the walk ended with
+pub record BaseDoc : Type 0 where
+  pub start : ℤ
+  pub root : SignedDoc RootDoc
+
+pub record KnownDoc : Type 0 where
+  pub start : ℤ
+  pub root : SignedDoc RootDoc
+  pub timestamp : SignedDoc TimestampDoc
+  pub snapshot : SignedDoc SnapshotDoc
+
+-- what an update ends with
+pub record LoadedDoc : Type 0 where
+  pub known : KnownDoc
+  pub targets : SignedDoc TargetsDoc
+
+-- ---- the stages; each waits for one answer
+
+pub data StageDoc : Type 0 where
+  Moment : StageDoc
+  NoteTime : ℤ → StageDoc
+  FetchRoot : WalkDoc → RequestDoc → StageDoc
+  PutRoot : WalkDoc → StageDoc
+  -- the walk is at its end
+  PutLast : WalkDoc → StageDoc
+  Clear : BaseDoc → StageDoc
+  FetchTimestamp : BaseDoc → RequestDoc → StageDoc
+  PutTimestamp : BaseDoc → SignedDoc TimestampDoc → StageDoc
+  -- the version that the timestamp lists
+  FetchSnapshot : BaseDoc → SignedDoc TimestampDoc → ℕ → RequestDoc → StageDoc
+  PutSnapshot : KnownDoc → ℕ → StageDoc
+  -- the version that the snapshot lists
+  FetchTargets : KnownDoc → ℕ → RequestDoc → StageDoc
+  PutTargets : KnownDoc → SignedDoc TargetsDoc → StageDoc
+  Done : Result LoadedDoc Failure → StageDoc
+  -- the outcome was handed out
+  Taken : StageDoc
+
+-- what the caller set: the bytes of the root that is trusted, the limits, and whether expiry counts
+pub record SettingDoc : Type 0 where
+  pub trusted : List ℕ
+  pub limits : Limits
+  pub enforced : Bool
+
+pub record CoreDoc : Type 0 where
+  pub setting : SettingDoc
+  pub stage : StageDoc

@@ -1,0 +1,53 @@
+-- What an update that succeeds vouches for (TUF specification 1.0, section 5).
+use Rattle.std.specs.Prelude.{◌≡◌, ◌≤◌, ◌≤ℤ◌, ℕ, ℤ, List, length, Option, Some, IfSome}
+use Rattle.sha2.specs.Sha256.{sha256}
+use Rattle.tough_keys.specs.Same.{Verifies}
+use Rattle.tough_roles.specs.Signature.{SignedDoc}
+use Rattle.tough_roles.specs.Root.{RootDoc, root_json}
+use Rattle.tough_roles.specs.Timestamp.{MetafileDoc, timestamp_json}
+use Rattle.tough_roles.specs.Snapshot.{snapshot_json}
+use Rattle.tough_roles.specs.Chain.{ReachesUnder, IsNext}
+use Rattle.tough_roles.specs.declared.role_type.RoleType.TheVariants as role
+use Rattle.tough_vault.specs.Documents.{metafile_in, snapshot_in}
+use Rattle.tough_schema.specs.Targets.{TargetsDoc, targets_json}
+use Rattle.tough_vault.specs.Files.{snapshot_file, targets_file}
+use Rattle.tough_update.specs.Walk.{root_in}
+use Rattle.tough_update.specs.Requests.{stated_digest}
+use Rattle.tough_update.specs.Listed.{targets_in}
+use Rattle.tough_update.specs.Stages.{KnownDoc}
+
+-- A chain of roots from these bytes ends in this one: the bytes are the first, which reaches its own threshold, and each other one follows
+-- the one before it.
+pub data Chain (verifies : Verifies) (bytes : List ℕ) : SignedDoc RootDoc → Type 0 where
+  handed_in : (r : SignedDoc RootDoc) → root_in bytes ≡ Some r → ReachesUnder verifies r.role role.Root root_json r → Chain verifies bytes r
+  followed : (r s : SignedDoc RootDoc) → Chain verifies bytes r → IsNext verifies r s → Chain verifies bytes s
+
+-- an entry names this document: there are bytes that are the document, with the digest and within the length that the entry states, and
+-- the document has the listed version
+pub record Named {D : Type 0} (reads : List ℕ → Option D) (entry : MetafileDoc) (version : ℕ) (doc : D) : Type 0 where
+  pub bytes : List ℕ
+  pub reading : reads bytes ≡ Some doc
+  pub digest : IfSome (stated_digest entry.hashes) (λ d. sha256 bytes ≡ d)
+  pub size : IfSome entry.length (λ n. length bytes ≤ n)
+  pub listed : version ≡ entry.version
+
+-- what a list of entries says under a name names this document
+abbrev pub Lists : {D : Type 0} → (List ℕ → Option D) → List (List ℕ × MetafileDoc) → List ℕ → ℕ → D → Type 0
+Lists reads entries name version doc = (entry : MetafileDoc) × (metafile_in entries name ≡ Some entry) × Named reads entry version doc
+
+pub record Trusted (verifies : Verifies) (bytes : List ℕ) (k : KnownDoc) (targets : SignedDoc TargetsDoc) : Type 0 where
+  pub root : Chain verifies bytes k.root
+  pub timestamp : ReachesUnder verifies k.root.role role.Timestamp timestamp_json k.timestamp
+  -- the timestamp lists the snapshot alone
+  pub alone : length k.timestamp.role.meta ≡ 1
+  pub snapshot : ReachesUnder verifies k.root.role role.Snapshot snapshot_json k.snapshot
+  pub snapshot_named : Lists snapshot_in k.timestamp.role.meta snapshot_file k.snapshot.role.head.version k.snapshot
+  pub targets_signed : ReachesUnder verifies k.root.role role.Targets targets_json targets
+  pub targets_named : Lists targets_in k.snapshot.role.meta targets_file targets.role.head.version targets
+
+-- the update began after no expiry
+pub record Unexpired (k : KnownDoc) (d : SignedDoc TargetsDoc) : Type 0 where
+  pub root : k.start ≤ℤ k.root.role.head.expires
+  pub timestamp : k.start ≤ℤ k.timestamp.role.head.expires
+  pub snapshot : k.start ≤ℤ k.snapshot.role.head.expires
+  pub targets : k.start ≤ℤ d.role.head.expires

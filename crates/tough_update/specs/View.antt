@@ -1,0 +1,126 @@
+-- The machine of the program, seen as plain data.
+use Rattle.std.specs.Prelude.{◌≡◌, ◌⊎◌, ℕ, List, Option, Some, None, Result, Ok, Err, option_map, string_bytes, ⊤}
+use Rattle.url.specs.declared.error.ParseError.{ParseError}
+use Rattle.url.specs.declared.error.ParseError.TheVariants as url
+use Rattle.tough_net.specs.declared.error.TransportErrorKind.{TransportErrorKind}
+use Rattle.tough_net.specs.declared.error.TransportErrorKind.TheVariants as kind
+use Rattle.tough_net.specs.Errors.{error_kind}
+use Rattle.tough_roles.specs.Signature.{SignedDoc, signed_doc}
+use Rattle.tough_roles.specs.Root.{RootDoc, root_doc}
+use Rattle.tough_roles.specs.declared.root.Root.{Root}
+use Rattle.tough_roles.specs.declared.signed.Signed.{Signed}
+use Rattle.tough_roles.specs.Timestamp.{timestamp_doc}
+use Rattle.tough_roles.specs.Snapshot.{snapshot_doc}
+use Rattle.tough_schema.specs.Targets.{targets_doc}
+use Rattle.tough_vault.specs.Checks.{enforces}
+use Rattle.tough_vault.specs.declared.checks.StepError.{StepError}
+use Rattle.tough_update.specs.Failure.{Failure, failure_of, step_failure}
+use Rattle.tough_update.specs.declared.error.Error.{Error}
+use Rattle.tough_update.specs.declared.request.Request.{Request}
+use Rattle.tough_update.specs.declared.request.Fault.{Fault}
+use Rattle.tough_update.specs.declared.request.Fault.TheVariants as fault
+use Rattle.tough_update.specs.declared.request.Ask.{Ask}
+use Rattle.tough_update.specs.declared.request.Ask.TheVariants as to
+use Rattle.tough_update.specs.declared.request.Answer.{Answer}
+use Rattle.tough_update.specs.declared.request.Answer.TheVariants as by
+use Rattle.tough_update.specs.declared.stage.Walk.{Walk}
+use Rattle.tough_update.specs.declared.stage.Base.{Base}
+use Rattle.tough_update.specs.declared.stage.Known.{Known}
+use Rattle.tough_update.specs.declared.stage.Loaded.{Loaded}
+use Rattle.tough_update.specs.declared.stage.Stage.{Stage}
+use Rattle.tough_update.specs.declared.stage.Stage.TheVariants as in_stage
+use Rattle.tough_update.specs.declared.turns.Setting.{Setting}
+use Rattle.tough_update.specs.declared.machine.Core.{Core}
+use Rattle.tough_update.specs.Requests.{RequestDoc}
+use Rattle.tough_update.specs.Stages.{WalkDoc, BaseDoc, KnownDoc, LoadedDoc, StageDoc, SettingDoc, CoreDoc}
+use Rattle.tough_update.specs.Stages as at
+use Rattle.tough_update.specs.Questions.{Question}
+use Rattle.tough_update.specs.Questions as ask
+use Rattle.tough_update.specs.Answered.{FaultDoc, Unjoined, NotFound, Faulty, NoMemory, AnswerDoc}
+use Rattle.tough_update.specs.Answered as got
+
+abbrev pub request_doc : Request → RequestDoc
+request_doc r = record { name = string_bytes r.name; max_size = r.max_size; specifier = r.specifier.now; sha256 = option_map (λ d. d.items) r.sha256 }
+
+-- ---- questions and answers
+
+abbrev pub question_of : Ask → Question
+question_of to.Moment = ask.Moment
+question_of (to.Fetch r) = ask.Fetch (request_doc r.now)
+question_of (to.NoteTime now) = ask.NoteTime now.nanosecond
+question_of (to.PutRoot r) = ask.PutRoot (signed_doc root_doc r.now)
+question_of to.ClearRotated = ask.ClearRotated
+question_of (to.AdvanceTimestamp root new start enforcement) = ask.AdvanceTimestamp (root_doc root.now) (signed_doc timestamp_doc new.now) start.nanosecond (enforces enforcement)
+question_of (to.AdvanceSnapshot root listed new start enforcement) = ask.AdvanceSnapshot (root_doc root.now) listed (signed_doc snapshot_doc new.now) start.nanosecond (enforces enforcement)
+question_of (to.PutTargets d) = ask.PutTargets (signed_doc targets_doc d.now)
+question_of to.Ready = ask.Ready
+
+abbrev pub fault_of_kind : TransportErrorKind → FaultDoc
+fault_of_kind kind.UnsupportedUrlScheme = Faulty
+fault_of_kind kind.FileNotFound = NotFound
+fault_of_kind kind.Other = Faulty
+fault_of_kind kind.Memory = NoMemory
+
+abbrev pub fault_of_join : ParseError → FaultDoc
+fault_of_join url.OutOfMemory = NoMemory
+fault_of_join _ = Unjoined
+
+abbrev pub fault_doc : Fault → FaultDoc
+fault_doc (fault.JoinUrl e) = fault_of_join e
+fault_doc (fault.Transport e) = fault_of_kind (error_kind e)
+
+abbrev pub step_doc : Result ⊤ StepError → Result Unit Failure
+step_doc (Ok u) = Ok (tt {0})
+step_doc (Err e) = Err (step_failure e)
+
+abbrev pub answer_doc : Answer → AnswerDoc
+answer_doc (by.Moment now) = got.Moment now.nanosecond
+answer_doc (by.Bytes v) = got.Bytes v.items
+answer_doc (by.NotStarted f) = got.NotStarted (fault_doc f)
+answer_doc (by.Cut f) = got.Cut (fault_doc f)
+answer_doc (by.Step r) = got.Step (step_doc r)
+
+-- ---- stages
+
+-- the root that the walk is at
+abbrev pub last_of : Signed Root → Option (Signed Root) → SignedDoc RootDoc
+last_of first None = signed_doc root_doc first
+last_of first (Some later) = signed_doc root_doc later
+
+abbrev pub walk_doc : Walk → WalkDoc
+walk_doc w = record { start = w.start.nanosecond; first = signed_doc root_doc w.first; last = last_of w.first w.later }
+
+abbrev pub base_doc : Base → BaseDoc
+base_doc b = record { start = b.start.nanosecond; root = signed_doc root_doc b.root }
+
+abbrev pub known_doc : Known → KnownDoc
+known_doc k = record { start = k.start.nanosecond; root = signed_doc root_doc k.root; timestamp = signed_doc timestamp_doc k.timestamp; snapshot = signed_doc snapshot_doc k.snapshot }
+
+abbrev pub loaded_doc : Loaded → LoadedDoc
+loaded_doc l = record { known = known_doc l.known; targets = signed_doc targets_doc l.targets }
+
+abbrev pub outcome_doc : Result Loaded Error → Result LoadedDoc Failure
+outcome_doc (Ok l) = Ok (loaded_doc l)
+outcome_doc (Err e) = Err (failure_of e)
+
+abbrev pub stage_doc : Stage → StageDoc
+stage_doc in_stage.Moment = at.Moment
+stage_doc (in_stage.NoteTime now) = at.NoteTime now.nanosecond
+stage_doc (in_stage.FetchRoot w r) = at.FetchRoot (walk_doc w) (request_doc r)
+stage_doc (in_stage.PutRoot w) = at.PutRoot (walk_doc w)
+stage_doc (in_stage.PutLast w) = at.PutLast (walk_doc w)
+stage_doc (in_stage.Clear b) = at.Clear (base_doc b)
+stage_doc (in_stage.FetchTimestamp b r) = at.FetchTimestamp (base_doc b) (request_doc r)
+stage_doc (in_stage.PutTimestamp b t) = at.PutTimestamp (base_doc b) (signed_doc timestamp_doc t)
+stage_doc (in_stage.FetchSnapshot b t listed r) = at.FetchSnapshot (base_doc b) (signed_doc timestamp_doc t) listed (request_doc r)
+stage_doc (in_stage.PutSnapshot k listed) = at.PutSnapshot (known_doc k) listed
+stage_doc (in_stage.FetchTargets k listed r) = at.FetchTargets (known_doc k) listed (request_doc r)
+stage_doc (in_stage.PutTargets k d) = at.PutTargets (known_doc k) (signed_doc targets_doc d)
+stage_doc (in_stage.Done r) = at.Done (outcome_doc r)
+stage_doc in_stage.Taken = at.Taken
+
+abbrev pub setting_doc : Setting → SettingDoc
+setting_doc s = record { trusted = s.trusted.now; limits = s.limits; enforced = enforces s.enforcement }
+
+abbrev pub core_doc : Core → CoreDoc
+core_doc c = record { setting = record { trusted = c.trusted.items; limits = c.limits; enforced = enforces c.enforcement }; stage = stage_doc c.stage }

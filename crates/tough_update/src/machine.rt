@@ -1,0 +1,169 @@
+//! The update as a machine: what it wants next, and what it makes of an answer.
+
+ghost use Rattle.std.specs.Prelude.{◌≡◌, IsSome, IsNone, option_map, option_copied};
+ghost use Rattle.tough_vault.specs.Checks.{enforces};
+ghost use Rattle.tough_update.specs.Stages as at;
+ghost use Rattle.tough_update.specs.Machine.{question, stage_after};
+ghost use Rattle.tough_update.specs.Failure.{Gives};
+ghost use Rattle.tough_update.specs.View.{core_doc, stage_doc, answer_doc, question_of, setting_doc, outcome_doc};
+ghost use Rattle.tough_update.specs.Promises.{Settles, Goes, fits, ended};
+
+use crate::error::Error;
+use crate::limits::Limits;
+use crate::request::{Answer, Ask};
+use crate::stage::{Loaded, Stage};
+use crate::turns::{Setting, take_bytes, take_cut, take_moment, take_not_started, take_step};
+use std::alloc::Global;
+use std::mem;
+use tough_roles::Verify;
+use tough_vault::ExpirationEnforcement;
+
+/// An update, from the bytes of a root that is trusted to the documents that it vouches for (TUF specification 5). It fetches nothing and
+/// stores nothing: it says what it wants, and takes the answer.
+#[derive(Drop)]
+pub struct Core {
+    trusted: Vec<u8>,
+    limits: Limits,
+    enforcement: ExpirationEnforcement,
+    stage: Stage,
+}
+
+// What an answer makes of a stage.
+fn turn<V: Verify>(
+    setting: &Setting<'_>,
+    stage: Stage,
+    answer: Answer,
+    verifier: &V,
+) -> Result<Stage, Error>
+    ensures { Gives stage_doc (stage_after (V.verifies verifier.now) (setting_doc setting.now) (stage_doc stage) (answer_doc answer)) result }
+{
+    match answer {
+        Answer::Moment(now) => take_moment(stage, now),
+        Answer::Bytes(bytes) => take_bytes(setting, stage, bytes.as_slice(), verifier),
+        Answer::NotStarted(fault) => take_not_started(stage, fault),
+        Answer::Cut(fault) => take_cut(stage, fault),
+        Answer::Step(taken) => take_step(setting, stage, taken, verifier),
+    }
+}
+
+// The stage after an answer.
+fn next<V: Verify>(setting: &Setting<'_>, stage: Stage, answer: Answer, verifier: &V) -> Stage
+    ensures { Settles (stage_after (V.verifies verifier.now) (setting_doc setting.now) (stage_doc stage) (answer_doc answer)) (stage_doc result) }
+{
+    match turn(setting, stage, answer, verifier) {
+        Ok(stage) => stage,
+        Err(error) => Stage::Done(Err(error)),
+    }
+}
+
+impl Core {
+    /// An update from a root that is trusted, given as its bytes.
+    pub fn new(trusted: Vec<u8>, limits: Limits, enforcement: ExpirationEnforcement) -> Core
+        ensures { core_doc result ≡ record { setting = record { trusted = trusted.items; limits = limits; enforced = enforces enforcement }; stage = at.Moment } }
+    {
+        Core {
+            trusted,
+            limits,
+            enforcement,
+            stage: Stage::Moment,
+        }
+    }
+
+    /// What is wanted next.
+    pub fn ask(&self) -> Ask<'_>
+        ensures { question_of result ≡ question (core_doc self.now) }
+    {
+        match &self.stage {
+            Stage::Moment => Ask::Moment,
+            Stage::NoteTime(now) => Ask::NoteTime(*now),
+            Stage::FetchRoot(_, request) => Ask::Fetch(request),
+            Stage::PutRoot(walk) => Ask::PutRoot(walk.last()),
+            Stage::PutLast(walk) => Ask::PutRoot(walk.last()),
+            Stage::Clear(_) => Ask::ClearRotated,
+            Stage::FetchTimestamp(_, request) => Ask::Fetch(request),
+            Stage::PutTimestamp(base, timestamp) => Ask::AdvanceTimestamp {
+                root: &base.root.signed,
+                new: timestamp,
+                start: base.start,
+                enforcement: self.enforcement,
+            },
+            Stage::FetchSnapshot(_, _, _, request) => Ask::Fetch(request),
+            Stage::PutSnapshot(known, listed) => Ask::AdvanceSnapshot {
+                root: &known.root.signed,
+                listed: *listed,
+                new: &known.snapshot,
+                start: known.start,
+                enforcement: self.enforcement,
+            },
+            Stage::FetchTargets(_, _, request) => Ask::Fetch(request),
+            Stage::PutTargets(_, targets) => Ask::PutTargets(targets),
+            Stage::Done(_) => Ask::Ready,
+            Stage::Taken => Ask::Ready,
+        }
+    }
+
+    /// Whether a file is asked for, and the bytes are no longer than asked and have the digest that was asked for, if one was.
+    pub fn fits(&self, bytes: &[u8]) -> bool
+        ensures { result ≡ fits (core_doc self.now) bytes.now }
+    {
+        match self.ask() {
+            Ask::Fetch(request) => request.fits(bytes),
+            _ => false,
+        }
+    }
+
+    /// Takes an answer. One of a kind that isn't asked for changes nothing. Where memory is wanting, the update ends with `Memory`.
+    pub fn answer<V: Verify>(&mut self, alloc: Global, verifier: &V, answer: Answer)
+        ensures { Goes (V.verifies verifier.now) (core_doc self.old) (answer_doc answer) (core_doc self.new) }
+    {
+        let stage = mem::replace(&mut self.stage, Stage::Done(Err(Error::Memory)));
+        let setting = Setting {
+            alloc,
+            trusted: &self.trusted,
+            limits: self.limits,
+            enforcement: self.enforcement,
+        };
+        self.stage = next(&setting, stage, answer, verifier);
+    }
+
+    /// How the update ended, once it has.
+    pub fn outcome(&self) -> Option<&Result<Loaded, Error>>
+        ensures { option_map outcome_doc (option_copied result) ≡ ended (core_doc self.now).stage }
+    {
+        match &self.stage {
+            Stage::Done(outcome) => Some(outcome),
+            _ => None,
+        }
+    }
+
+    /// Hands out how the update ended, once it has; then nothing more is asked.
+    pub fn take_outcome(&mut self) -> Option<Result<Loaded, Error>>
+        ensures done { option_map outcome_doc result ≡ ended (core_doc self.old).stage }
+        ensures taken { IsSome result → core_doc self.new ≡ record { setting = (core_doc self.old).setting; stage = at.Taken } }
+        ensures not_yet { IsNone result → core_doc self.new ≡ core_doc self.old }
+    {
+        match mem::replace(&mut self.stage, Stage::Taken) {
+            Stage::Done(outcome) => Some(outcome),
+            stage => {
+                self.stage = stage;
+                None
+            }
+        }
+    }
+
+    /// How the update ended, once it has.
+    pub fn into_outcome(self) -> Option<Result<Loaded, Error>>
+        ensures { option_map outcome_doc result ≡ ended (core_doc self).stage }
+    {
+        let Core { stage, .. } = self;
+        match stage {
+            Stage::Done(outcome) => Some(outcome),
+            _ => None,
+        }
+    }
+}
+
+#[cfg(test)]
+mod documents;
+#[cfg(test)]
+mod tests;

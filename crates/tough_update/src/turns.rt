@@ -1,0 +1,497 @@
+//! What an answer makes of a stage.
+
+ghost use Rattle.std.specs.Prelude.{◌≡◌, OnOk, IfErr, option_map, option_copied, Ok, Err};
+ghost use Rattle.tough_keys.specs.Same.{Verifies};
+ghost use Rattle.tough_roles.specs.Signature.{signed_doc};
+ghost use Rattle.tough_roles.specs.Root.{root_doc};
+ghost use Rattle.tough_roles.specs.Timestamp.{timestamp_doc, metafile_doc, metafiles_doc};
+ghost use Rattle.tough_roles.specs.Snapshot.{snapshot_doc};
+ghost use Rattle.tough_vault.specs.Checks.{enforces, is_expired};
+ghost use Rattle.tough_vault.specs.Documents.{metafile_in, timestamp_in, snapshot_in};
+ghost use Rattle.tough_vault.specs.Files.{snapshot_file, targets_file};
+ghost use Rattle.tough_update.specs.Failure.{Gives, failure_of, step_failure};
+ghost use Rattle.tough_update.specs.Walk.{if_read, IsUnverified};
+ghost use Rattle.tough_update.specs.Machine.{walked, began, new_root, walk_ended, new_timestamp, want_snapshot, new_snapshot, want_targets, targets_checked, new_targets, fault_failure, root_not_started, root_cut, timed, fetched, not_started, cut, stepped, awaits_step, refused, stage_after};
+ghost use Rattle.tough_update.specs.Answered as got;
+ghost use Rattle.tough_update.specs.Listed.{lists_roles, bare_targets, targets_verdict};
+ghost use Rattle.tough_schema.specs.Targets.{targets_doc};
+ghost use Rattle.tough_roles.specs.declared.role_type.RoleType.TheVariants as types;
+ghost use Rattle.tough_update.specs.View.{walk_doc, base_doc, known_doc, stage_doc, request_doc, fault_doc, setting_doc, step_doc};
+
+use crate::error::Error;
+use crate::limits::Limits;
+use crate::request::{
+    Fault, Request, root_request, snapshot_request, targets_request, timestamp_request,
+};
+use crate::rotation::is_rotated;
+use crate::stage::{Base, Known, Loaded, Stage, Walk};
+use crate::walk::{first_root, next_root};
+use jiff::Timestamp as Instant;
+use std::alloc::Global;
+use std::collections::BTreeMap;
+use tough_json::error::shape;
+use tough_net::TransportErrorKind;
+use tough_roles::{
+    self as schema, Metafile, ReadError, RoleType, Root, Signed, Snapshot, Timestamp, Verify,
+};
+use tough_schema::Targets;
+use tough_vault::{ExpirationEnforcement, StepError};
+use url::ParseError;
+
+/// What the caller set.
+#[derive(Clone, Copy, Drop)]
+pub(crate) struct Setting<'a> {
+    pub(crate) alloc: Global,
+    pub(crate) trusted: &'a [u8],
+    pub(crate) limits: Limits,
+    pub(crate) enforcement: ExpirationEnforcement,
+}
+
+/// The walk goes on from a root, or ends where there is no later version.
+fn go_on(alloc: Global, limits: &Limits, walk: Walk) -> Result<Stage, Error>
+    ensures { Gives stage_doc (walked limits.now (walk_doc walk)) result }
+{
+    let version = walk.last().signed.version.get();
+    let first = walk.first.signed.version.get();
+    if version.saturating_sub(first) >= limits.max_root_updates {
+        return Err(Error::MaxUpdatesExceeded {
+            max_root_updates: limits.max_root_updates,
+        });
+    }
+    if version == u64::MAX {
+        return Ok(Stage::PutLast(walk));
+    }
+    let request = root_request(alloc, limits, version + 1)?;
+    Ok(Stage::FetchRoot(walk, request))
+}
+
+/// The walk begins.
+fn begin<V: Verify>(
+    alloc: Global,
+    limits: &Limits,
+    trusted: &[u8],
+    start: Instant,
+    verifier: &V,
+) -> Result<Stage, Error>
+    ensures { Gives stage_doc (began (V.verifies verifier.now) limits.now trusted.now start.nanosecond) result }
+{
+    let first = match first_root(alloc, trusted, verifier) {
+        Ok(first) => first,
+        Err(error) => return Err(error),
+    };
+    let walk = Walk {
+        start,
+        first,
+        later: None,
+    };
+    go_on(alloc, limits, walk)
+}
+
+fn take_root<V: Verify>(
+    alloc: Global,
+    walk: Walk,
+    bytes: &[u8],
+    verifier: &V,
+) -> Result<Stage, Error>
+    ensures { Gives stage_doc (new_root (V.verifies verifier.now) (walk_doc walk) bytes.now) result }
+{
+    let root = match next_root(alloc, &walk.last().signed, bytes, verifier) {
+        Ok(root) => root,
+        Err(error) => return Err(error),
+    };
+    let Walk {
+        start,
+        first,
+        later: _,
+    } = walk;
+    Ok(Stage::PutRoot(Walk {
+        start,
+        first,
+        later: Some(root),
+    }))
+}
+
+// Whether the update began after this moment, where that counts.
+fn is_expired(enforcement: ExpirationEnforcement, start: Instant, expires: Instant) -> bool
+    ensures { result ≡ is_expired (enforces enforcement) start.nanosecond expires.nanosecond }
+{
+    match enforcement {
+        ExpirationEnforcement::Safe => expires < start,
+        ExpirationEnforcement::Unsafe => false,
+    }
+}
+
+/// The last root was stored.
+fn end_walk(
+    alloc: Global,
+    limits: &Limits,
+    enforcement: ExpirationEnforcement,
+    walk: Walk,
+) -> Result<Stage, Error>
+    ensures { Gives stage_doc (walk_ended limits.now (enforces enforcement) (walk_doc walk)) result }
+{
+    let last = &walk.last().signed;
+    if is_expired(enforcement, walk.start, last.expires) {
+        return Err(Error::ExpiredMetadata {
+            role: RoleType::Root,
+        });
+    }
+    if is_rotated(&walk.first.signed, last) {
+        return Ok(Stage::Clear(walk.into_base()));
+    }
+    let request = timestamp_request(alloc, limits)?;
+    Ok(Stage::FetchTimestamp(walk.into_base(), request))
+}
+
+fn take_timestamp(alloc: Global, base: Base, bytes: &[u8]) -> Result<Stage, Error>
+    ensures { Gives stage_doc (new_timestamp (base_doc base) bytes.now) result }
+{
+    match Signed::<Timestamp>::read(alloc, bytes) {
+        Ok(timestamp) => Ok(Stage::PutTimestamp(base, timestamp)),
+        Err(ReadError::Memory) => Err(Error::Memory),
+        Err(source) => Err(Error::ParseMetadata {
+            role: RoleType::Timestamp,
+            source,
+        }),
+    }
+}
+
+// What is listed for a name.
+fn listed<'a>(meta: &'a BTreeMap<String, Metafile>, name: &str) -> Option<&'a Metafile>
+    ensures { option_map metafile_doc (option_copied result) ≡ metafile_in (metafiles_doc meta.now.entries) name.now }
+{
+    meta.get(name)
+}
+
+/// The timestamp was accepted.
+fn go_to_snapshot(
+    alloc: Global,
+    limits: &Limits,
+    base: Base,
+    timestamp: Signed<Timestamp>,
+) -> Result<Stage, Error>
+    ensures { Gives stage_doc (want_snapshot limits.now (base_doc base) (signed_doc timestamp_doc timestamp) (metafile_in (timestamp_doc timestamp.signed).meta snapshot_file)) result }
+{
+    let Some(meta) = listed(&timestamp.signed.meta, "snapshot.json") else {
+        return Err(Error::MissingSnapshotMeta {
+            version: timestamp.signed.version.get(),
+        });
+    };
+    let consistent = base.root.signed.consistent_snapshot;
+    let request = snapshot_request(alloc, limits, consistent, meta)?;
+    let version = meta.version.get();
+    Ok(Stage::FetchSnapshot(base, timestamp, version, request))
+}
+
+fn take_snapshot(
+    alloc: Global,
+    base: Base,
+    timestamp: Signed<Timestamp>,
+    listed: u64,
+    bytes: &[u8],
+) -> Result<Stage, Error>
+    ensures { Gives stage_doc (new_snapshot (base_doc base) (signed_doc timestamp_doc timestamp) listed bytes.now) result }
+{
+    match Signed::<Snapshot>::read(alloc, bytes) {
+        Ok(snapshot) => {
+            let Base { start, root } = base;
+            let known = Known {
+                start,
+                root,
+                timestamp,
+                snapshot,
+            };
+            Ok(Stage::PutSnapshot(known, listed))
+        }
+        Err(ReadError::Memory) => Err(Error::Memory),
+        Err(source) => Err(Error::ParseMetadata {
+            role: RoleType::Snapshot,
+            source,
+        }),
+    }
+}
+
+/// The snapshot was accepted.
+fn go_to_targets(alloc: Global, limits: &Limits, known: Known) -> Result<Stage, Error>
+    ensures { Gives stage_doc (want_targets limits.now (known_doc known) (metafile_in (snapshot_doc known.snapshot.signed).meta targets_file)) result }
+{
+    let Some(meta) = listed(&known.snapshot.signed.meta, "targets.json") else {
+        return Err(Error::SnapshotTargetsMetaMissing {
+            version: known.snapshot.signed.version.get(),
+        });
+    };
+    let consistent = known.root.signed.consistent_snapshot;
+    let request = targets_request(alloc, limits, consistent, meta)?;
+    let version = meta.version.get();
+    Ok(Stage::FetchTargets(known, version, request))
+}
+
+// Whether the targets delegate to a role.
+fn lists_roles(targets: &Targets) -> bool
+    ensures { result ≡ lists_roles (targets_doc targets.now).delegations }
+{
+    match &targets.delegations {
+        None => false,
+        Some(delegations) => delegations.roles.len() > 0,
+    }
+}
+
+// Targets that delegate to no role.
+fn bare_targets(alloc: Global, bytes: &[u8]) -> Result<Signed<Targets>, Error>
+    ensures { Gives (signed_doc targets_doc) (bare_targets bytes.now) result }
+{
+    let targets = match Signed::<Targets>::read(alloc, bytes) {
+        Ok(targets) => targets,
+        Err(ReadError::Memory) => return Err(Error::Memory),
+        Err(source) => {
+            return Err(Error::ParseMetadata {
+                role: RoleType::Targets,
+                source,
+            });
+        }
+    };
+    if lists_roles(&targets.signed) {
+        return Err(match shape(alloc, "roles") {
+            ReadError::Memory => Error::Memory,
+            source => Error::ParseMetadata {
+                role: RoleType::Targets,
+                source,
+            },
+        });
+    }
+    Ok(targets)
+}
+
+// The targets reach the root's threshold.
+fn verify_targets<V: Verify>(
+    alloc: Global,
+    root: &Root,
+    new: &Signed<Targets>,
+    verifier: &V,
+) -> Result<(), Error>
+    ensures passed { OnOk result (targets_verdict (V.verifies verifier.now) (root_doc root.now) (signed_doc targets_doc new.now) ≡ Ok (tt {0})) }
+    ensures refused { IfErr result (λ e. IsUnverified types.Targets (targets_verdict (V.verifies verifier.now) (root_doc root.now) (signed_doc targets_doc new.now)) e) }
+{
+    match root.verify_role(alloc, new, verifier) {
+        Ok(()) => Ok(()),
+        Err(schema::Error::Memory) => Err(Error::Memory),
+        Err(source) => Err(Error::VerifyMetadata {
+            role: RoleType::Targets,
+            source,
+        }),
+    }
+}
+
+// Targets reach the root's threshold, have the listed version and aren't expired.
+fn check_targets<V: Verify>(
+    setting: &Setting<'_>,
+    known: &Known,
+    listed: u64,
+    targets: &Signed<Targets>,
+    verifier: &V,
+) -> Result<(), Error>
+    ensures { Gives (λ u. tt {0}) (targets_checked (V.verifies verifier.now) (enforces setting.now.enforcement) (known_doc known.now) listed (signed_doc targets_doc targets.now)) result }
+{
+    if let Err(error) = verify_targets(setting.alloc, &known.root.signed, targets, verifier) {
+        return Err(error);
+    }
+    let fetched = targets.signed.version.get();
+    if fetched != listed {
+        return Err(Error::VersionMismatch {
+            role: RoleType::Targets,
+            fetched,
+            expected: listed,
+        });
+    }
+    if is_expired(setting.enforcement, known.start, targets.signed.expires) {
+        return Err(Error::ExpiredMetadata {
+            role: RoleType::Targets,
+        });
+    }
+    Ok(())
+}
+
+fn take_targets<V: Verify>(
+    setting: &Setting<'_>,
+    known: Known,
+    listed: u64,
+    bytes: &[u8],
+    verifier: &V,
+) -> Result<Stage, Error>
+    ensures { Gives stage_doc (new_targets (V.verifies verifier.now) (enforces setting.now.enforcement) (known_doc known) listed bytes.now) result }
+{
+    let targets = match bare_targets(setting.alloc, bytes) {
+        Ok(targets) => targets,
+        Err(error) => return Err(error),
+    };
+    match check_targets(setting, &known, listed, &targets, verifier) {
+        Ok(()) => Ok(Stage::PutTargets(known, targets)),
+        Err(error) => Err(error),
+    }
+}
+
+// What a fault is where the file of this name is needed.
+fn fault_error(path: String, fault: Fault) -> Error
+    ensures { failure_of result ≡ fault_failure (fault_doc fault) }
+{
+    match fault {
+        Fault::JoinUrl(ParseError::OutOfMemory) => Error::Memory,
+        Fault::JoinUrl(source) => Error::JoinUrl { path, source },
+        Fault::Transport(source) => match source.kind() {
+            TransportErrorKind::Memory => Error::Memory,
+            _ => Error::Transport { source },
+        },
+    }
+}
+
+// The fetch of a root didn't start.
+fn end_unstarted(walk: Walk, request: Request, fault: Fault) -> Result<Stage, Error>
+    ensures { Gives stage_doc (root_not_started (walk_doc walk) (fault_doc fault)) result }
+{
+    match fault {
+        Fault::JoinUrl(source) => Err(fault_error(request.name, Fault::JoinUrl(source))),
+        Fault::Transport(source) => match source.kind() {
+            TransportErrorKind::Memory => Err(Error::Memory),
+            _ => Ok(Stage::PutLast(walk)),
+        },
+    }
+}
+
+// The stream of a root failed.
+fn end_cut(walk: Walk, request: Request, fault: Fault) -> Result<Stage, Error>
+    ensures { Gives stage_doc (root_cut (walk_doc walk) (fault_doc fault)) result }
+{
+    match fault {
+        Fault::JoinUrl(source) => Err(fault_error(request.name, Fault::JoinUrl(source))),
+        Fault::Transport(source) => match source.kind() {
+            TransportErrorKind::FileNotFound => Ok(Stage::PutLast(walk)),
+            _ => Err(fault_error(request.name, Fault::Transport(source))),
+        },
+    }
+}
+
+/// A moment.
+pub(crate) fn take_moment(stage: Stage, now: Instant) -> Result<Stage, Error>
+    ensures { Gives stage_doc (timed (stage_doc stage) now.nanosecond) result }
+{
+    match stage {
+        Stage::Moment => Ok(Stage::NoteTime(now)),
+        stage => Ok(stage),
+    }
+}
+
+/// The bytes of a file.
+pub(crate) fn take_bytes<V: Verify>(
+    setting: &Setting<'_>,
+    stage: Stage,
+    bytes: &[u8],
+    verifier: &V,
+) -> Result<Stage, Error>
+    ensures { Gives stage_doc (fetched (V.verifies verifier.now) (enforces setting.now.enforcement) (stage_doc stage) bytes.now) result }
+{
+    let alloc = setting.alloc;
+    match stage {
+        Stage::FetchRoot(walk, _) => take_root(alloc, walk, bytes, verifier),
+        Stage::FetchTimestamp(base, _) => take_timestamp(alloc, base, bytes),
+        Stage::FetchSnapshot(base, timestamp, listed, _) => {
+            take_snapshot(alloc, base, timestamp, listed, bytes)
+        }
+        Stage::FetchTargets(known, listed, _) => {
+            take_targets(setting, known, listed, bytes, verifier)
+        }
+        stage => Ok(stage),
+    }
+}
+
+/// A fetch that didn't start.
+pub(crate) fn take_not_started(stage: Stage, fault: Fault) -> Result<Stage, Error>
+    ensures { Gives stage_doc (not_started (stage_doc stage) (fault_doc fault)) result }
+{
+    match stage {
+        Stage::FetchRoot(walk, request) => end_unstarted(walk, request, fault),
+        Stage::FetchTimestamp(_, request) => Err(fault_error(request.name, fault)),
+        Stage::FetchSnapshot(_, _, _, request) => Err(fault_error(request.name, fault)),
+        Stage::FetchTargets(_, _, request) => Err(fault_error(request.name, fault)),
+        stage => Ok(stage),
+    }
+}
+
+/// A stream that failed.
+pub(crate) fn take_cut(stage: Stage, fault: Fault) -> Result<Stage, Error>
+    ensures { Gives stage_doc (cut (stage_doc stage) (fault_doc fault)) result }
+{
+    match stage {
+        Stage::FetchRoot(walk, request) => end_cut(walk, request, fault),
+        Stage::FetchTimestamp(_, request) => Err(fault_error(request.name, fault)),
+        Stage::FetchSnapshot(_, _, _, request) => Err(fault_error(request.name, fault)),
+        Stage::FetchTargets(_, _, request) => Err(fault_error(request.name, fault)),
+        stage => Ok(stage),
+    }
+}
+
+/// A step that succeeded.
+fn take_success<V: Verify>(
+    setting: &Setting<'_>,
+    stage: Stage,
+    verifier: &V,
+) -> Result<Stage, Error>
+    ensures { Gives stage_doc (stepped (V.verifies verifier.now) (setting_doc setting.now) (stage_doc stage)) result }
+{
+    let alloc = setting.alloc;
+    let limits = &setting.limits;
+    match stage {
+        Stage::NoteTime(now) => begin(alloc, limits, setting.trusted, now, verifier),
+        Stage::PutRoot(walk) => go_on(alloc, limits, walk),
+        Stage::PutLast(walk) => end_walk(alloc, limits, setting.enforcement, walk),
+        Stage::Clear(base) => {
+            let request = timestamp_request(alloc, limits)?;
+            Ok(Stage::FetchTimestamp(base, request))
+        }
+        Stage::PutTimestamp(base, timestamp) => go_to_snapshot(alloc, limits, base, timestamp),
+        Stage::PutSnapshot(known, _) => go_to_targets(alloc, limits, known),
+        Stage::PutTargets(known, targets) => Ok(Stage::Done(Ok(Loaded { known, targets }))),
+        stage => Ok(stage),
+    }
+}
+
+// Whether a step was asked for.
+fn awaits_step(stage: &Stage) -> bool
+    ensures { result ≡ awaits_step (stage_doc stage.now) }
+{
+    match stage {
+        Stage::NoteTime(_) => true,
+        Stage::PutRoot(_) => true,
+        Stage::PutLast(_) => true,
+        Stage::Clear(_) => true,
+        Stage::PutTimestamp(_, _) => true,
+        Stage::PutSnapshot(_, _) => true,
+        Stage::PutTargets(_, _) => true,
+        _ => false,
+    }
+}
+
+/// A step that was refused.
+fn take_refusal(stage: Stage, error: StepError) -> Result<Stage, Error>
+    ensures { Gives stage_doc (refused (stage_doc stage) (step_failure error)) result }
+{
+    if awaits_step(&stage) {
+        Err(Error::from(error))
+    } else {
+        Ok(stage)
+    }
+}
+
+/// The answer of a step.
+pub(crate) fn take_step<V: Verify>(
+    setting: &Setting<'_>,
+    stage: Stage,
+    taken: Result<(), StepError>,
+    verifier: &V,
+) -> Result<Stage, Error>
+    ensures { Gives stage_doc (stage_after (V.verifies verifier.now) (setting_doc setting.now) (stage_doc stage) (got.Step (step_doc taken))) result }
+{
+    match taken {
+        Ok(()) => take_success(setting, stage, verifier),
+        Err(error) => take_refusal(stage, error),
+    }
+}
