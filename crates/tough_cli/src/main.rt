@@ -10,8 +10,8 @@ fn main(rt: HostRuntime) -> io::Result<ExitCode> {
     for word in env::args(&rt)?.skip(1) {
         words.push(word)?;
     }
-    let mut out = io::stdout(&rt);
-    let mut err = io::stderr(&rt);
+    let mut out = rt.stdout();
+    let mut err = rt.stderr();
     let status = tough::run(&rt, words.as_slice(), &mut out, &mut err);
     Ok(ExitCode::from(status))
 }
