@@ -32,6 +32,10 @@ delegated_role_doc r = let f = out-DelegatedRole r in
 abbrev pub delegations_doc : Delegations → DelegationsDoc
 delegations_doc d = let f = out-Delegations d in record { keys = keys_doc f.keys.entries; roles = map delegated_role_doc f.roles.items }
 
+-- no key and no role
+abbrev pub no_delegations : DelegationsDoc
+no_delegations = record { keys = []; roles = [] }
+
 unfoldable pub delegated_role_at : Data → Option DelegatedRoleDoc
 delegated_role_at d = do
   members ← as_object d

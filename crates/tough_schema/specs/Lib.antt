@@ -2,3 +2,13 @@ pub mod Paths
 pub mod Target
 pub mod Delegations
 pub mod Targets
+pub mod Matching
+pub mod Tree
+pub mod View
+pub mod Search
+pub mod Walk
+pub mod Verify
+pub mod Entries
+pub mod Gather
+pub mod Seek
+pub mod Seeking

@@ -19,7 +19,7 @@ use Rattle.tough_schema.specs.declared.target.Target.{Target}
 use Rattle.tough_schema.specs.declared.targets.Targets.{Targets, out-Targets}
 use Rattle.tough_schema.specs.declared.targets.DelegatedTargets.{DelegatedTargets, out-DelegatedTargets}
 use Rattle.tough_schema.specs.Target.{TargetDoc, target_doc, target_at, target_json}
-use Rattle.tough_schema.specs.Delegations.{DelegationsDoc, ListPatterns, delegations_doc, delegations_at, delegations_json}
+use Rattle.tough_schema.specs.Delegations.{DelegationsDoc, no_delegations, ListPatterns, delegations_doc, delegations_at, delegations_json}
 
 -- the targets are in the order of their names
 pub record TargetsDoc : Type 0 where
@@ -42,6 +42,10 @@ targets_doc t = let f = out-Targets t in record {
 -- the document of a delegated role, without its name
 abbrev pub delegated_doc : DelegatedTargets → TargetsDoc
 delegated_doc d = targets_doc (out-DelegatedTargets d).targets
+
+-- one that lists nothing, and delegates to no role
+abbrev pub bare_targets : Head → TargetsDoc
+bare_targets head = record { head = head; targets = []; delegations = Some no_delegations; extra = no_members }
 
 -- ---- the listing
 

@@ -1,4 +1,8 @@
+ghost use Rattle.std.specs.Prelude.{◌≡◌};
+ghost use Rattle.tough_schema.specs.Delegations.{delegations_doc, no_delegations};
+
 use crate::targets::DelegatedTargets;
+use std::alloc::Global;
 use std::collections::BTreeMap;
 use std::num::NonZeroU64;
 use tough_base::{Decoded, Hex, PathHashPrefix, PathPattern};
@@ -20,6 +24,18 @@ pub enum PathSet {
 pub struct Delegations {
     pub keys: BTreeMap<Decoded<Hex>, Key>,
     pub roles: Vec<DelegatedRole>,
+}
+
+impl Delegations {
+    /// Delegations to no role.
+    pub fn new(alloc: Global) -> Delegations
+        ensures { delegations_doc result ≡ no_delegations }
+    {
+        Delegations {
+            keys: BTreeMap::new(alloc),
+            roles: Vec::new(alloc),
+        }
+    }
 }
 
 /// A delegated role, and its document where it was loaded; the document is no member of the JSON.

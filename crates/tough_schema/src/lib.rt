@@ -2,11 +2,18 @@
 #![tactic(auto)]
 
 mod delegations;
+mod entries;
+mod find;
+pub mod laws;
+mod listing;
+mod matching;
 mod read_delegations;
 mod read_target;
 mod read_targets;
+mod seek;
 mod target;
 mod targets;
+mod verify;
 mod write_delegations;
 mod write_target;
 mod write_targets;
@@ -19,3 +26,6 @@ pub use tough_roles::{
     KeyParseError, Metafile, ReadError, Role, RoleKeys, RoleType, Root, RsaKey, RsaScheme, Sign,
     SignError, Signature, Signed, Snapshot, Timestamp, Verify, WriteError, canonical_form,
 };
+
+#[cfg(test)]
+mod tests;

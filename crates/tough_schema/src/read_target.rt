@@ -27,11 +27,7 @@ fn size(alloc: Global, members: &mut Map<String, Value>, name: &str) -> Result<u
 }
 
 // Hashes that must be there.
-fn hashes(
-    alloc: Global,
-    members: &mut Map<String, Value>,
-    name: &str,
-) -> Result<Hashes, ReadError>
+fn hashes(alloc: Global, members: &mut Map<String, Value>, name: &str) -> Result<Hashes, ReadError>
     ensures { Takes hashes_doc result (members_view members.new.entries) (required name.now hashes_at (members_view members.old.entries)) }
 {
     match take(members, name) {

@@ -1,8 +1,9 @@
-ghost use Rattle.std.specs.Prelude.{◌≡◌, Some, None};
+ghost use Rattle.std.specs.Prelude.{◌≡◌, Some, None, string_bytes};
 ghost use Rattle.std.proofs.Common.{rules};
+ghost use Rattle.std.specs.Int.NonZero.{non_zero_u64_get};
 ghost use Rattle.tough_json.specs.Results.{ReadsBytes};
 ghost use Rattle.tough_roles.specs.declared.role_type.RoleType.TheVariants as types;
-ghost use Rattle.tough_schema.specs.Targets.{targets_doc, delegated_doc, targets_at, targets_json, IsKept};
+ghost use Rattle.tough_schema.specs.Targets.{targets_doc, delegated_doc, targets_at, targets_json, bare_targets, IsKept};
 
 use crate::delegations::Delegations;
 use crate::read_targets::targets_of;
@@ -35,6 +36,27 @@ pub struct Targets {
 pub struct DelegatedTargets {
     pub name: String,
     pub targets: Targets,
+}
+
+impl Targets {
+    /// Targets that list nothing yet, with empty delegations.
+    pub fn new(
+        alloc: Global,
+        spec_version: String,
+        version: NonZeroU64,
+        expires: jiff::Timestamp,
+    ) -> Targets
+        ensures { targets_doc result ≡ bare_targets (record { spec_version = string_bytes spec_version; version = non_zero_u64_get version; expires = expires.nanosecond }) }
+    {
+        Targets {
+            spec_version,
+            version,
+            expires,
+            targets: BTreeMap::new(alloc),
+            delegations: Some(Delegations::new(alloc)),
+            _extra: Map::new(alloc),
+        }
+    }
 }
 
 impl Targets {

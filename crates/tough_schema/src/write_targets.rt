@@ -63,6 +63,13 @@ pub(crate) fn targets_value(alloc: Global, targets: &Targets) -> Result<Value, W
     let extra = copy_members(alloc, &targets._extra)?;
     let parts = with_parts(alloc, extra, targets)?;
     let name = targets.spec_version.as_str();
-    let members = with_head(alloc, parts, "targets", name, targets.version, targets.expires)?;
+    let members = with_head(
+        alloc,
+        parts,
+        "targets",
+        name,
+        targets.version,
+        targets.expires,
+    )?;
     Ok(Value::Object(members))
 }

@@ -1,0 +1,108 @@
+-- What the documents of a tree list, one after another.
+use Rattle.std.proofs.Common.{◌≡◌, ℕ, ◌+◌, ◌<◌, List, [], ◌∷◌, ◌++◌, map, take, drop, length, get_or, Option, Some, None, is_some, true, option_map, Bor, Ordering, Less, Equal, Greater, inl, inr, refl, sym, ap, subst, ◌∙◌, append_assoc, append-nil}
+use Rattle.std.proofs.lemmas.List.{map-append, take_more, drop_more, take-append-drop}
+use Rattle.std.specs.BTreeMap.{insert_entry}
+use Rattle.std.specs.List.{AllByRecursion}
+use Rattle.std.specs.Ordering.{match_ordering}
+use Rattle.tough_names.specs.Named.{Named, by_raw_then_resolved}
+use Rattle.tough_roles.specs.Reaches.{IsAmong}
+use Rattle.tough_roles.specs.declared.signed.Signed.{Signed}
+use Rattle.tough_schema.specs.declared.delegations.DelegatedRole.{DelegatedRole, out-DelegatedRole}
+use Rattle.tough_schema.specs.declared.target.Target.{Target}
+use Rattle.tough_schema.specs.declared.targets.DelegatedTargets.{DelegatedTargets, out-DelegatedTargets}
+use Rattle.tough_schema.specs.declared.targets.Targets.{Targets, out-Targets}
+use Rattle.tough_schema.specs.Target.{TargetDoc, target_doc}
+use Rattle.tough_schema.specs.Targets.{listing_doc}
+use Rattle.tough_schema.specs.Tree.{Listing, Entry, Document, listing_of}
+use Rattle.tough_schema.specs.View.{Role, view, view_role}
+use Rattle.tough_roles.specs.declared.error.Error.{Error}
+use Rattle.tough_roles.specs.declared.error.Error.TheVariants as errors
+use Rattle.tough_schema.specs.Search.{search, IsNotFound}
+use Rattle.tough_schema.specs.Entries.{listed_of, listed_in, all_listed, merged_into, IsListed, IsInvalid}
+use Rattle.tough_schema.specs.Gather.{placed, shown, listed_docs, map_docs}
+use Rattle.tough_schema.proofs.Views.{held_document, view-out, view_role-out, view_delegated-out}
+
+pub listing-view : (t : Targets) → listing_of (view t) ≡ listing_doc (out-Targets t).targets.entries
+listing-view t = ap listing_of (view-out t)
+
+-- what the document of a role lists
+pub placed-none : (r : DelegatedRole) → (out-DelegatedRole r).targets ≡ None → listed_of (placed (view_role r)).1 ≡ []
+placed-none r h = ap (λ (x : Role). listed_of (option_map listing_of x.1)) (view_role-out r) ∙ ap (λ o. listed_of (option_map listing_of (held_document o))) h
+
+pub placed-some : (r : DelegatedRole) (s : Signed DelegatedTargets) → (out-DelegatedRole r).targets ≡ Some s → listed_of (placed (view_role r)).1 ≡ listing_doc (out-Targets (out-DelegatedTargets s.signed).targets).targets.entries
+placed-some r s h =
+    ap (λ (x : Role). listed_of (option_map listing_of x.1)) (view_role-out r) ∙ ap (λ o. listed_of (option_map listing_of (held_document o))) h
+    ∙ ap listing_of (view_delegated-out s.signed) ∙ listing-view (out-DelegatedTargets s.signed).targets
+
+listed_in-append : (xs ys : List (Entry × Option Listing)) → listed_in (xs ++ ys) ≡ listed_in xs ++ listed_in ys
+listed_in-append [] ys = refl
+listed_in-append (x ∷ xs) ys = ap (λ l. listed_of x.1 ++ l) (listed_in-append xs ys) ∙ sym (append_assoc (listed_of x.1) (listed_in xs) (listed_in ys))
+
+-- the entries up to i, and the one at i
+pub listed_in-more : (rs : List (Bor DelegatedRole)) (i : ℕ) (r : Bor DelegatedRole) → i < length rs → r ≡ get_or rs i r
+    → listed_in (shown (take (i + 1) rs)) ≡ listed_in (shown (take i rs)) ++ listed_of (placed (view_role r.now)).1
+listed_in-more rs i r h e =
+    let here : take (i + 1) rs ≡ take i rs ++ r ∷ [] = take_more rs i r h ∙ ap (λ y. take i rs ++ y ∷ []) (sym e) in
+    ap (λ l. listed_in (shown l)) here ∙ ap listed_in (map-append (λ (x : Bor DelegatedRole). placed (view_role x.now)) (take i rs) (r ∷ [])) ∙ listed_in-append (shown (take i rs)) (placed (view_role r.now) ∷ [])
+    ∙ ap (λ l. listed_in (shown (take i rs)) ++ l) (append-nil (listed_of (placed (view_role r.now)).1))
+
+-- ---- a map
+
+insert_at : (o : Ordering) (e : Named × Bor Target) (es rest : List (Named × Bor Target)) (name : Named) (t : Bor Target) (docs : Listing) → map_docs rest ≡ docs
+    → map_docs (match_ordering o ((name, t) ∷ e ∷ es) ((e.0, t) ∷ es) (e ∷ rest)) ≡ match_ordering o ((name, target_doc t.now) ∷ map_docs (e ∷ es)) ((e.0, target_doc t.now) ∷ map_docs es) ((e.0, target_doc e.1.now) ∷ docs)
+insert_at Less e es rest name t docs h = refl
+insert_at Equal e es rest name t docs h = refl
+insert_at Greater e es rest name t docs h = ap (λ l. (e.0, target_doc e.1.now) ∷ l) h
+
+pub insert-map_docs : (es : List (Named × Bor Target)) (name : Named) (t : Bor Target) → map_docs (insert_entry by_raw_then_resolved es name t) ≡ insert_entry by_raw_then_resolved (map_docs es) name (target_doc t.now)
+insert-map_docs [] name t = refl
+insert-map_docs (e ∷ es) name t = insert_at (by_raw_then_resolved name e.0) e es (insert_entry by_raw_then_resolved es name t) name t (insert_entry by_raw_then_resolved (map_docs es) name (target_doc t.now)) (insert-map_docs es name t)
+
+merged-last : (found xs : Listing) (e : Named × TargetDoc) → merged_into found (xs ++ e ∷ []) ≡ insert_entry by_raw_then_resolved (merged_into found xs) e.0 e.1
+merged-last found [] e = refl
+merged-last found (x ∷ xs) e = merged-last (insert_entry by_raw_then_resolved found x.0 x.1) xs e
+
+docs-more : (es : List (Bor Named × Bor Target)) (i : ℕ) (e : Bor Named × Bor Target) → i < length es → e ≡ get_or es i e → listed_docs (take (i + 1) es) ≡ listed_docs (take i es) ++ (e.0.now, target_doc e.1.now) ∷ []
+docs-more es i e h is =
+    let here : take (i + 1) es ≡ take i es ++ e ∷ [] = take_more es i e h ∙ ap (λ y. take i es ++ y ∷ []) (sym is) in
+    ap listed_docs here ∙ map-append (λ (x : Bor Named × Bor Target). (x.0.now, target_doc x.1.now)) (take i es) (e ∷ [])
+
+pub merged-more : (found : Listing) (es : List (Bor Named × Bor Target)) (i : ℕ) (e : Bor Named × Bor Target) → i < length es → e ≡ get_or es i e
+    → merged_into found (listed_docs (take (i + 1) es)) ≡ insert_entry by_raw_then_resolved (merged_into found (listed_docs (take i es))) e.0.now (target_doc e.1.now)
+merged-more found es i e h is = ap (merged_into found) (docs-more es i e h is) ∙ merged-last found (listed_docs (take i es)) (e.0.now, target_doc e.1.now)
+
+-- ---- each of them
+
+all-last : {A : Type 0} (P : A → Type 0) (xs : List A) (x : A) → AllByRecursion P xs → P x → AllByRecursion P (xs ++ x ∷ [])
+all-last P [] x h p = (p, tt)
+all-last P (y ∷ xs) x h p = (h.0, all-last P xs x h.1 p)
+
+pub all-more : (P : Named × TargetDoc → Type 0) (es : List (Bor Named × Bor Target)) (i : ℕ) (e : Bor Named × Bor Target) → i < length es → e ≡ get_or es i e
+    → AllByRecursion P (listed_docs (take i es)) → P (e.0.now, target_doc e.1.now) → AllByRecursion P (listed_docs (take (i + 1) es))
+all-more P es i e h is all p = subst (AllByRecursion P) (sym (docs-more es i e h is)) (all-last P (listed_docs (take i es)) (e.0.now, target_doc e.1.now) all p)
+
+among-middle : {A : Type 0} (xs : List A) (x : A) (ys : List A) → IsAmong x (xs ++ x ∷ ys)
+among-middle [] x ys = inl refl
+among-middle (y ∷ xs) x ys = inr (among-middle xs x ys)
+
+pub among-at : (es : List (Bor Named × Bor Target)) (i : ℕ) (e : Bor Named × Bor Target) → i < length es → e ≡ get_or es i e → IsAmong (e.0.now, target_doc e.1.now) (listed_docs es)
+among-at es i e h is =
+    let rest : drop i es ≡ e ∷ drop (i + 1) es = drop_more es i e h ∙ ap (λ y. y ∷ drop (i + 1) es) (sym is) in
+    let whole : listed_docs es ≡ listed_docs (take i es) ++ (e.0.now, target_doc e.1.now) ∷ listed_docs (drop (i + 1) es) =
+    ap listed_docs (sym (take-append-drop i es)) ∙ ap (λ l. listed_docs (take i es ++ l)) rest ∙ map-append (λ (x : Bor Named × Bor Target). (x.0.now, target_doc x.1.now)) (take i es) (e ∷ drop (i + 1) es) in
+    subst (IsAmong (e.0.now, target_doc e.1.now)) (sym whole) (among-middle (listed_docs (take i es)) (e.0.now, target_doc e.1.now) (listed_docs (drop (i + 1) es)))
+
+pub is_some-some : {A : Type 0} (o : Option A) (a : A) → o ≡ Some a → is_some o ≡ true
+is_some-some None a h = cc
+is_some-some (Some b) a h = refl
+
+pub invalid-from : (d : Document) (name : Named) (t : TargetDoc) (e : Error) → IsAmong (name, t) (all_listed d) → IsNotFound name (search true name d) e → IsInvalid d e
+invalid-from d name t (errors.TargetNotFound n) among h = subst (λ m. IsListed m (all_listed d) × (search true m d ≡ None)) (sym h.0) ((t, among), h.1)
+invalid-from d name t errors.Memory among h = h
+invalid-from d name t (errors.RoleNotFound n) among h = h
+invalid-from d name t errors.NoDelegations among h = h
+invalid-from d name t errors.NoTargets among h = h
+invalid-from d name t (errors.MissingRole role) among h = h
+invalid-from d name t (errors.JsonSerialization role) among h = h
+invalid-from d name t (errors.DuplicateKeyId keyid) among h = h
+invalid-from d name t (errors.SignatureThreshold role threshold valid) among h = h

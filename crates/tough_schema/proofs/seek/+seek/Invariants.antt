@@ -1,0 +1,7 @@
+use Rattle.std.proofs.Common.{◌≡◌, drop}
+use Rattle.tough_schema.specs.View.{view_roles}
+use Rattle.tough_schema.specs.Seek.{seek}
+use Rattle.tough_schema.proofs.seek.+seek.Given as goal
+
+abbrev pub invariant-seek_among-loop-role : goal.invariant-seek_among-loop-role
+invariant-seek_among-loop-role l = seek l.name (view_roles (drop l.role-index l.roles)) ≡ seek l.name (view_roles l.roles)

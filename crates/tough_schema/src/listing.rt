@@ -1,0 +1,87 @@
+//! What the documents of a tree list.
+
+ghost use Rattle.std.specs.Prelude.{◌≡◌, ◌++◌, [], IfOk, IfErr, OnOk, map};
+ghost use Rattle.tough_schema.specs.Target.{target_doc};
+ghost use Rattle.tough_schema.specs.Targets.{listing_doc};
+ghost use Rattle.tough_schema.specs.View.{view, view_role};
+ghost use Rattle.tough_schema.specs.Entries.{all_listed, listed_of, merged_into, IsValid, IsInvalid};
+ghost use Rattle.tough_schema.specs.Gather.{placed, listed_docs, map_docs};
+
+use crate::delegations::DelegatedRole;
+use crate::target::Target;
+use crate::targets::Targets;
+use std::alloc::{AllocError, Global};
+use std::collections::BTreeMap;
+use tough_base::TargetName;
+use tough_roles::Error;
+
+// Adds what a document lists, in the order of the names.
+fn add_listing<'a>(
+    targets: &'a BTreeMap<TargetName, Target>,
+    found: &mut Vec<(&'a TargetName, &'a Target)>,
+) -> Result<(), AllocError>
+    ensures { OnOk result (listed_docs found.new.items ≡ listed_docs found.old.items ++ listing_doc targets.now.entries) }
+{
+    for (name, target) in targets.iter() {
+        found.push((name, target))?;
+    }
+    Ok(())
+}
+
+// Adds what a role's document lists, if it has one.
+fn add_document<'a>(
+    role: &'a DelegatedRole,
+    found: &mut Vec<(&'a TargetName, &'a Target)>,
+) -> Result<(), AllocError>
+    ensures { OnOk result (listed_docs found.new.items ≡ listed_docs found.old.items ++ listed_of (placed (view_role role.now)).1) }
+{
+    if let Some(signed) = &role.targets {
+        add_listing(&signed.signed.targets.targets, found)?;
+    }
+    Ok(())
+}
+
+impl Targets {
+    /// What the documents of the tree list: this one before all, then those of the entries in preorder, each in the
+    /// order of its names.
+    pub fn targets_iter(&self, alloc: Global) -> Result<Vec<(&TargetName, &Target)>, AllocError>
+        ensures { IfOk result (λ v. listed_docs v.items ≡ all_listed (view self.now)) }
+    {
+        let entries = self.entries(alloc)?;
+        let mut found = Vec::new(alloc);
+        add_listing(&self.targets, &mut found)?;
+        for role in &entries {
+            add_document(role, &mut found)?;
+        }
+        Ok(found)
+    }
+
+    /// The same as a map, where a later listing takes the place of an earlier one.
+    pub fn targets_map(&self, alloc: Global) -> Result<BTreeMap<TargetName, &Target>, AllocError>
+        ensures { IfOk result (λ m. map_docs m.entries ≡ merged_into [] (all_listed (view self.now))) }
+    {
+        let listed = self.targets_iter(alloc)?;
+        let mut found = BTreeMap::new(alloc);
+        for entry in &listed {
+            let (name, target) = *entry;
+            found.insert(name.clone()?, target)?;
+        }
+        Ok(found)
+    }
+
+    /// Whether each listed name is found by the permissive search; else `TargetNotFound` with a name that isn't.
+    pub fn validate(&self, alloc: Global) -> Result<(), Error>
+        ensures ok { IfOk result (λ u. IsValid (view self.now)) }
+        ensures refused { IfErr result (λ e. IsInvalid (view self.now) e) }
+    {
+        let listed = self.targets_iter(alloc)?;
+        for entry in &listed {
+            let (name, _) = *entry;
+            match self.find_target(alloc, name, true) {
+                Ok(_) => {}
+                Err(error) => return Err(error),
+            }
+        }
+        Ok(())
+    }
+}

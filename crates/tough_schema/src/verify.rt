@@ -1,0 +1,96 @@
+//! Whether a delegated role's document is signed by enough keys.
+
+ghost use Rattle.std.specs.Prelude.{◌≡◌, Some, None, IfOk, IfErr, option_map, map};
+ghost use Rattle.tough_roles.specs.Root.{role_keys_doc};
+ghost use Rattle.tough_roles.specs.Signature.{signatures_doc, signed_doc};
+ghost use Rattle.tough_roles.specs.Verdict.{verdict, Answers, IsOkOrMemory};
+ghost use Rattle.tough_roles.specs.Chain.{text_by};
+ghost use Rattle.tough_schema.specs.Delegations.{delegated_role_doc, delegations_doc};
+ghost use Rattle.tough_schema.specs.Verify.{role_keys, role_named, delegated_policy, ReachesDelegated, NamesDelegated};
+
+use crate::delegations::{DelegatedRole, Delegations};
+use serde_json::Map;
+use std::alloc::{AllocError, Global};
+use tough_json::error::WriteError;
+use tough_keys::Verify;
+use tough_roles::verify::judge;
+use tough_roles::{Error, Role, RoleKeys, Signed, canonical_form};
+
+impl DelegatedRole {
+    /// The identifiers that the role lists, and how many of them must sign.
+    pub fn keys(&self, alloc: Global) -> Result<RoleKeys, AllocError>
+        ensures { IfOk result (λ k. role_keys_doc k ≡ role_keys (delegated_role_doc self.now)) }
+    {
+        Ok(RoleKeys {
+            keyids: self.keyids.clone()?,
+            threshold: self.threshold,
+            _extra: Map::new(alloc),
+        })
+    }
+}
+
+// The first role of the name.
+fn first_named<'a>(roles: &'a [DelegatedRole], name: &str) -> Option<&'a DelegatedRole>
+    ensures { option_map (λ r. delegated_role_doc r.now) result ≡ role_named name.now (map delegated_role_doc roles.now) }
+{
+    for role in roles {
+        if role.name.as_str() == name {
+            return Some(role);
+        }
+    }
+    None
+}
+
+// The verdict on the document's signatures under the first role of the name.
+fn answer<T: Role, V: Verify>(
+    alloc: Global,
+    delegations: &Delegations,
+    document: &Signed<T>,
+    name: &str,
+    verifier: &V,
+) -> Result<(), Error>
+    ensures verdict { Answers result (verdict (V.verifies verifier.now) (delegated_policy (delegations_doc delegations.now) name.now) (text_by T.json document.now.signed) (signatures_doc document.now.signatures.items)) }
+    ensures named { IfErr result (λ e. NamesDelegated name.now T.TYPE (signatures_doc document.now.signatures.items) e) }
+{
+    let Some(role) = first_named(&delegations.roles, name) else {
+        return Err(Error::RoleNotFound {
+            name: String::from_str(alloc, name)?,
+        });
+    };
+    let keys = role.keys(alloc)?;
+    match canonical_form(alloc, &document.signed) {
+        Ok(text) => {
+            let text = text.as_slice();
+            judge(
+                alloc,
+                &delegations.keys,
+                T::TYPE,
+                &keys,
+                text,
+                &document.signatures,
+                verifier,
+            )
+        }
+        Err(WriteError::Memory) => Err(Error::Memory),
+        Err(WriteError::Unwritable) => Err(Error::JsonSerialization { role: T::TYPE }),
+    }
+}
+
+impl Delegations {
+    /// Whether the document's signatures reach the threshold of the first role of the name. The refusals, in this order:
+    /// `RoleNotFound`, `JsonSerialization`, `DuplicateKeyId`, `SignatureThreshold`.
+    pub fn verify_role<T: Role, V: Verify>(
+        &self,
+        alloc: Global,
+        document: &Signed<T>,
+        name: &str,
+        verifier: &V,
+    ) -> Result<(), Error>
+        ensures verdict { Answers result (verdict (V.verifies verifier.now) (delegated_policy (delegations_doc self.now) name.now) (text_by T.json document.now.signed) (signatures_doc document.now.signatures.items)) }
+        ensures ok { IfOk result (λ u. ReachesDelegated (V.verifies verifier.now) (delegations_doc self.now) name.now T.json (signed_doc (λ x. x) document.now)) }
+        ensures only { ReachesDelegated (V.verifies verifier.now) (delegations_doc self.now) name.now T.json (signed_doc (λ x. x) document.now) → IsOkOrMemory result }
+        ensures named { IfErr result (λ e. NamesDelegated name.now T.TYPE (signatures_doc document.now.signatures.items) e) }
+    {
+        answer(alloc, self, document, name, verifier)
+    }
+}
