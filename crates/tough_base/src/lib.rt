@@ -9,6 +9,7 @@ mod url_path;
 pub use cjson::{CjsonError, canonical, holds_float};
 pub use compat::Compat;
 pub use decoded::{Decode, DecodeError, Decoded, EcdsaFlex, EcdsaPem, Encode, Hex, RsaPem};
+pub use tough_files::{FileKind, Files, FilesError, MemoryFiles, OsFiles};
 pub use tough_names::{
     FILE_NAME, NameError, PathHashPrefix, PathPattern, PatternError, TargetName, encode_filename,
 };

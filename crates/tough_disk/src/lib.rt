@@ -1,0 +1,11 @@
+//! A store over a folder of the real file system, and the real clock.
+#![tactic(auto)]
+
+mod clock;
+mod folder;
+
+pub use clock::{Clock, SystemClock};
+pub use folder::DirStore;
+
+#[cfg(test)]
+mod tests;

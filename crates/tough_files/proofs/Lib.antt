@@ -1,0 +1,4 @@
+pub mod Views
+pub mod Following
+pub mod Listing
+pub mod Folders

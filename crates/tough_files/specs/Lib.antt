@@ -1,0 +1,7 @@
+pub mod Calls
+pub mod Contents
+pub mod Changes
+pub mod Notes
+pub mod Tree
+pub mod Memory
+pub mod System
