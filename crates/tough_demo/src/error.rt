@@ -1,6 +1,7 @@
 use std::alloc::{AllocError, AllocFailed};
 use thiserror::Error;
-use tough::schema::{DecodeError, SignError, WriteError};
+use tough_base::{DecodeError, NameError};
+use tough_schema::{SignError, WriteError};
 
 /// Why a document of a demonstration wasn't made.
 #[derive(Debug, Drop, Error)]
@@ -11,6 +12,9 @@ pub enum DemoError {
     /// A text is no instant.
     #[error("not an instant")]
     Instant,
+    /// A text is no target's name.
+    #[error("not the name of a target")]
+    Name,
     /// A document has no JSON.
     #[error("a document has no JSON")]
     Unwritable,
@@ -39,6 +43,15 @@ impl From<DecodeError> for DemoError {
         match error {
             DecodeError::Memory => DemoError::Memory,
             _ => DemoError::Hex,
+        }
+    }
+}
+
+impl From<NameError> for DemoError {
+    fn from(error: NameError) -> DemoError {
+        match error {
+            NameError::Memory => DemoError::Memory,
+            _ => DemoError::Name,
         }
     }
 }

@@ -1,0 +1,127 @@
+//! A whole repository.
+ghost use Rattle.std.specs.Prelude.{◌≡◌, ◌+◌, ◌<◌, IfOk, length};
+ghost use Rattle.std.specs.Int.NonZero.{non_zero_u64_get};
+
+use crate::documents::{root_with, snapshot, targets, timestamp_of};
+use crate::entries::{metafile, target};
+use crate::error::DemoError;
+use crate::files::{RepositoryFile, RepositoryFiles};
+use crate::keys::{PUBLIC, demo_signer, ed25519};
+use crate::text::{pretty, sign};
+use std::alloc::{AllocError, Global};
+use std::collections::BTreeMap;
+use std::num::NonZeroU64;
+use tough_base::TargetName;
+use tough_schema::{DemoSign, Role, Target};
+
+// The version that a number is.
+fn version(number: u64) -> NonZeroU64
+    requires { 0 < number }
+    ensures { non_zero_u64_get result ≡ number }
+{
+    NonZeroU64::new(number).unwrap()
+}
+
+// The role as it is signed and written to a file.
+fn signed_text<T: Role + Drop>(
+    alloc: Global,
+    role: T,
+    signer: &DemoSign,
+) -> Result<Vec<u8>, DemoError> {
+    let document = sign(alloc, role, signer)?;
+    pretty(alloc, &document)
+}
+
+// Where a metadata file lies: with consistent snapshots its version stands before its name (TUF specification 1.0,
+// section 6.2).
+fn metadata_path(
+    alloc: Global,
+    version: NonZeroU64,
+    name: &str,
+    consistent: bool,
+) -> Result<String, AllocError> {
+    if consistent {
+        format!(in alloc; "metadata/{}.{name}", version.get())
+    } else {
+        format!(in alloc; "metadata/{name}")
+    }
+}
+
+// Where a target file lies: with consistent snapshots its digest stands before its name.
+fn target_path(
+    alloc: Global,
+    target: &Target,
+    name: &str,
+    consistent: bool,
+) -> Result<String, AllocError> {
+    if consistent {
+        format!(in alloc; "targets/{}.{name}", target.hashes.sha256.as_str())
+    } else {
+        format!(in alloc; "targets/{name}")
+    }
+}
+
+// Makes the target file of that number, and lists it.
+fn add_target(
+    alloc: Global,
+    number: u64,
+    consistent: bool,
+    listing: &mut BTreeMap<TargetName, Target>,
+) -> Result<RepositoryFile, DemoError> {
+    let name = format!(in alloc; "target-{number:06}.txt")?;
+    let bytes = format!(in alloc; "This is target number {number}.\n")?.into_bytes();
+    let listed = target(alloc, bytes.as_slice())?;
+    let path = target_path(alloc, &listed, name.as_str(), consistent)?;
+    listing.insert(TargetName::new(alloc, name)?, listed)?;
+    Ok(RepositoryFile { path, bytes })
+}
+
+// Makes so many target files, and lists them.
+fn target_files(
+    alloc: Global,
+    count: u64,
+    consistent: bool,
+    listing: &mut BTreeMap<TargetName, Target>,
+) -> Result<Vec<RepositoryFile>, DemoError>
+    ensures { IfOk result (λ files. length files.items ≡ count) }
+{
+    let mut files = Vec::new(alloc);
+    for number in 0..count {
+        files.push(add_target(alloc, number + 1, consistent, listing)?)?;
+    }
+    Ok(files)
+}
+
+/// A repository with so many targets, with or without consistent snapshots: its root has version 1, its targets 2, its
+/// snapshot 3 and its timestamp 4.
+///
+/// The targets are `target-000001.txt` and so on. The files are those of the targets, in their order, and then
+/// `targets.json`, `snapshot.json`, `timestamp.json` and `1.root.json`.
+pub fn repository(
+    alloc: Global,
+    count: u64,
+    consistent: bool,
+) -> Result<RepositoryFiles, DemoError>
+    ensures { IfOk result (λ r. length r.files.items ≡ count + 4) }
+{
+    let signer = demo_signer(alloc)?;
+    let mut listing = BTreeMap::new(alloc);
+    let mut files = target_files(alloc, count, consistent, &mut listing)?;
+    let bytes = signed_text(alloc, targets(alloc, version(2), listing)?, &signer)?;
+    let listed = metafile(alloc, version(2), bytes.as_slice())?;
+    let path = metadata_path(alloc, version(2), "targets.json", consistent)?;
+    files.push(RepositoryFile { path, bytes })?;
+    let bytes = signed_text(alloc, snapshot(alloc, version(3), listed)?, &signer)?;
+    let listed = metafile(alloc, version(3), bytes.as_slice())?;
+    let path = metadata_path(alloc, version(3), "snapshot.json", consistent)?;
+    files.push(RepositoryFile { path, bytes })?;
+    let bytes = signed_text(alloc, timestamp_of(alloc, version(4), listed)?, &signer)?;
+    let path = metadata_path(alloc, version(4), "timestamp.json", false)?;
+    files.push(RepositoryFile { path, bytes })?;
+    let key = ed25519(alloc, PUBLIC)?;
+    let root = signed_text(alloc, root_with(alloc, version(1), key, consistent)?, &signer)?;
+    let path = metadata_path(alloc, version(1), "root.json", true)?;
+    let bytes = root.clone()?;
+    files.push(RepositoryFile { path, bytes })?;
+    Ok(RepositoryFiles { root, files })
+}
