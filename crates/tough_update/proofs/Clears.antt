@@ -138,6 +138,7 @@ module _ (v : Verifies) (s : SettingDoc) where
   asked (at.FetchTargets k listed r) e h = cc
   asked (at.PutTargets k d) e h = cc
   asked (at.Done r) e h = cc
+  asked at.Taken e h = cc
 
 run-setting : (v : Verifies) (answers : List AnswerDoc) (c : CoreDoc) → (run v c answers).setting ≡ c.setting
 run-setting v [] c = refl
