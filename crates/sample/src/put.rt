@@ -17,7 +17,13 @@ pub fn put_repository<F: Files>(
         files.make_folders(path.as_str())?;
     }
     for file in &made.files {
-        put_file(alloc, files, folder, file.path.as_str(), file.bytes.as_slice())?;
+        put_file(
+            alloc,
+            files,
+            folder,
+            file.path.as_str(),
+            file.bytes.as_slice(),
+        )?;
     }
     put_file(alloc, files, folder, "root.json", made.root.as_slice())
 }

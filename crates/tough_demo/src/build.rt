@@ -97,11 +97,7 @@ fn target_files(
 ///
 /// The targets are `target-000001.txt` and so on. The files are those of the targets, in their order, and then
 /// `targets.json`, `snapshot.json`, `timestamp.json` and `1.root.json`.
-pub fn repository(
-    alloc: Global,
-    count: u64,
-    consistent: bool,
-) -> Result<RepositoryFiles, DemoError>
+pub fn repository(alloc: Global, count: u64, consistent: bool) -> Result<RepositoryFiles, DemoError>
     ensures { IfOk result (λ r. length r.files.items ≡ count + 4) }
 {
     let signer = demo_signer(alloc)?;
@@ -119,7 +115,11 @@ pub fn repository(
     let path = metadata_path(alloc, version(4), "timestamp.json", false)?;
     files.push(RepositoryFile { path, bytes })?;
     let key = ed25519(alloc, PUBLIC)?;
-    let root = signed_text(alloc, root_with(alloc, version(1), key, consistent)?, &signer)?;
+    let root = signed_text(
+        alloc,
+        root_with(alloc, version(1), key, consistent)?,
+        &signer,
+    )?;
     let path = metadata_path(alloc, version(1), "root.json", true)?;
     let bytes = root.clone()?;
     files.push(RepositoryFile { path, bytes })?;

@@ -11,7 +11,9 @@ mod keys;
 mod text;
 
 pub use build::repository;
-pub use documents::{EXPIRES, expires, root, root_with, snapshot, targets, timestamp, timestamp_of};
+pub use documents::{
+    EXPIRES, expires, root, root_with, snapshot, targets, timestamp, timestamp_of,
+};
 pub use entries::{hashes, metafile, target};
 pub use error::DemoError;
 pub use files::{RepositoryFile, RepositoryFiles};

@@ -2,9 +2,7 @@ use crate::{DemoError, RepositoryFiles, repository};
 use sha2::{Digest, Sha256};
 use std::alloc::Global;
 use std::test::Fail;
-use tough_schema::{
-    DemoVerify, Hashes, Role, Root, Signed, Snapshot, Targets, Timestamp,
-};
+use tough_schema::{DemoVerify, Hashes, Role, Root, Signed, Snapshot, Targets, Timestamp};
 
 // The files of a repository of three targets with consistent snapshots, each with its length and digest, as they were
 // made by a Python program of its own.
