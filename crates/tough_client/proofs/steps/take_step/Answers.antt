@@ -1,10 +1,11 @@
+use Rattle.std.proofs.Common.{refl}
 use Rattle.tough_roles.specs.Signature.{signed_doc}
 use Rattle.tough_roles.specs.Root.{root_doc}
 use Rattle.tough_roles.specs.Timestamp.{timestamp_doc}
 use Rattle.tough_roles.specs.Snapshot.{snapshot_doc}
 use Rattle.tough_vault.specs.Checks.{enforces}
 use Rattle.tough_client.specs.Acts.{NoteTime, PutRoot, ClearRotated, AdvanceTimestamp, AdvanceSnapshot}
-use Rattle.tough_client.proofs.Trails.{Walks_step}
+use Rattle.tough_client.proofs.Trails.{Walks_step, Walks_same}
 use Rattle.tough_client.proofs.steps.take_step.Goals as goal
 
 pub returns-in-NoteTime-clause-walked : goal.returns-in-NoteTime-clause-walked
@@ -22,5 +23,8 @@ returns-in-AdvanceTimestamp-clause-walked g c = Walks_step g.K.Keeper.keeps (g.V
 pub returns-in-AdvanceSnapshot-clause-walked : goal.returns-in-AdvanceSnapshot-clause-walked
 returns-in-AdvanceSnapshot-clause-walked g c = Walks_step g.K.Keeper.keeps (g.V.Verify.verifies c.args.verifier.now) c.args.keeper.now c.advance_snapshot.new.self _ c.advance_snapshot.result c.advance_snapshot.ensures
 
-pub returns-in-PutTargets-clause-walked : goal.returns-in-PutTargets-clause-walked
-returns-in-PutTargets-clause-walked g c = Walks_step g.K.Keeper.keeps (g.V.Verify.verifies c.args.verifier.now) c.args.keeper.now c.put_document.new.self _ c.put_document.result (c.put_document.ensures _)
+pub returns-in-Ok-clause-walked : goal.returns-in-Ok-clause-walked
+returns-in-Ok-clause-walked g c = Walks_step g.K.Keeper.keeps (g.V.Verify.verifies c.args.verifier.now) c.args.keeper.now c.put_document.new.self _ c.put_document.result (c.put_document.ensures _)
+
+pub returns-in_default-clause-walked : goal.returns-in_default-clause-walked
+returns-in_default-clause-walked g c = Walks_same g.K.Keeper.keeps (g.V.Verify.verifies c.args.verifier.now) c.args.keeper.now c.args.keeper.now refl
