@@ -1,5 +1,5 @@
 -- A load that succeeds is a run of the machine that succeeds, on answers that keep their promises.
-use Rattle.std.specs.Prelude.{◌≡◌, ◌⊎◌, ◌≤◌, ℕ, List, [], ◌∷◌, length, Option, Some, None, IfSome, Bool, true, IsTrue, ◌&&◌, nat_le, Result, Ok, Err, ⊤}
+use Rattle.std.specs.Prelude.{◌≡◌, ◌⊎◌, ◌≤◌, ℕ, List, [], ◌∷◌, length, Option, Some, None, IfSome, Bool, true, false, IsTrue, ◌&&◌, nat_le, Result, Ok, Err, ⊤}
 use Rattle.std.proofs.Common.{refl, sym, ap, ◌∙◌, subst, inl, inr, arith}
 use Rattle.std.proofs.lemmas.Bool.Decides.{nat_tests}
 use Rattle.std.proofs.lemmas.Slice.Eq.{bytes_eq-Decides}
@@ -64,7 +64,7 @@ module _ {T S K : Type 0} (refuses : T → Parts → TransportError → Type 0) 
   fetched-fits r bytes (inl h) = absurd (cc (h))
   fetched-fits r bytes (inr (inl h)) = absurd (cc (h.1))
   fetched-fits r bytes (inr (inr (url, is, inl h))) = absurd (cc (h.1))
-  fetched-fits r bytes (inr (inr (url, is, inr (Ok v, e, h)))) = subst (λ (b : List ℕ). IsTrue (fits_request r b)) (cc (e)) (fits-true url r v.items h.2.1)
+  fetched-fits r bytes (inr (inr (url, is, inr (Ok v, e, h)))) = subst (λ (b : List ℕ). IsTrue (fits_request r b)) (cc (e)) (fits-true url r v.items h.3)
   fetched-fits r bytes (inr (inr (url, is, inr (Err x, e, h)))) = absurd (cc (e))
 
   allowed-keeps : (q : Question) (k : K) (a : AnswerDoc) (next : K) → Allows refuses serves keeps yields verifies base t q k a next → Keeps verifies q a
@@ -111,8 +111,7 @@ module _ {T S K : Type 0} (refuses : T → Parts → TransportError → Type 0) 
   leads-run (a ∷ rest) c k c' k' l is (mid, next, allowed, inl e, more) =
       let r = leads-run rest mid next c' k' l is more in (
         ap (λ (d : CoreDoc). (run verifies d rest).stage) (sym e) ∙ r.0,
-        allowed-keeps (question c) k a next allowed,
-        subst (λ (d : CoreDoc). Along verifies d rest) e r.1,
+        (allowed-keeps (question c) k a next allowed, subst (λ (d : CoreDoc). Along verifies d rest) e r.1),
       )
   leads-run (a ∷ rest) c k c' k' l is (mid, next, allowed, inr e, more) =
       absurd (cc (is, spent rest mid next c' k' (ap (λ (d : CoreDoc). d.stage) e) more))

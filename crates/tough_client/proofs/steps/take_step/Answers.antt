@@ -1,4 +1,9 @@
-use Rattle.std.proofs.Common.{refl}
+use Rattle.std.proofs.Common.{◌≡◌, ℕ, List, refl, rules, inl, subst}
+use Rattle.tough_schema.specs.Targets.{targets_doc}
+use Rattle.tough_vault.specs.Files.{targets_file}
+use Rattle.tough_update.specs.Questions as ask
+use Rattle.tough_update.specs.View.{question_of}
+use Rattle.tough_client.specs.Acts.{PutDocument, targets_text}
 use Rattle.tough_roles.specs.Signature.{signed_doc}
 use Rattle.tough_roles.specs.Root.{root_doc}
 use Rattle.tough_roles.specs.Timestamp.{timestamp_doc}
@@ -22,6 +27,15 @@ returns-in-AdvanceTimestamp-clause-walked g c = Walks_step g.K.Keeper.keeps (g.V
 
 pub returns-in-AdvanceSnapshot-clause-walked : goal.returns-in-AdvanceSnapshot-clause-walked
 returns-in-AdvanceSnapshot-clause-walked g c = Walks_step g.K.Keeper.keeps (g.V.Verify.verifies c.args.verifier.now) c.args.keeper.now c.advance_snapshot.new.self _ c.advance_snapshot.result c.advance_snapshot.ensures
+
+pub returns-in-Ok-clause-allowed : goal.returns-in-Ok-clause-allowed
+returns-in-Ok-clause-allowed g c =
+    let d = signed_doc targets_doc c.in-PutTargets.targets.now in
+    let verifies = g.V.Verify.verifies c.args.verifier.now in
+    let asked : question_of c.args.ask ≡ ask.PutTargets d = search rules in
+    let put : g.K.Keeper.keeps verifies c.args.keeper.now (PutDocument targets_file (targets_text d)) c.put_document.result c.put_document.new.self =
+    subst (λ (n : List ℕ). g.K.Keeper.keeps verifies c.args.keeper.now (PutDocument n (targets_text d)) c.put_document.result c.put_document.new.self) (search rules) (c.put_document.ensures verifies) in
+    rw asked (inl (c.put_document.result, c.put_by-in-PutTargets.ensures, put))
 
 pub returns-in-Ok-clause-walked : goal.returns-in-Ok-clause-walked
 returns-in-Ok-clause-walked g c = Walks_step g.K.Keeper.keeps (g.V.Verify.verifies c.args.verifier.now) c.args.keeper.now c.put_document.new.self _ c.put_document.result (c.put_document.ensures _)
