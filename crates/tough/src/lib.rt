@@ -20,7 +20,7 @@ pub use tough_client::{
     Vault, drive,
 };
 pub use tough_net::{
-    Cause, Collect, DigestCheck, FilesystemTransport, HttpError, IntoVec, MaxSize,
-    MemoryTransport, RetryCore, Transport, TransportError, TransportErrorKind, TransportStream,
-    fetch_max_size, fetch_sha256, fetch_whole,
+    Cause, Collect, DigestCheck, FilesystemTransport, HttpError, IntoVec, MaxSize, MemoryTransport,
+    RetryCore, Transport, TransportError, TransportErrorKind, TransportStream, fetch_max_size,
+    fetch_sha256, fetch_whole,
 };

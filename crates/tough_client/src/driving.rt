@@ -12,10 +12,10 @@ use futures::task::{Doorbell, Poll, Solo};
 use std::alloc::AllocGlobal;
 use std::io;
 use std::random::RandomSource;
-use tough_update::{Error, Loaded};
 use tough_disk::Clock;
 use tough_net::Transport;
 use tough_roles::Verify;
+use tough_update::{Error, Loaded};
 
 /// Polls a load until it is ready, at once again where it is pending: for transports that never wait, as those over memory and files.
 pub fn drive<R, T, K, C, V>(

@@ -9,8 +9,8 @@ ghost use Rattle.tough_update.specs.Runs.{IsFresh, Loaded};
 ghost use Rattle.tough_client.specs.Loading.{Gives};
 
 use crate::keeper::Keeper;
-use tough_update::laws::trusts;
 use tough_net::Transport;
+use tough_update::laws::trusts;
 
 /// A load that succeeds gives documents that are trusted: a chain of roots from the bytes that were handed in ends in its root, under
 /// which timestamp, snapshot and targets reach their thresholds; each names the next; under `Safe` none of them had expired when the load

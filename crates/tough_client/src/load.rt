@@ -20,10 +20,10 @@ use crate::steps::take_step;
 use futures::task::{Context, Poll};
 use futures::{Future, ready};
 use std::alloc::{AllocError, Global};
-use tough_update::{Answer, Ask, Core, Error, Fault, Loaded, Request};
 use tough_disk::Clock;
 use tough_net::{Collect, Transport, TransportError, fetch_whole};
 use tough_roles::Verify;
+use tough_update::{Answer, Ask, Core, Error, Fault, Loaded, Request};
 use tough_vault::Receipt;
 use url::Url;
 

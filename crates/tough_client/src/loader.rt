@@ -7,10 +7,10 @@ ghost use Rattle.tough_update.specs.View.{core_doc};
 use crate::keeper::Keeper;
 use crate::load::Load;
 use std::alloc::Global;
-use tough_update::{Core, Error, Limits};
 use tough_disk::Clock;
 use tough_net::Transport;
 use tough_roles::Verify;
+use tough_update::{Core, Error, Limits};
 use tough_vault::ExpirationEnforcement;
 use url::{ParseError, Url};
 

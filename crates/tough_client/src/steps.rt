@@ -8,8 +8,8 @@ ghost use Rattle.tough_client.specs.Asking.{IsStep};
 
 use crate::keeper::Keeper;
 use std::alloc::Global;
-use tough_update::{Answer, Ask};
 use tough_roles::Verify;
+use tough_update::{Answer, Ask};
 use tough_vault::{DocumentName, Receipt, StepError};
 
 // The answer that a step is, its receipt put by.
