@@ -2,13 +2,16 @@
 #![tactic(auto)]
 
 mod canonical;
+mod load;
+mod matching;
 mod memory;
+mod search;
 mod verify;
 
 use anyhow::Error;
 use std::env;
 
-const USAGE: &str = "usage: bench canonical [MEGABYTES] | verify [THOUSANDS]";
+const USAGE: &str = "usage: bench canonical [MEGABYTES] | verify [THOUSANDS] | load [TARGETS [FOLDER]] | match [CHARACTERS] | search [ROLES]";
 
 fn main(rt: HostRuntime) -> Result<(), Error> {
     let mut words = env::args(&rt)?.skip(1);
@@ -23,6 +26,9 @@ fn main(rt: HostRuntime) -> Result<(), Error> {
     match name.as_str() {
         "canonical" => canonical::run(&rt, size)?,
         "verify" => verify::run(&rt, size)?,
+        "match" => matching::run(&rt, size)?,
+        "search" => search::run(&rt, size)?,
+        "load" => load::run(&rt, size, words.next().as_deref())?,
         _ => println!(rt; "{USAGE}")?,
     }
     Ok(())

@@ -240,6 +240,9 @@ module _ (a b : KeyDoc) where
       (both of_public (of_keyval && of_extra) ((bytes_eq-Decides a.public.bytes b.public.bytes).1 (ap (λ (d : KeyData). d.public) h))
       (both of_keyval of_extra (from_members a.keyval_extra b.keyval_extra (ap (λ (d : KeyData). d.keyval_extra) h)) (from_members a.extra b.extra (ap (λ (d : KeyData). d.extra) h))))
 
+pub same_doc-refl : (k : KeyDoc) → same_doc k k ≡ true
+same_doc-refl k = is_same k k refl
+
 pub same_key-Decides : (a b : Key) → Decides (same_key a b) (key_data a ≡ key_data b)
 same_key-Decides a b = (same_is (key_doc a) (key_doc b), is_same (key_doc a) (key_doc b))
 

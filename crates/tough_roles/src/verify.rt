@@ -1,6 +1,6 @@
 //! Whether a role is signed by enough keys.
 
-ghost use Rattle.std.specs.Prelude.{◌≡◌, ◌≤◌, ◌<◌, ◌&&◌, Some, true, false, IfErr, IfOk, MatchOption, count_by, drop, length};
+ghost use Rattle.std.specs.Prelude.{◌≡◌, ◌≤◌, ◌<◌, ◌&&◌, Some, true, false, IfErr, IfOk, MatchOption, count_by, length};
 ghost use Rattle.std.specs.List.{list_any};
 ghost use Rattle.std.specs.Str.{bytes_eq};
 ghost use Rattle.tough_json.specs.Results.{Writes};
@@ -17,8 +17,8 @@ use crate::role_type::RoleType;
 use crate::root::{RoleKeys, Root};
 use crate::signature::Signature;
 use crate::signed::Signed;
-use std::alloc::Global;
-use std::collections::BTreeMap;
+use std::alloc::{AllocError, Global};
+use std::collections::{BTreeMap, BTreeSet};
 use tough_base::{Decoded, Hex};
 use tough_json::error::WriteError;
 use tough_keys::{Key, Verify, text_of};
@@ -82,27 +82,17 @@ fn valid_count<V: Verify>(
         .count()
 }
 
-// The place of an identifier that stands again later.
-fn repeated(signatures: &[Signature]) -> Option<usize>
-    ensures { MatchOption result (some_twice (signatures_doc signatures.now) ≡ false) (λ i. (i < length signatures.now) × (some_twice (signatures_doc signatures.now) ≡ true)) }
+// The place of an identifier that stood before; the cost grows as n log n for n signatures.
+fn repeated(alloc: Global, signatures: &[Signature]) -> Result<Option<usize>, AllocError>
+    ensures { IfOk result (λ place. MatchOption place (some_twice (signatures_doc signatures.now) ≡ false) (λ i. (i < length signatures.now) × (some_twice (signatures_doc signatures.now) ≡ true))) }
 {
+    let mut seen = BTreeSet::new(alloc);
     for (i, signature) in signatures.iter().enumerate() {
-        if stands_from(signatures, i + 1, &signature.keyid) {
-            return Some(i);
+        if !seen.insert(signature.keyid.as_slice())? {
+            return Ok(Some(i));
         }
     }
-    None
-}
-
-// Whether a signature from that place on has the identifier.
-fn stands_from(signatures: &[Signature], from: usize, keyid: &Decoded<Hex>) -> bool
-    requires { from ≤ length signatures.now }
-    ensures { result ≡ list_any (λ s. bytes_eq s.keyid.bytes keyid.now.bytes) (drop from signatures.now) }
-{
-    signatures
-        .iter()
-        .skip(from)
-        .any(|signature| signature.keyid == *keyid)
+    Ok(None)
 }
 
 /// Whether the signatures over the text reach the threshold that the role asks for. The refusals, in this order:
@@ -119,7 +109,8 @@ pub fn judge<V: Verify>(
     ensures verdict { Answers result (verdict (V.verifies verifier.now) (Some (policy_of (keys_doc known.now.entries) (role_keys_doc keys.now))) (Some text.now) (signatures_doc signatures.now)) }
     ensures named { IfErr result (λ e. Names role (signatures_doc signatures.now) e) }
 {
-    if let Some(place) = repeated(signatures) {
+    let twice = repeated(alloc, signatures)?;
+    if let Some(place) = twice {
         let keyid = String::from_str(alloc, signatures[place].keyid.as_str())?;
         return Err(Error::DuplicateKeyId { keyid });
     }

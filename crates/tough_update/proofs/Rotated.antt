@@ -1,35 +1,11 @@
--- Lists of values and of keys, side by side.
-use Rattle.std.proofs.Common.{◌≡◌, ◌≢◌, ℕ, zero, suc, ◌+◌, ◌<◌, List, [], ◌∷◌, length, drop, get_or, Option, Some, None, Bool, true, false, ◌&&◌, String, refl, sym, ap, ◌∙◌, add-one, arith}
+-- Lists of keys, side by side.
+use Rattle.std.proofs.Common.{◌≡◌, ◌≢◌, ℕ, zero, suc, ◌+◌, ◌<◌, List, [], ◌∷◌, length, drop, get_or, Option, Some, None, Bool, true, false, not, ◌&&◌, refl, sym, ap, ◌∙◌, add-one, arith}
 use Rattle.std.proofs.Math.Seq.{drop-nil}
 use Rattle.tough_base.specs.Spelled.{Spelled}
 use Rattle.tough_keys.specs.Key.{KeyDoc}
 use Rattle.tough_roles.specs.Root.{key_under}
-use Rattle.std.specs.declared.alloc.Global.{Global}
-use Rattle.std.specs.Str.{bytes_eq}
-use Rattle.std.specs.Prelude.{string_bytes}
-use Rattle.serde_json.specs.declared.value.Value.{Value}
-use Rattle.serde_json.specs.View.{view, items_view, members_view}
-use Rattle.tough_update.specs.Rotation.{same, same_items, same_members, same_key, key_in, ahead_of, keys_under, same_keys}
-
-pub no-right : (b : Bool) → (b && false) ≡ false
-no-right true = refl
-no-right false = refl
-
-pub unequal-items : (vs ws : List Value) → length vs ≢ length ws → same_items (items_view vs) (items_view ws) ≡ false
-unequal-items [] [] h = absurd (h refl)
-unequal-items [] (w ∷ ws) h = refl
-unequal-items (v ∷ vs) [] h = refl
-unequal-items (v ∷ vs) (w ∷ ws) h = ap (λ b. same (view v) (view w) && b) (unequal-items vs ws (λ e. h (ap suc e))) ∙ no-right (same (view v) (view w))
-
-pub unequal-members : (ms ns : List (String Global × Value)) → length ms ≢ length ns → same_members (members_view ms) (members_view ns) ≡ false
-unequal-members [] [] h = absurd (h refl)
-unequal-members [] (n ∷ ns) h = refl
-unequal-members (m ∷ ms) [] h = refl
-unequal-members (m ∷ ms) (n ∷ ns) h =
-    let head : Bool = bytes_eq (string_bytes m.0) (string_bytes n.0) && same (view m.1) (view n.1) in
-    ap (λ b. head && b) (unequal-members ms ns (λ e. h (ap suc e))) ∙ no-right head
-
--- ---- keys, place by place
+use Rattle.tough_keys.specs.Equal.{same_doc}
+use Rattle.tough_update.specs.Rotation.{key_in, ahead_of, keys_under, same_keys}
 
 pub key_in-at : (keys : List (Spelled × KeyDoc)) (ids : List Spelled) (place : ℕ) (id : Spelled) → place < length ids → id ≡ get_or ids place id → key_in keys (drop place ids) ≡ key_under keys id
 key_in-at keys [] place id h e = absurd (omega (arith, h))
@@ -51,7 +27,7 @@ keys-from keys ids place = keys-step keys (drop place ids) ∙ ap (λ r. ahead_o
 
 -- both have the same key at a place: from there on the lists are the same where they are from the next place on
 pub next-place : (ks : List (Spelled × KeyDoc)) (ids : List Spelled) (js : List (Spelled × KeyDoc)) (jds : List Spelled) (place : ℕ) (k j : KeyDoc)
-    → key_in ks (drop place ids) ≡ Some k → key_in js (drop place jds) ≡ Some j → same_key k j ≡ true
+    → key_in ks (drop place ids) ≡ Some k → key_in js (drop place jds) ≡ Some j → same_doc k j ≡ true
     → same_keys (keys_under ks (drop place ids)) (keys_under js (drop place jds)) ≡ same_keys (keys_under ks (drop (place + 1) ids)) (keys_under js (drop (place + 1) jds))
 next-place ks ids js jds place k j h i t =
     let one : keys_under ks (drop place ids) ≡ k ∷ keys_under ks (drop (place + 1) ids) =
@@ -61,6 +37,24 @@ next-place ks ids js jds place k j h i t =
     ap (λ xs. same_keys xs (keys_under js (drop place jds))) one
     ∙ (ap (λ ys. same_keys (k ∷ keys_under ks (drop (place + 1) ids)) ys) two
     ∙ ap (λ b. b && same_keys (keys_under ks (drop (place + 1) ids)) (keys_under js (drop (place + 1) jds))) t)
+
+-- the keys at a place differ: so do the lists from there on
+pub other-place : (ks : List (Spelled × KeyDoc)) (ids : List Spelled) (js : List (Spelled × KeyDoc)) (jds : List Spelled) (place : ℕ) (k j : KeyDoc)
+    → key_in ks (drop place ids) ≡ Some k → key_in js (drop place jds) ≡ Some j → same_doc k j ≡ false
+    → same_keys (keys_under ks (drop place ids)) (keys_under js (drop place jds)) ≡ false
+other-place ks ids js jds place k j h i t =
+    let one : keys_under ks (drop place ids) ≡ k ∷ keys_under ks (drop (suc place) ids) =
+    keys-from ks ids place ∙ ap (λ o. ahead_of o (keys_under ks (drop (suc place) ids))) h in
+    let two : keys_under js (drop place jds) ≡ j ∷ keys_under js (drop (suc place) jds) =
+    keys-from js jds place ∙ ap (λ o. ahead_of o (keys_under js (drop (suc place) jds))) i in
+    ap (λ xs. same_keys xs (keys_under js (drop place jds))) one
+    ∙ (ap (λ ys. same_keys (k ∷ keys_under ks (drop (suc place) ids)) ys) two
+    ∙ ap (λ b. b && same_keys (keys_under ks (drop (suc place) ids)) (keys_under js (drop (suc place) jds))) t)
+
+-- an answer that is turned
+pub turned : (b c : Bool) → c ≡ not b → b ≡ not c
+turned true c h = ap not (sym h)
+turned false c h = ap not (sym h)
 
 -- of the lists from a place on: where one has no key there, both end or they differ
 pub last-place : (ks : List (Spelled × KeyDoc)) (ids : List Spelled) (js : List (Spelled × KeyDoc)) (jds : List Spelled) (place : ℕ)

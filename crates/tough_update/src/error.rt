@@ -20,7 +20,7 @@ pub enum Error {
         source: ReadError,
     },
     /// The root that was handed in doesn't reach its own threshold.
-    #[error("Failed to verify trusted root metadata")]
+    #[error("Failed to verify trusted root metadata: {source}")]
     VerifyTrustedMetadata {
         /// What was wrong.
         source: schema::Error,
@@ -71,7 +71,7 @@ pub enum Error {
     #[error("Failed to serialize metadata to JSON for the datastore")]
     DatastoreSerialize,
     /// The document isn't signed as the root demands.
-    #[error("Failed to verify {} metadata", .role.name())]
+    #[error("Failed to verify {} metadata: {source}", .role.name())]
     VerifyMetadata {
         /// The document's role.
         role: RoleType,
@@ -109,7 +109,7 @@ pub enum Error {
         version: u64,
     },
     /// The document is older than one that was accepted before.
-    #[error("Found version {current_version} of {} metadata when we had previously fetched version {new_version}", .role.name())]
+    #[error("Found version {new_version} of {} metadata when we had previously fetched version {current_version}", .role.name())]
     OlderMetadata {
         /// The document's role.
         role: RoleType,

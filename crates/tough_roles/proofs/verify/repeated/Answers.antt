@@ -1,15 +1,19 @@
-use Rattle.std.proofs.Common.{◌+◌, ◌||◌, drop, sym, ap, ◌∙◌}
-use Rattle.tough_roles.specs.Signature.{signatures_doc}
-use Rattle.tough_roles.specs.Verdict.{some_twice}
-use Rattle.tough_roles.proofs.Counts.{some_twice-drop}
+use Rattle.std.proofs.Common.{◌+◌, sym, ap, ◌∙◌, subst}
+use Rattle.tough_roles.proofs.Seen.{Looked, stands, contained, none_seen, found, noted, was_there, was_new}
 use Rattle.tough_roles.proofs.verify.repeated.Goals as goal
 
-pub returns-then-stands_from : goal.returns-then-stands_from
-returns-then-stands_from c = (
-  c.loop-i-test.true,
-  sym c.loop-i.invariant ∙ some_twice-drop c.args.signatures.now c.loop-i.i c.index-signatures-i.result c.loop-i-test.true c.index-signatures-i.is ∙ ap (λ b. b || some_twice (signatures_doc (drop (c.loop-i.i + 1) c.args.signatures.now))) (sym c.stands_from.ensures ∙ c.if-stands_from.true),
-)
+pub loop-i-init : goal.loop-i-init
+loop-i-init c = none_seen (λ k. k.now) c.new-seen.result.keys c.new-seen.ensures.empty c.args.signatures.now
+
+pub returns-then-not-branch : goal.returns-then-not-branch
+returns-then-not-branch c =
+    let seen = was_there _ _ c.in_ok-insert.ensures.added c.if-not-branch.true in
+    (c.loop-i-test.true, found (λ k. k.now) c.loop-i.seen.keys c.args.signatures.now c.loop-i.i c.index-signatures-i.result c.loop-i-test.true c.index-signatures-i.is c.loop-i.invariant
+    (ap (stands (λ k. k.now) c.loop-i.seen.keys) (sym c.as_slice.ensures) ∙ sym (contained (λ k. k.now) c.loop-i.seen.keys c.as_slice.result) ∙ seen))
 
 pub loop-i-preserved : goal.loop-i-preserved
 loop-i-preserved c =
-    sym (some_twice-drop c.args.signatures.now c.loop-i.i c.index-signatures-i.result c.loop-i-test.true c.index-signatures-i.is ∙ ap (λ b. b || some_twice (signatures_doc (drop (c.loop-i.i + 1) c.args.signatures.now))) (sym c.stands_from.ensures ∙ c.if-stands_from.false)) ∙ c.loop-i.invariant
+    let unseen = was_new _ _ c.in_ok-insert.ensures.added c.if-not-branch.false in
+    subst (λ ks. Looked (λ k. k.now) ks c.args.signatures.now (c.loop-i.i + 1)) (sym c.in_ok-insert.ensures.keys)
+    (noted (λ k. k.now) c.loop-i.seen.keys c.args.signatures.now c.loop-i.i c.as_slice.result c.index-signatures-i.result c.loop-i-test.true c.index-signatures-i.is c.as_slice.ensures c.loop-i.invariant
+    (ap (stands (λ k. k.now) c.loop-i.seen.keys) (sym c.as_slice.ensures) ∙ sym (contained (λ k. k.now) c.loop-i.seen.keys c.as_slice.result) ∙ unseen))
