@@ -1,9 +1,9 @@
 -- A file that is read piece by piece.
-use Rattle.std.proofs.Common.{◌≡◌, ℕ, ◌+◌, ◌-◌, ◌<◌, ◌≤◌, List, ◌++◌, take, drop, length, min, Option, Some, None, refl, sym, ap, subst, ◌∙◌, arith}
+use Rattle.std.proofs.Common.{◌≡◌, ℕ, ◌+◌, ◌-◌, ◌<◌, ◌≤◌, List, ◌++◌, take, drop, length, min, Option, Some, sym, ap, ◌∙◌, arith}
 use Rattle.std.proofs.lemmas.List.{length-take, length-take-le, length-drop, take_min}
 use Rattle.std.proofs.Math.Seq.{take-add}
-use Rattle.tough_files.specs.Contents.{Node, file, folder, link, Contents, Same, followed}
-use Rattle.tough_files.specs.Calls.{Answered, got}
+use Rattle.tough_files.specs.Contents.{Node, file, Contents, Same}
+use Rattle.tough_files.specs.Calls.{got}
 use Rattle.tough_files.specs.Changes.{read_answer}
 use Rattle.tough_schema.specs.FileDigest.{there}
 

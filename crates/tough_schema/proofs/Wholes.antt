@@ -11,16 +11,16 @@ use Rattle.serde_json.specs.View.{members_view}
 use Rattle.tough_names.specs.Named.{Named, by_raw_then_resolved}
 use Rattle.tough_roles.specs.Root.{keys_doc}
 use Rattle.tough_schema.specs.Target.{TargetDoc, target_doc}
-use Rattle.tough_schema.specs.Targets.{listing_doc}
+use Rattle.tough_schema.specs.Targets.{TargetsDoc, listing_doc, targets_doc}
 use Rattle.tough_schema.specs.Tree.{Listing}
-use Rattle.tough_schema.specs.Whole.{OwnDoc, TreeDoc, tree, Branches, HeldDoc, RoleTree, NamedTree, DelegationsTree, put_branch, branches_from, branches_of, role_level, delegations_level, delegated_level, targets_level, tree_doc, delegations_tree, named_tree, role_tree, with_listing, cleared, all_cleared, role_cleared, documents_below, documents_in, documents_at, held_doc, held_docs}
-use Rattle.tough_schema.specs.Delegations.{delegated_role_doc}
+use Rattle.tough_schema.specs.Whole.{OwnDoc, TreeDoc, tree, Branches, HeldDoc, RoleTree, NamedTree, DelegationsTree, put_branch, branches_from, branches_of, role_level, delegations_level, delegated_level, targets_level, tree_doc, delegations_tree, named_tree, role_tree, with_listing, cleared, all_cleared, role_cleared, documents_below, documents_in, documents_at, held_doc, held_docs, entries_in, top_doc}
+use Rattle.tough_schema.specs.Delegations.{DelegationsDoc, delegated_role_doc, delegations_doc}
 use Rattle.tough_roles.specs.Signature.{signatures_doc}
 use Rattle.tough_roles.specs.declared.signed.Signed.{Signed}
 use Rattle.tough_schema.specs.declared.target.Target.{Target}
-use Rattle.tough_schema.specs.declared.delegations.DelegatedRole.TheOpen.{DelegatedRole-F, DelegatedTargets-F, Delegations-F, Targets-F}
+use Rattle.tough_schema.specs.declared.delegations.DelegatedRole.TheOpen.{DelegatedTargets-F, Delegations-F, Targets-F}
 use Rattle.tough_schema.specs.declared.delegations.DelegatedRole.TheShapes.{former-DelegatedRole-targets, former-Targets-delegations}
-use Rattle.tough_schema.specs.declared.delegations.DelegatedRole.{DelegatedRole, out-DelegatedRole, roll-DelegatedRole, fold-roll-DelegatedRole, fold_out-DelegatedRole}
+use Rattle.tough_schema.specs.declared.delegations.DelegatedRole.{DelegatedRole, out-DelegatedRole, fold_out-DelegatedRole}
 use Rattle.tough_schema.specs.declared.targets.DelegatedTargets.{DelegatedTargets, out-DelegatedTargets, roll-DelegatedTargets, fold-roll-DelegatedTargets, fold_out-DelegatedTargets}
 use Rattle.tough_schema.specs.declared.delegations.Delegations.{Delegations, out-Delegations, roll-Delegations, fold-roll-Delegations, fold_out-Delegations}
 use Rattle.tough_schema.specs.declared.targets.Targets.{Targets, out-Targets, roll-Targets, fold-roll-Targets, fold_out-Targets}
@@ -186,3 +186,24 @@ documents-inner t g h =
 
 pub held-push : (old new : List (Bor (Signed DelegatedTargets))) (s : Bor (Signed DelegatedTargets)) → new ≡ old ++ s ∷ [] → held_docs new ≡ held_docs old ++ held_doc s.now ∷ []
 held-push old new s h = ap held_docs h ∙ map-append (λ (x : Bor (Signed DelegatedTargets)). held_doc x.now) old (s ∷ [])
+
+-- ---- what a document says for itself
+
+entries-put : (r : RoleTree) (bs : Branches) → entries_in (put_branch r bs) ≡ r.0 ∷ entries_in bs
+entries-put (e, None) bs = refl
+entries-put (e, Some h) bs = refl
+
+entries-from : (rs : List DelegatedRole) → entries_in (branches_from (map role_tree rs)) ≡ map delegated_role_doc rs
+entries-from [] = refl
+entries-from (r ∷ rs) =
+    entries-put (role_tree r) (branches_from (map role_tree rs)) ∙ ap (λ (x : RoleTree). x.0 ∷ entries_in (branches_from (map role_tree rs))) (role-out r) ∙ ap (λ l. delegated_role_doc r ∷ l) (entries-from rs)
+
+pub delegations-top : (o : Option Delegations) → option_map delegations_doc o ≡ option_map (λ ks. record { keys = ks; roles = entries_in (branches_of (option_map delegations_tree o)) }) (option_map (λ (d : DelegationsTree). d.0) (option_map delegations_tree o))
+delegations-top None = refl
+delegations-top (Some g) = ap Some (sym (ap (λ (d : DelegationsTree). let x : DelegationsDoc = record { keys = d.0; roles = entries_in d.1 } in x) (delegations-out g) ∙ ap (λ es. let x : DelegationsDoc = record { keys = keys_doc (out-Delegations g).keys.entries; roles = es } in x) (entries-from (out-Delegations g).roles.items)))
+
+pub top-tells : (t : Targets) → targets_doc t ≡ top_doc (tree_doc t)
+top-tells t = ap (λ (o : Option DelegationsDoc). let x : TargetsDoc = record (targets_doc t) { delegations = o } in x) (delegations-top (out-Targets t).delegations) ∙ sym (ap top_doc (tree-out t))
+
+pub named-roll : (x : DelegatedTargets-F DelegatedRole Delegations DelegatedTargets Targets) → named_tree (roll-DelegatedTargets x) ≡ (string_bytes x.name, tree_doc x.targets)
+named-roll x = fold-roll-DelegatedTargets RoleTree DelegationsTree NamedTree TreeDoc role_level delegations_level delegated_level targets_level x

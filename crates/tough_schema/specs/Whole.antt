@@ -1,6 +1,6 @@
--- A document with the documents that were loaded for its roles, and for theirs, as plain data (TUF specification 1.0,
--- section 4.5).
-use Rattle.std.specs.Prelude.{ℕ, List, [], ◌∷◌, ◌++◌, map, Option, Some, None, option_map, string_bytes}
+-- A document with the documents that were loaded for its roles, and for theirs, as plain data
+-- (TUF specification 1.0, section 4.5).
+use Rattle.std.specs.Prelude.{◌≡◌, ℕ, List, [], ◌∷◌, ◌++◌, map, Option, Some, None, option_map, string_bytes}
 use Rattle.std.specs.Int.NonZero.{non_zero_u64_get}
 use Rattle.serde_json.specs.Data.{Members}
 use Rattle.serde_json.specs.View.{members_view}
@@ -10,7 +10,7 @@ use Rattle.tough_roles.specs.Head.{Head}
 use Rattle.tough_roles.specs.Signature.{SignatureDoc, signatures_doc}
 use Rattle.tough_roles.specs.Root.{keys_doc}
 use Rattle.tough_schema.specs.Paths.{paths_doc}
-use Rattle.tough_schema.specs.Targets.{listing_doc}
+use Rattle.tough_schema.specs.Targets.{TargetsDoc, listing_doc, targets_doc}
 use Rattle.tough_schema.specs.Tree.{Listing, Entry}
 use Rattle.std.specs.Borrow.{Bor}
 use Rattle.tough_roles.specs.declared.signed.Signed.{Signed}
@@ -146,3 +146,17 @@ held_doc s = record { name = (named_tree s.signed).0; signatures = signatures_do
 
 abbrev pub held_docs : List (Bor (Signed DelegatedTargets)) → List HeldDoc
 held_docs ss = map (λ s. held_doc s.now) ss
+
+-- ---- what a document says for itself
+
+abbrev pub entries_in : Branches → List Entry
+entries_in no_branches = []
+entries_in (unloaded e bs) = e ∷ entries_in bs
+entries_in (loaded e name signatures t bs) = e ∷ entries_in bs
+
+-- the document without those of its roles
+abbrev pub top_doc : TreeDoc → TargetsDoc
+top_doc (tree o bs) = record { head = o.head; targets = o.targets; delegations = option_map (λ ks. record { keys = ks; roles = entries_in bs }) o.keys; extra = o.extra }
+
+abbrev pub TellsItsTop : Type 0
+TellsItsTop = (t : Targets) → targets_doc t ≡ top_doc (tree_doc t)

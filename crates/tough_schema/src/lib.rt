@@ -12,6 +12,7 @@ pub mod laws;
 mod lend;
 mod listing;
 mod matching;
+mod naming;
 mod read_delegations;
 mod read_target;
 mod read_targets;

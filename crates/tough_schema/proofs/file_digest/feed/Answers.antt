@@ -1,8 +1,6 @@
-use Rattle.std.proofs.Common.{◌≡◌, ◌≤◌, ◌+◌, ◌<◌, length, subst, refl, ap, sym, ◌∙◌, arith, List, ℕ, take, Some, lit<}
+use Rattle.std.proofs.Common.{◌≡◌, ◌≤◌, ◌+◌, length, subst, sym, ◌∙◌, arith, take, lit<}
 use Rattle.sha2.specs.Hashers.{Holds256}
-use Rattle.tough_files.specs.Contents.{file}
-use Rattle.tough_schema.specs.FileDigest.{there, HasRead, Feeds}
-use Rattle.tough_schema.specs.declared.file_digest.Reading.{Reading}
+use Rattle.tough_schema.specs.FileDigest.{there}
 use Rattle.tough_schema.proofs.Pieces.{Piece, piece-from}
 use Rattle.tough_schema.proofs.file_digest.feed.Goals as goal
 

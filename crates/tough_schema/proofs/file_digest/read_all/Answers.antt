@@ -1,11 +1,10 @@
-use Rattle.std.proofs.Common.{◌≡◌, ◌≤◌, ◌+◌, ◌<◌, length, subst, refl, ap, sym, ◌∙◌, arith, List, ℕ, take, Some, true, Err, Ok, Result}
+use Rattle.std.proofs.Common.{◌≡◌, length, subst, refl, ap, sym, ◌∙◌, arith, List, ℕ, Err, Result}
 use Rattle.std.proofs.lemmas.List.{take_all}
 use Rattle.std.proofs.lemmas.Result.{err_from_is_err_and}
 use Rattle.sha2.specs.Hashers.{Holds256}
-use Rattle.tough_files.specs.Contents.{file, Same, Contents}
 use Rattle.tough_files.specs.declared.files.FilesError.{FilesError}
 use Rattle.tough_files.specs.declared.files.FilesError.TheVariants as fault
-use Rattle.tough_schema.specs.FileDigest.{there, HasRead, Feeds, MeasuresFile}
+use Rattle.tough_schema.specs.FileDigest.{Feeds, MeasuresFile}
 use Rattle.tough_schema.specs.declared.file_digest.Reading.{Reading}
 use Rattle.tough_schema.specs.declared.file_digest.Measured.{Measured}
 use Rattle.tough_schema.proofs.Pieces.{there-kept}
