@@ -1,6 +1,6 @@
 use super::outcome;
 use super::search::with_documents;
-use crate::{PathSet, Target, Targets};
+use crate::{DelegatedTargets, PathSet, Signed, Target, Targets};
 use std::alloc::Global;
 use std::test::Fail;
 use tough_base::TargetName;
@@ -76,5 +76,19 @@ fn lends_roles(rt: HostRuntime) -> Result<(), Fail> {
         outcome(targets.delegated_role_mut(rt.alloc(), "Z")),
         "RoleNotFound"
     );
+    Ok(())
+}
+
+#[test]
+fn names_signed_targets(rt: HostRuntime) -> Result<(), Fail> {
+    let signed = Signed {
+        signed: tree(rt.alloc())?,
+        signatures: Vec::new(rt.alloc()),
+    };
+    let named = Targets::named(signed, String::from_str(rt.alloc(), "D")?);
+    assert_eq!(rt; named.signed.name.as_str(), "D");
+    let (name, signed) = DelegatedTargets::unnamed(named);
+    assert_eq!(rt; name.as_str(), "D");
+    assert_eq!(rt; signed.signed.version.get(), 1);
     Ok(())
 }
