@@ -15,7 +15,7 @@ use Rattle.tough_schema.specs.Targets.{targets_doc}
 use Rattle.tough_schema.specs.Tree.{Roles}
 use Rattle.tough_schema.specs.View.{Role, put_role, view, view_role, view_roles, view_delegated, view_delegations}
 use Rattle.tough_schema.specs.Seek.{Sought, found, missing, undocumented, undelegated, if_found, or_next, seek, seek_in, sought, HasDocument, HasNone, IsUnheld, IsUnsought, standing, standing_in, first_named}
-use Rattle.tough_schema.specs.Seeking.{below_at, step_at, standing_below, standing_at}
+use Rattle.tough_schema.specs.Seeking.{below_at, step_at, standing_below, standing_at, role_of, role_at}
 use Rattle.tough_schema.proofs.Views.{held_roles, held_document, view-out, view_role-out, view_delegated-out, view_delegations-out}
 
 -- the roles from i on
@@ -89,6 +89,32 @@ unheld-from name s (errors.MissingRole role) h = h
 unheld-from name s (errors.JsonSerialization role) h = h
 unheld-from name s (errors.DuplicateKeyId keyid) h = h
 unheld-from name s (errors.SignatureThreshold role threshold valid) h = h
+
+-- ---- the place of a role
+
+pub place-is : (name : List ℕ) (rs : List DelegatedRole) (i : ℕ) (r : DelegatedRole) (s : Sought) → i < length rs → r ≡ get_or rs i r → Some s ≡ step_at name (view_role r)
+    → seek name (view_roles (drop i rs)) ≡ seek name (view_roles rs) → role_of (seek name (view_roles rs)) ≡ role_of s
+place-is name rs i r s h e is here = ap role_of (sym here ∙ seek-next name rs i r (Some s) h e is)
+
+-- what is found in a document, through its roles
+pub role-inner : (name : List ℕ) (t : Targets) (g : Delegations) → (out-Targets t).delegations ≡ Some g → role_of (seek name (view_roles (out-Delegations g).roles.items)) ≡ role_of (seek_in name (view t))
+role-inner name t g h = ap role_of (sym (seek-inner name t g h))
+
+pub role-here : (name : List ℕ) (r : DelegatedRole) → bytes_eq (string_bytes (out-DelegatedRole r).name) name ≡ true → Some (view_role r) ≡ role_at (step_at name (view_role r))
+role-here name r h = ap role_at (sym (step-here name r h))
+
+pub role-bare : (name : List ℕ) (r : DelegatedRole) → bytes_eq (string_bytes (out-DelegatedRole r).name) name ≡ false → (out-DelegatedRole r).targets ≡ None → None ≡ role_at (step_at name (view_role r))
+role-bare name r h t = ap role_at (sym (step-bare name r h t))
+
+role-found : (s : Sought) → role_at (if_found s) ≡ role_of s
+role-found (found r) = refl
+role-found missing = refl
+role-found undocumented = refl
+role-found undelegated = refl
+
+pub role-below : (name : List ℕ) (r : DelegatedRole) (s : Signed DelegatedTargets) → bytes_eq (string_bytes (out-DelegatedRole r).name) name ≡ false → (out-DelegatedRole r).targets ≡ Some s
+    → role_of (seek_in name (view (out-DelegatedTargets s.signed).targets)) ≡ role_at (step_at name (view_role r))
+role-below name r s h t = sym (ap role_at (step-below name r s h t) ∙ role-found (seek_in name (view (out-DelegatedTargets s.signed).targets)))
 
 -- ---- where an entry stands
 

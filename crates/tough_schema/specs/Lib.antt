@@ -12,3 +12,6 @@ pub mod Entries
 pub mod Gather
 pub mod Seek
 pub mod Seeking
+pub mod Whole
+pub mod FileDigest
+pub mod FromPath

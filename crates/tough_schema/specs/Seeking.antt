@@ -1,13 +1,14 @@
 -- What the steps of seeking a role answer: words of private clauses.
-use Rattle.std.specs.Prelude.{ℕ, List, [], ◌∷◌, Option, Some, None, if◌then◌else◌}
+use Rattle.std.specs.Prelude.{◌≡◌, ℕ, ◌<◌, List, [], ◌∷◌, length, slice_index_or, Option, Some, None, if◌then◌else◌}
 use Rattle.std.specs.Str.{bytes_eq}
 use Rattle.tough_schema.specs.declared.seek.Seen.{Seen}
 use Rattle.tough_schema.specs.declared.seek.Seen.TheVariants.{Found, Missing, Undocumented}
 use Rattle.tough_schema.specs.declared.seek.Place.{Place}
 use Rattle.tough_schema.specs.declared.seek.Place.TheVariants.{Here, Under}
 use Rattle.tough_schema.specs.Tree.{Document, Roles}
-use Rattle.tough_schema.specs.View.{Role, view_role, view_delegations}
-use Rattle.tough_schema.specs.Seek.{Sought, found, missing, undocumented, if_found, seek_in, standing_in}
+use Rattle.tough_schema.specs.declared.delegations.DelegatedRole.{DelegatedRole}
+use Rattle.tough_schema.specs.View.{Role, view_role, view_roles, view_delegations}
+use Rattle.tough_schema.specs.Seek.{Sought, found, missing, undocumented, undelegated, if_found, seek, seek_in, standing_in}
 
 abbrev pub seen_of : Seen → Sought
 seen_of (Found r) = found (view_role r.now)
@@ -34,3 +35,19 @@ standing_below (Some d) = standing_in d
 -- a role, and what stands below it
 abbrev pub standing_at : Roles → Role → List (List ℕ × Roles)
 standing_at all r = (r.0.name, all) ∷ standing_below r.1
+
+-- the role that was found
+abbrev pub role_of : Sought → Option Role
+role_of (found r) = Some r
+role_of missing = None
+role_of undocumented = None
+role_of undelegated = None
+
+abbrev pub role_at : Option Sought → Option Role
+role_at None = None
+role_at (Some s) = role_of s
+
+-- at this place of the list stands the role that is found there, or below which it is
+pub record IsPlace (name : List ℕ) (roles : List DelegatedRole) (i : ℕ) : Type 0 where
+  pub within : i < length roles
+  pub role : (r : DelegatedRole) → r ≡ slice_index_or roles i r → role_of (seek name (view_roles roles)) ≡ role_at (step_at name (view_role r))

@@ -3,8 +3,14 @@
 ghost use Rattle.std.specs.Prelude.{◌≡◌, ◌↔◌, ℕ, List, true, chars};
 ghost use Rattle.tough_names.specs.Spelling.{Matches};
 ghost use Rattle.tough_schema.specs.Matching.{pattern_matches};
+ghost use Rattle.tough_schema.specs.Whole.{TellsItsTop};
 
 /// A pattern is found to match exactly where its grammar says that it does.
 pub fn patterns_match_exactly()
     ensures { (resolved p : List ℕ) → (pattern_matches resolved p ≡ true) ↔ Matches (chars p) (chars resolved) }
+{}
+
+/// What a document says for itself is the top of its tree.
+pub fn trees_tell_their_top()
+    ensures { TellsItsTop }
 {}

@@ -2,11 +2,17 @@
 #![tactic(auto)]
 
 mod delegations;
+mod edit;
 mod entries;
+mod file_digest;
 mod find;
+mod from_path;
+mod held;
 pub mod laws;
+mod lend;
 mod listing;
 mod matching;
+mod naming;
 mod read_delegations;
 mod read_target;
 mod read_targets;
@@ -19,6 +25,7 @@ mod write_target;
 mod write_targets;
 
 pub use delegations::{DelegatedRole, Delegations, PathSet};
+pub use file_digest::FileError;
 pub use target::Target;
 pub use targets::{DelegatedTargets, Targets};
 pub use tough_roles::{

@@ -14,7 +14,7 @@ use tough_roles::{Error, Signed};
 
 // What seeking a name comes to.
 #[derive(Drop)]
-enum Seen<'a> {
+pub enum Seen<'a> {
     Found(&'a DelegatedRole),
     Missing,
     Undocumented,
@@ -62,7 +62,7 @@ fn seek_among<'a>(roles: &'a [DelegatedRole], name: &str) -> Seen<'a>
 }
 
 #[cycle(seek)]
-fn seek_at<'a>(role: &'a DelegatedRole, name: &str) -> Option<Seen<'a>>
+pub fn seek_at<'a>(role: &'a DelegatedRole, name: &str) -> Option<Seen<'a>>
     ensures { option_map seen_of result ≡ step_at name.now (view_role role.now) }
 {
     if role.name.as_str() == name {

@@ -1,0 +1,66 @@
+use Rattle.std.proofs.Common.{◌≡◌, length, subst, refl, ap, sym, ◌∙◌, arith, List, ℕ, Err, Result}
+use Rattle.std.proofs.lemmas.List.{take_all}
+use Rattle.std.proofs.lemmas.Result.{err_from_is_err_and}
+use Rattle.sha2.specs.Hashers.{Holds256}
+use Rattle.tough_files.specs.declared.files.FilesError.{FilesError}
+use Rattle.tough_files.specs.declared.files.FilesError.TheVariants as fault
+use Rattle.tough_schema.specs.FileDigest.{Feeds, MeasuresFile}
+use Rattle.tough_schema.specs.declared.file_digest.Reading.{Reading}
+use Rattle.tough_schema.specs.declared.file_digest.Measured.{Measured}
+use Rattle.tough_schema.proofs.Pieces.{there-kept}
+use Rattle.tough_schema.proofs.file_digest.read_all.Goals as goal
+
+-- a reading that was refused refuses the whole
+refused : (bytes : List ℕ) (old new : Reading) (e : FilesError) (r : Result ℕ FilesError) (s : Result Measured FilesError) → r ≡ Err e → s ≡ Err e → Feeds bytes old r new → MeasuresFile bytes s
+refused bytes old new fault.Memory r s is was h = subst (MeasuresFile bytes) (sym was) tt
+refused bytes old new fault.NotFound r s is was h = subst (MeasuresFile bytes) (sym was) (subst (λ x. Feeds bytes old x new) is h)
+refused bytes old new fault.Failed r s is was h = subst (MeasuresFile bytes) (sym was) (subst (λ x. Feeds bytes old x new) is h)
+
+pub loop-init : goal.loop-init
+loop-init g c = (λ tells path. refl, λ bytes tells is. (record { within = omega arith; holds = c.new.ensures }, omega arith))
+
+pub returns-in_err-feed-clause-measured : goal.returns-in_err-feed-clause-measured
+returns-in_err-feed-clause-measured g c = λ bytes tells is.
+    let same = c.loop.invariant.0 tells in
+    let read = c.loop.invariant.1 bytes tells is in
+    let p = err_from_is_err_and c.from_residual.result c.from_residual.ensures.1 in
+    refused bytes c.loop.reading c.feed.new.reading c.in_err-feed.field-0.0 c.feed.result c.from_residual.result c.in_err-feed.was (p.1 ∙ ap Err p.2)
+    (c.feed.ensures.feeds bytes tells (there-kept c.args.path.now (g.F.Files.contents c.args.files.now) (g.F.Files.contents c.loop.files) same ∙ is) read.0)
+
+pub returns-in_err-feed-clause-kept : goal.returns-in_err-feed-clause-kept
+returns-in_err-feed-clause-kept g c = λ tells path. c.feed.ensures.kept tells path ∙ c.loop.invariant.0 tells path
+
+pub returns-then-branch-eq0-clause-measured : goal.returns-then-branch-eq0-clause-measured
+returns-then-branch-eq0-clause-measured g c = λ bytes tells is.
+    let same = c.loop.invariant.0 tells in
+    let read = c.loop.invariant.1 bytes tells is in
+    let fed = c.in_ok-feed.ensures.feeds bytes tells (there-kept c.args.path.now (g.F.Files.contents c.args.files.now) (g.F.Files.contents c.loop.files) same ∙ is) read.0 in
+    let all : c.feed.new.reading.length ≡ length bytes = fed.2 c.if-branch-eq0.true in
+    let held : Holds256 c.feed.new.reading.hasher bytes = subst (λ m. Holds256 c.feed.new.reading.hasher m) (take_all c.feed.new.reading.length bytes (omega (arith, all))) fed.0.holds in
+    (all, c.finalize.ensures bytes held)
+
+pub returns-then-branch-eq0-clause-kept : goal.returns-then-branch-eq0-clause-kept
+returns-then-branch-eq0-clause-kept g c = λ tells path. c.in_ok-feed.ensures.kept tells path ∙ c.loop.invariant.0 tells path
+
+pub loop-preserved : goal.loop-preserved
+loop-preserved g c = (
+  λ tells path. c.in_ok-feed.ensures.kept tells path ∙ c.loop.invariant.0 tells path,
+  λ bytes tells is.
+      let same = c.loop.invariant.0 tells in
+      let read = c.loop.invariant.1 bytes tells is in
+      let fed = c.in_ok-feed.ensures.feeds bytes tells (there-kept c.args.path.now (g.F.Files.contents c.args.files.now) (g.F.Files.contents c.loop.files) same ∙ is) read.0 in
+      let more = fed.1 in
+      let before = read.1 in
+      let some = c.if-branch-eq0.false in
+      (fed.0, omega (arith, more, before, some)),
+)
+
+pub returns-clause-measured : goal.returns-clause-measured
+returns-clause-measured g c = λ bytes tells is.
+    let read = c.loop.invariant.1 bytes tells is in
+    let within = read.0.within in
+    let many = read.1 in
+    omega (arith, within, many)
+
+pub returns-clause-kept : goal.returns-clause-kept
+returns-clause-kept g c = λ tells path. c.loop.invariant.0 tells path

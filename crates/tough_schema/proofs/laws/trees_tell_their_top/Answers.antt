@@ -1,0 +1,5 @@
+use Rattle.tough_schema.proofs.Wholes.{top-tells}
+use Rattle.tough_schema.proofs.laws.trees_tell_their_top.Goals as goal
+
+pub returns : goal.returns
+returns c = top-tells

@@ -1,0 +1,59 @@
+-- The length and the digest of a file, and the target that it is (TUF specification 1.0, section 4.5, TARGETS).
+use Rattle.std.specs.Prelude.{◌≡◌, ⊤, ℕ, ◌+◌, ◌-◌, ◌^◌, ◌≤◌, List, length, take, Option, Some, None, Result, Ok, Err}
+use Rattle.sha2.specs.Sha256.{sha256}
+use Rattle.sha2.specs.Hashers.{Holds256}
+use Rattle.tough_files.specs.Contents.{Node, file, folder, link, Contents, followed}
+use Rattle.tough_files.specs.declared.files.FilesError.{FilesError}
+use Rattle.tough_files.specs.declared.files.FilesError.TheVariants as fault
+use Rattle.tough_schema.specs.declared.file_digest.Measured.{Measured}
+use Rattle.tough_schema.specs.declared.file_digest.Reading.{Reading}
+use Rattle.tough_schema.specs.declared.file_digest.FileError.{FileError}
+use Rattle.tough_schema.specs.declared.file_digest.FileError.TheVariants as why
+
+-- what stands at the path, links followed
+abbrev pub there : List ℕ → Contents → Option Node
+there path contents = contents (followed contents path)
+
+abbrev pub IsFile : Option Node → Type 0
+IsFile n = (bytes : List ℕ) × (n ≡ Some (file bytes))
+
+abbrev pub IsOther : Option Node → Type 0
+IsOther None = ⊥
+IsOther (Some (file bytes)) = ⊥
+IsOther (Some folder) = ⊤
+IsOther (Some (link target)) = ⊤
+
+-- longer than a length can say
+abbrev pub IsEndless : Option Node → Type 0
+IsEndless n = (bytes : List ℕ) × (n ≡ Some (file bytes)) × (2 ^ 64 - 1 ≤ length bytes)
+
+abbrev pub Stands : Option Node → Result (Unit {0}) FileError → Type 0
+Stands n (Ok u) = IsFile n
+Stands n (Err why.FileOpen) = n ≡ None
+Stands n (Err why.TargetNotAFile) = IsOther n
+Stands n (Err why.FileRead) = ⊥
+Stands n (Err why.Memory) = ⊤
+
+abbrev pub MeasuresFile : List ℕ → Result Measured FilesError → Type 0
+MeasuresFile bytes (Ok m) = (m.length ≡ length bytes) × (m.sha256 ≡ sha256 bytes)
+MeasuresFile bytes (Err fault.Memory) = ⊤
+MeasuresFile bytes (Err fault.NotFound) = 2 ^ 64 - 1 ≤ length bytes
+MeasuresFile bytes (Err fault.Failed) = 2 ^ 64 - 1 ≤ length bytes
+
+abbrev pub Measures : Option Node → Result Measured FileError → Type 0
+Measures n (Ok m) = (bytes : List ℕ) × (n ≡ Some (file bytes)) × (m.length ≡ length bytes) × (m.sha256 ≡ sha256 bytes)
+Measures n (Err why.FileOpen) = n ≡ None
+Measures n (Err why.TargetNotAFile) = IsOther n
+Measures n (Err why.FileRead) = IsEndless n
+Measures n (Err why.Memory) = ⊤
+
+-- the hasher holds what was read: a beginning of the bytes
+pub record HasRead (bytes : List ℕ) (r : Reading) : Type 0 where
+  pub within : r.length ≤ length bytes
+  pub holds : Holds256 r.hasher (take r.length bytes)
+
+abbrev pub Feeds : List ℕ → Reading → Result ℕ FilesError → Reading → Type 0
+Feeds bytes old (Ok n) new = HasRead bytes new × (new.length ≡ old.length + n) × (n ≡ 0 → new.length ≡ length bytes)
+Feeds bytes old (Err fault.Memory) new = ⊤
+Feeds bytes old (Err fault.NotFound) new = 2 ^ 64 - 1 ≤ length bytes
+Feeds bytes old (Err fault.Failed) new = 2 ^ 64 - 1 ≤ length bytes

@@ -1,0 +1,114 @@
+//! The length and the digest of a file.
+
+ghost use Rattle.std.specs.Prelude.{◌≡◌, ◌≤◌, List, ℕ, Some, true, IfOk};
+ghost use Rattle.tough_files.specs.Contents.{file, Same};
+ghost use Rattle.tough_schema.specs.FileDigest.{there, Stands, HasRead, Feeds, Measures, MeasuresFile};
+
+use sha2::{Digest, Sha256};
+use std::alloc::AllocError;
+use thiserror::Error;
+use tough_base::{FileKind, Files, FilesError};
+
+/// The length of a file, and the SHA-256 of its bytes.
+#[derive(Drop)]
+pub struct Measured {
+    pub length: u64,
+    pub sha256: [u8; 32],
+}
+
+/// Why a file isn't taken as a target.
+#[derive(Clone, Copy, Debug, PartialEq, Eq, Drop, Error)]
+pub enum FileError {
+    /// Nothing is found at the path.
+    #[error("Failed to open the file")]
+    FileOpen,
+    /// What stands there is no file.
+    #[error("Not a file")]
+    TargetNotAFile,
+    /// The file can't be read.
+    #[error("Failed to read the file")]
+    FileRead,
+    /// A request for memory was refused.
+    #[error("out of memory")]
+    Memory,
+}
+
+// What was read of a file so far.
+#[derive(Drop)]
+struct Reading {
+    hasher: Sha256,
+    length: u64,
+}
+
+// Whether a file stands at the path, links followed.
+fn look<F: Files>(files: &mut F, path: &str) -> Result<(), FileError>
+    ensures stands { F.tells ≡ true → Stands (there path.now (F.contents files.old)) result }
+    ensures kept { F.tells ≡ true → Same (F.contents files.old) (F.contents files.new) }
+{
+    match files.kind(path, true) {
+        Ok(FileKind::File) => Ok(()),
+        Ok(_) => Err(FileError::TargetNotAFile),
+        Err(FilesError::Memory) => Err(FileError::Memory),
+        Err(_) => Err(FileError::FileOpen),
+    }
+}
+
+// Reads on, and says how many bytes; none at the end.
+fn feed<F: Files>(files: &mut F, path: &str, reading: &mut Reading) -> Result<usize, FilesError>
+    ensures feeds { (bytes : List ℕ) → F.tells ≡ true → there path.now (F.contents files.old) ≡ Some (file bytes) → HasRead bytes reading.old → Feeds bytes reading.old result reading.new }
+    ensures kept { F.tells ≡ true → Same (F.contents files.old) (F.contents files.new) }
+{
+    let mut buf = [0; 4096];
+    let n = files.read(path, reading.length, &mut buf)?;
+    let Some(length) = reading.length.checked_add(n as u64) else {
+        return Err(FilesError::Failed);
+    };
+    reading.hasher.update(&buf[..n]);
+    reading.length = length;
+    Ok(n)
+}
+
+// Reads the file to its end.
+fn read_all<F: Files>(files: &mut F, path: &str) -> Result<Measured, FilesError>
+    ensures measured { (bytes : List ℕ) → F.tells ≡ true → there path.now (F.contents files.old) ≡ Some (file bytes) → MeasuresFile bytes result }
+    ensures kept { F.tells ≡ true → Same (F.contents files.old) (F.contents files.new) }
+{
+    let mut reading = Reading {
+        hasher: Sha256::new(),
+        length: 0,
+    };
+    for _ in 0..u64::MAX {
+        if feed(files, path, &mut reading)? == 0 {
+            return Ok(Measured {
+                length: reading.length,
+                sha256: reading.hasher.finalize(),
+            });
+        }
+    }
+    Err(FilesError::Failed)
+}
+
+/// The length and the digest of the file at the path, links followed.
+pub fn measure<F: Files>(files: &mut F, path: &str) -> Result<Measured, FileError>
+    ensures measured { F.tells ≡ true → Measures (there path.now (F.contents files.old)) result }
+    ensures kept { F.tells ≡ true → Same (F.contents files.old) (F.contents files.new) }
+{
+    if let Err(error) = look(files, path) {
+        return Err(error);
+    }
+    match read_all(files, path) {
+        Ok(measured) => Ok(measured),
+        Err(FilesError::Memory) => Err(FileError::Memory),
+        Err(_) => Err(FileError::FileRead),
+    }
+}
+
+impl From<AllocError> for FileError {
+    ghost use Rattle.tough_schema.specs.declared.file_digest.FileError.TheVariants.{Memory};
+
+    ghost from_gives = { λ _ e. e ≡ Memory };
+
+    fn from(_: AllocError) -> FileError {
+        FileError::Memory
+    }
+}

@@ -1,0 +1,95 @@
+//! Delegated roles by name, lent for writing.
+
+ghost use Rattle.std.specs.Prelude.{◌≡◌, None, IfOk, IfErr, IfSome, IfNone, option_map};
+ghost use Rattle.tough_schema.specs.Targets.{targets_doc};
+ghost use Rattle.tough_schema.specs.View.{view, view_role, view_roles, view_delegated};
+ghost use Rattle.tough_schema.specs.Seek.{found, seek, seek_in, sought, IsUnsought, HasDocument, IsUnheld};
+ghost use Rattle.tough_schema.specs.Seeking.{step_at, role_of, role_at, IsPlace};
+
+use crate::delegations::DelegatedRole;
+use crate::seek::{Seen, seek_at};
+use crate::targets::{DelegatedTargets, Targets};
+use std::alloc::Global;
+use tough_roles::{Error, Signed};
+
+// The place of the role of the list that has the name, or below which one has it.
+fn place_of(roles: &[DelegatedRole], name: &str) -> Option<usize>
+    ensures there { IfSome result (λ i. IsPlace name.now roles.now i) }
+    ensures none { IfNone result (role_of (seek name.now (view_roles roles.now)) ≡ None) }
+{
+    for (i, role) in roles.iter().enumerate() {
+        match seek_at(role, name) {
+            Some(Seen::Found(_)) => return Some(i),
+            Some(_) => return None,
+            None => {}
+        }
+    }
+    None
+}
+
+#[cycle(lend)]
+fn lend_in<'a>(document: &'a mut Targets, name: &str) -> Option<&'a mut DelegatedRole>
+    ensures { option_map (λ r. view_role r.now) result ≡ role_of (seek_in name.now (view document.old)) }
+{
+    let Some(delegations) = &mut document.delegations else {
+        return None;
+    };
+    let Some(i) = place_of(&delegations.roles, name) else {
+        return None;
+    };
+    match delegations.roles.get_mut(i) {
+        Some(role) => lend_at(role, name),
+        None => None,
+    }
+}
+
+#[cycle(lend)]
+fn lend_at<'a>(role: &'a mut DelegatedRole, name: &str) -> Option<&'a mut DelegatedRole>
+    ensures { option_map (λ r. view_role r.now) result ≡ role_at (step_at name.now (view_role role.old)) }
+{
+    if role.name.as_str() == name {
+        return Some(role);
+    }
+    match &mut role.targets {
+        Some(document) => lend_in(&mut document.signed.targets, name),
+        None => None,
+    }
+}
+
+impl Targets {
+    /// The role that `delegated_role` answers, for writing; its refusals.
+    pub fn delegated_role_mut(
+        &mut self,
+        alloc: Global,
+        name: &str,
+    ) -> Result<&mut DelegatedRole, Error>
+        ensures found { IfOk result (λ r. sought name.now (targets_doc self.old).delegations (view self.old) ≡ found (view_role r.now)) }
+        ensures refused { IfErr result (λ e. IsUnsought name.now (sought name.now (targets_doc self.old).delegations (view self.old)) e) }
+    {
+        if let Err(error) = self.delegated_role(alloc, name) {
+            return Err(error);
+        }
+        match lend_in(self, name) {
+            Some(role) => Ok(role),
+            None => Err(Error::NoTargets),
+        }
+    }
+
+    /// The document that `delegated_targets` answers, for writing; its refusals.
+    pub fn delegated_targets_mut(
+        &mut self,
+        alloc: Global,
+        name: &str,
+    ) -> Result<&mut Signed<DelegatedTargets>, Error>
+        ensures found { IfOk result (λ s. HasDocument (sought name.now (targets_doc self.old).delegations (view self.old)) (view_delegated s.now.signed)) }
+        ensures refused { IfErr result (λ e. IsUnheld name.now (sought name.now (targets_doc self.old).delegations (view self.old)) e) }
+    {
+        match self.delegated_role_mut(alloc, name) {
+            Err(error) => Err(error),
+            Ok(role) => match &mut role.targets {
+                Some(signed) => Ok(signed),
+                None => Err(Error::NoTargets),
+            },
+        }
+    }
+}
