@@ -1,5 +1,6 @@
 //! Clocks.
 ghost use Rattle.std.specs.Prelude.{◌≡◌, ℤ};
+ghost use Rattle.tough_disk.specs.SystemClock.{runtime_of};
 
 use jiff::Timestamp;
 use std::rt;
@@ -24,7 +25,9 @@ pub struct SystemClock<R> {
 
 impl<R: rt::Clock + Drop> SystemClock<R> {
     /// The clock that the runtime reaches.
-    pub fn new(rt: R) -> SystemClock<R> {
+    pub fn new(rt: R) -> SystemClock<R>
+        ensures { runtime_of result ≡ rt }
+    {
         SystemClock { rt }
     }
 }

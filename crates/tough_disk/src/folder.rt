@@ -1,6 +1,7 @@
 //! A store over a folder.
-ghost use Rattle.std.specs.Prelude.{◌≡◌, ℕ, ◌+◌, ◌%◌, ◌^◌};
-ghost use Rattle.tough_disk.specs.Folder.{store_failures};
+ghost use Rattle.std.specs.Prelude.{◌≡◌, ℕ, ◌+◌, ◌%◌, ◌^◌, ◌↔◌, IsTrue, string_bytes};
+ghost use Rattle.tough_vault.specs.Stored.{HasCause};
+ghost use Rattle.tough_disk.specs.Folder.{folder_of, runtime_of, store_failures, IsFileName};
 
 use std::alloc::{AllocError, AllocGlobal, Global};
 use std::fs::OpenFile;
@@ -29,7 +30,9 @@ pub struct DirStore<R> {
 impl<R: rt::Files + AllocGlobal + Drop> DirStore<R> {
     /// The store over this folder, which the runtime reaches. No failure is counted yet.
     pub fn new(rt: R, folder: String) -> DirStore<R>
-        ensures { store_failures result ≡ 0 }
+        ensures runtime { runtime_of result ≡ rt }
+        ensures folder { folder_of result ≡ string_bytes folder }
+        ensures failures { store_failures result ≡ 0 }
     {
         DirStore {
             rt,
@@ -55,8 +58,14 @@ impl<R: rt::Files + AllocGlobal + Drop> DirStore<R> {
 }
 
 // Whether a file of the store may have this name.
-fn is_plain(name: &str) -> bool {
-    !name.is_empty() && name != "." && name != ".." && name != TEMPORARY && !name.contains('/')
+fn is_plain(name: &str) -> bool
+    ensures { IsTrue result ↔ IsFileName name.now }
+{
+    !name.is_empty()
+        && name != "."
+        && name != ".."
+        && name != TEMPORARY
+        && !name.as_bytes().contains(&b'/')
 }
 
 fn read_all(files: &impl rt::Files, alloc: Global, path: &str) -> io::Result<Vec<u8>> {
@@ -104,7 +113,10 @@ impl<R: rt::Files + AllocGlobal + Drop> Store for DirStore<R> {
 
     ghost count = { store_failures };
 
-    fn read(&mut self, alloc: Global, name: &str) -> Result<Option<Vec<u8>>, StoreError> {
+    fn read(&mut self, alloc: Global, name: &str) -> Result<Option<Vec<u8>>, StoreError>
+        ensures none { (IsFileName name.now → ⊥) → result ≡ Ok None }
+        ensures cause { HasCause (store_failures self.old) (store_failures self.new) result }
+    {
         if !is_plain(name) {
             return Ok(None);
         }
@@ -121,7 +133,10 @@ impl<R: rt::Files + AllocGlobal + Drop> Store for DirStore<R> {
         }
     }
 
-    fn write(&mut self, name: &str, bytes: &[u8]) -> Result<(), StoreError> {
+    fn write(&mut self, name: &str, bytes: &[u8]) -> Result<(), StoreError>
+        ensures refused { (IsFileName name.now → ⊥) → result ≡ Err StoreError.Failed }
+        ensures cause { HasCause (store_failures self.old) (store_failures self.new) result }
+    {
         if !is_plain(name) {
             return Err(self.fail());
         }
@@ -134,7 +149,10 @@ impl<R: rt::Files + AllocGlobal + Drop> Store for DirStore<R> {
         }
     }
 
-    fn remove(&mut self, name: &str) -> Result<(), StoreError> {
+    fn remove(&mut self, name: &str) -> Result<(), StoreError>
+        ensures absent { (IsFileName name.now → ⊥) → result ≡ Ok tt }
+        ensures cause { HasCause (store_failures self.old) (store_failures self.new) result }
+    {
         if !is_plain(name) {
             return Ok(());
         }

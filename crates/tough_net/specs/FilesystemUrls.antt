@@ -6,6 +6,11 @@ use Rattle.tough_net.specs.declared.error.TransportErrorKind.TheVariants.{Unsupp
 use Rattle.tough_net.specs.Errors.{IsMemory, error_kind, error_url, error_cause}
 use Rattle.tough_net.specs.Items.{Item}
 use Rattle.tough_net.specs.declared.filesystem.FileStream.{FileStream}
+use Rattle.tough_net.specs.declared.filesystem.FilesystemTransport.{FilesystemTransport}
+
+-- what the files are read by
+abbrev pub runtime_of : {R : Type 0} → FilesystemTransport R → R
+runtime_of transport = transport.rt
 
 -- the scheme of URLs of files, RFC 8089
 abbrev pub IsFileScheme : List ℕ → Type 0

@@ -1,7 +1,7 @@
 //! A transport over the file system.
 ghost use Rattle.std.specs.Prelude.{◌≡◌, IfOk, IfErr, OnOk, string_bytes};
 ghost use Rattle.url.specs.Parts.{serialize};
-ghost use Rattle.tough_net.specs.FilesystemUrls.{IsFileScheme, IsFileFault, RefusesUrl, Reads, read_url};
+ghost use Rattle.tough_net.specs.FilesystemUrls.{IsFileScheme, IsFileFault, RefusesUrl, Reads, read_url, runtime_of};
 
 use crate::{Cause, Transport, TransportError, TransportErrorKind};
 use bytes::Bytes;
@@ -25,7 +25,10 @@ pub struct FilesystemTransport<R> {
 }
 
 impl<R: Files + AllocGlobal + Drop> FilesystemTransport<R> {
-    pub fn new(rt: R) -> FilesystemTransport<R> {
+    /// The transport that reads files by this runtime.
+    pub fn new(rt: R) -> FilesystemTransport<R>
+        ensures { runtime_of result ≡ rt }
+    {
         FilesystemTransport { rt }
     }
 }
