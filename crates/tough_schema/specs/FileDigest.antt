@@ -17,16 +17,18 @@ there path contents = contents (followed contents path)
 abbrev pub IsFile : Option Node → Type 0
 IsFile n = (bytes : List ℕ) × (n ≡ Some (file bytes))
 
+-- a folder, or a link after the last that is followed
 abbrev pub IsOther : Option Node → Type 0
 IsOther None = ⊥
 IsOther (Some (file bytes)) = ⊥
 IsOther (Some folder) = ⊤
 IsOther (Some (link target)) = ⊤
 
--- longer than a length can say
+-- a file that is too long to be measured: a length has 64 bits
 abbrev pub IsEndless : Option Node → Type 0
 IsEndless n = (bytes : List ℕ) × (n ≡ Some (file bytes)) × (2 ^ 64 - 1 ≤ length bytes)
 
+-- whether a file stands there
 abbrev pub Stands : Option Node → Result (Unit {0}) FileError → Type 0
 Stands n (Ok u) = IsFile n
 Stands n (Err why.FileOpen) = n ≡ None
@@ -34,12 +36,14 @@ Stands n (Err why.TargetNotAFile) = IsOther n
 Stands n (Err why.FileRead) = ⊥
 Stands n (Err why.Memory) = ⊤
 
+-- what reading a file of these bytes comes to
 abbrev pub MeasuresFile : List ℕ → Result Measured FilesError → Type 0
 MeasuresFile bytes (Ok m) = (m.length ≡ length bytes) × (m.sha256 ≡ sha256 bytes)
 MeasuresFile bytes (Err fault.Memory) = ⊤
 MeasuresFile bytes (Err fault.NotFound) = 2 ^ 64 - 1 ≤ length bytes
 MeasuresFile bytes (Err fault.Failed) = 2 ^ 64 - 1 ≤ length bytes
 
+-- what measuring comes to where this stands; want of memory says nothing
 abbrev pub Measures : Option Node → Result Measured FileError → Type 0
 Measures n (Ok m) = (bytes : List ℕ) × (n ≡ Some (file bytes)) × (m.length ≡ length bytes) × (m.sha256 ≡ sha256 bytes)
 Measures n (Err why.FileOpen) = n ≡ None
@@ -52,6 +56,7 @@ pub record HasRead (bytes : List ℕ) (r : Reading) : Type 0 where
   pub within : r.length ≤ length bytes
   pub holds : Holds256 r.hasher (take r.length bytes)
 
+-- what reading on comes to
 abbrev pub Feeds : List ℕ → Reading → Result ℕ FilesError → Reading → Type 0
 Feeds bytes old (Ok n) new = HasRead bytes new × (new.length ≡ old.length + n) × (n ≡ 0 → new.length ≡ length bytes)
 Feeds bytes old (Err fault.Memory) new = ⊤

@@ -6,7 +6,7 @@ use std::test::Fail;
 use tough_base::TargetName;
 
 // The document, with the last documents made for those of its roles that are marked.
-pub fn with_documents(
+pub(crate) fn with_documents(
     alloc: Global,
     marks: &str,
     text: &str,
@@ -96,13 +96,18 @@ fn documents(alloc: Global, targets: &Targets) -> Result<String, Fail> {
     Ok(texts.as_slice().join(alloc, ",")?)
 }
 
+// A role, its document, and the roles among which it stands.
+fn sought(alloc: Global, targets: &Targets, name: &str) -> Result<String, Fail> {
+    let role = role(alloc, targets, name)?;
+    let document = document(alloc, targets, name)?;
+    let parent = parent(alloc, targets, name)?;
+    Ok(format!(in alloc; "{role} | {document} | {parent}")?)
+}
+
 fn answer(alloc: Global, targets: &Targets, asked: &str) -> Result<String, Fail> {
     match asked.split_once(' ') {
         Some(("find", name)) => found(alloc, targets, name),
-        Some(("role", name)) => role(alloc, targets, name),
-        Some(("document", name)) => document(alloc, targets, name),
-        Some(("parent", name)) => parent(alloc, targets, name),
-        Some(_) => Ok(String::new(alloc)),
+        Some((_, name)) => sought(alloc, targets, name),
         None if asked == "names" => {
             let names = targets.role_names(alloc)?;
             Ok(names.as_slice().join(alloc, ",")?)
