@@ -1,10 +1,16 @@
 //! The program `tough`.
 
-ghost use Rattle.std.specs.Prelude.{⊤};
+ghost use Rattle.std.specs.Prelude.{◌≡◌, ◌≤◌, ⊤, OnOk, IfOk, IsTrue, Ok, true};
+ghost use Rattle.std.specs.Int.NonZero.{non_zero_u64_get};
+ghost use Rattle.std.specs.Io.KnownBytes.{Appends};
+ghost use Rattle.tough_update.specs.Stages.{LoadedDoc};
+ghost use Rattle.tough_update.specs.View.{loaded_doc};
+ghost use Rattle.tough.specs.Program.{IsVouchedFor, version_line, versions_text};
 
 use crate::Error;
 use std::alloc::{AllocError, AllocGlobal, Global};
 use std::io::{self, Read, Write};
+use std::num::NonZeroU64;
 use std::random::RandomSource;
 use std::{fs, rt};
 use tough_client::{DirStore, Repository, RepositoryLoader, SystemClock, Vault, drive};
@@ -62,6 +68,7 @@ fn load<R>(
 ) -> Result<Repository, Fault>
 where
     R: rt::Files + rt::Clock + RandomSource + AllocGlobal + Clone + Drop,
+    ensures { IfOk result (λ l. IsVouchedFor (loaded_doc l)) }
 {
     let alloc = rt.alloc();
     let metadata = url(alloc, metadata)?;
@@ -88,12 +95,22 @@ where
     }
 }
 
+// A role and its version.
+fn print_version<O: Write>(out: &mut O, role: &str, version: NonZeroU64) -> io::Result<()>
+    ensures { OnOk result (Appends (O.contents out.old) (O.contents out.new) (version_line role.now (non_zero_u64_get version))) }
+{
+    writeln!(out, "{role} {version}")
+}
+
 // The versions of what was loaded.
-fn print<O: Write>(out: &mut O, loaded: &Repository) -> io::Result<()> {
-    writeln!(out, "root {}", loaded.root().signed.version)?;
-    writeln!(out, "timestamp {}", loaded.timestamp().signed.version)?;
-    writeln!(out, "snapshot {}", loaded.snapshot().signed.version)?;
-    writeln!(out, "targets {}", loaded.targets().signed.version)
+fn print<O: Write>(out: &mut O, loaded: &Repository) -> io::Result<()>
+    ensures { OnOk result (Appends (O.contents out.old) (O.contents out.new) (versions_text (loaded_doc loaded.now))) }
+{
+    print_version(out, "root", loaded.root().signed.version)?;
+    print_version(out, "timestamp", loaded.timestamp().signed.version)?;
+    print_version(out, "snapshot", loaded.snapshot().signed.version)?;
+    print_version(out, "targets", loaded.targets().signed.version)?;
+    Ok(())
 }
 
 // Tells why a run failed.
@@ -110,6 +127,7 @@ where
     R: rt::Files + rt::Clock + RandomSource + AllocGlobal + Clone + Drop,
     O: Write,
     E: Write,
+    ensures { IfOk result (λ done. done ≡ true → (l : LoadedDoc) × IsVouchedFor l × Appends (O.contents out.old) (O.contents out.new) (versions_text l)) }
 {
     writeln!(err, "{WARNING}")?;
     let [command, root, metadata, targets, store] = words else {
@@ -148,6 +166,8 @@ where
     R: rt::Files + rt::Clock + RandomSource + AllocGlobal + Clone + Drop,
     O: Write,
     E: Write,
+    ensures status { result ≤ 1 }
+    ensures printed { result ≡ 0 → (l : LoadedDoc) × IsVouchedFor l × Appends (O.contents out.old) (O.contents out.new) (versions_text l) }
 {
     match work(rt, words, out, err) {
         Ok(true) => 0,

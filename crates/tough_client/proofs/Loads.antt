@@ -1,16 +1,16 @@
 -- How what a load may come to follows from one step of it.
-use Rattle.std.specs.Prelude.{◌≡◌, ℕ, List, [], ◌∷◌, Result, Ok, Option, Some, None, IfSome, IsSome, Vec, option_map}
+use Rattle.std.specs.Prelude.{◌≡◌, ℕ, List, [], ◌∷◌, Result, Option, Some, None, IfSome, IsSome, Vec, option_map}
 use Rattle.std.specs.declared.alloc.Global.{Global}
-use Rattle.std.proofs.Common.{refl, sym, inl, inr, subst}
+use Rattle.std.proofs.Common.{refl, sym, inr, subst}
 use Rattle.url.specs.Parts.{Parts}
-use Rattle.futures.specs.Runs.{Runs, Within}
+use Rattle.futures.specs.Runs.{Runs}
 use Rattle.tough_keys.specs.Same.{Verifies}
 use Rattle.tough_vault.specs.declared.entry.Receipt.{Receipt}
 use Rattle.tough_vault.specs.declared.checks.StepError.{StepError}
 use Rattle.tough_net.specs.declared.error.TransportError.{TransportError}
 use Rattle.tough_net.specs.declared.collect.Collect.{Collect}
 use Rattle.tough_net.specs.Items.{Item}
-use Rattle.tough_net.specs.Collecting.{Bounds, Collects, collected, bounds_of, held_by}
+use Rattle.tough_net.specs.Collecting.{Bounds, Collects, collected, held_by}
 use Rattle.tough_net.proofs.CollectLemmas.{Collects-Within}
 use Rattle.tough_update.specs.Requests.{RequestDoc}
 use Rattle.tough_update.specs.Failure.{Failure}
@@ -21,8 +21,8 @@ use Rattle.tough_update.specs.Answered.{AnswerDoc}
 use Rattle.tough_update.specs.Machine.{question}
 use Rattle.tough_update.specs.Promises.{Goes, ended}
 use Rattle.tough_client.specs.Acts.{Act}
-use Rattle.tough_client.specs.Fetching.{Comes, Fetches, IsStarted, answer_of, bounds}
-use Rattle.tough_client.specs.Loading.{StepsAt, Allows, Leads, Reaches, Ends, Gives}
+use Rattle.tough_client.specs.Fetching.{Comes, IsStarted, answer_of, bounds}
+use Rattle.tough_client.specs.Loading.{StepsAt, Allows, Reaches, Ends, Gives}
 
 module _ {T S K : Type 0} (refuses : T → Parts → TransportError → Type 0) (serves : T → Parts → Runs Item) (keeps : Verifies → K → Act → Result Receipt StepError → K → Type 0) (yields : S → Runs Item)
     (verifies : Verifies) (base : Parts) (t : T) where

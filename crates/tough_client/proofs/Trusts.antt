@@ -1,5 +1,5 @@
 -- A load that succeeds is a run of the machine that succeeds, on answers that keep their promises.
-use Rattle.std.specs.Prelude.{◌≡◌, ◌⊎◌, ◌≤◌, ℕ, List, [], ◌∷◌, length, Option, Some, None, IfSome, Bool, true, false, IsTrue, ◌&&◌, nat_le, Result, Ok, Err, ⊤}
+use Rattle.std.specs.Prelude.{◌≡◌, ◌≤◌, ℕ, List, [], ◌∷◌, length, Option, Some, None, IfSome, IfOk, Bool, true, false, IsTrue, ◌&&◌, nat_le, Result, Ok, Err}
 use Rattle.std.proofs.Common.{refl, sym, ap, ◌∙◌, subst, inl, inr, arith}
 use Rattle.std.proofs.lemmas.Bool.Decides.{nat_tests}
 use Rattle.std.proofs.lemmas.Slice.Eq.{bytes_eq-Decides}
@@ -10,6 +10,7 @@ use Rattle.tough_keys.specs.Same.{Verifies}
 use Rattle.tough_vault.specs.declared.entry.Receipt.{Receipt}
 use Rattle.tough_vault.specs.declared.checks.StepError.{StepError}
 use Rattle.tough_net.specs.declared.error.TransportError.{TransportError}
+use Rattle.tough_net.specs.declared.collect.Collect.{Collect}
 use Rattle.tough_net.specs.Items.{Item}
 use Rattle.tough_net.specs.Collecting.{Fits}
 use Rattle.tough_update.specs.Failure.{Failure, Memory}
@@ -20,12 +21,14 @@ use Rattle.tough_update.specs.Questions.{Question}
 use Rattle.tough_update.specs.Questions as ask
 use Rattle.tough_update.specs.Answered.{AnswerDoc}
 use Rattle.tough_update.specs.Answered as got
-use Rattle.tough_update.specs.Machine.{question, question_at, answered}
-use Rattle.tough_update.specs.Promises.{Goes, ended}
-use Rattle.tough_update.specs.Runs.{Keeps, run, Along}
+use Rattle.tough_update.specs.Machine.{question, question_at}
+use Rattle.tough_update.specs.Promises.{ended}
+use Rattle.tough_update.specs.Runs.{Keeps, run, Along, IsFresh}
+use Rattle.tough_update.proofs.Whole.{loaded}
 use Rattle.tough_client.specs.Acts.{Act, CheckedIfOk, AdvanceTimestamp, AdvanceSnapshot}
 use Rattle.tough_client.specs.Fetching.{Fetches, bounds}
-use Rattle.tough_client.specs.Loading.{Allows, Leads}
+use Rattle.tough_client.specs.Loading.{Allows, Leads, Ends}
+use Rattle.tough_client.specs.Vouching.{Vouches}
 
 both-true : (b c : Bool) → b ≡ true → c ≡ true → IsTrue (b && c)
 both-true true c h k = k
@@ -115,3 +118,30 @@ module _ {T S K : Type 0} (refuses : T → Parts → TransportError → Type 0) 
       )
   leads-run (a ∷ rest) c k c' k' l is (mid, next, allowed, inr e, more) =
       absurd (cc (is, spent rest mid next c' k' (ap (λ (d : CoreDoc). d.stage) e) more))
+
+module _ {T S K : Type 0} (refuses : T → Parts → TransportError → Type 0) (serves : T → Parts → Runs Item) (keeps : Verifies → K → Act → Result Receipt StepError → K → Type 0) (yields : S → Runs Item)
+    (checks : (verifies : Verifies) (old : K) (act : Act) (r : Result Receipt StepError) (new : K) → keeps verifies old act r new → CheckedIfOk verifies act r) where
+  -- a load that ends, with nothing fetched at its beginning, vouches for what it gives
+  ends-vouches : (verifies : Verifies) (base : Parts) (t : T) (c : CoreDoc) (k : K) (o : Result LoadedDoc Failure) (left : CoreDoc) (kept : K) → IsFresh c
+      → Ends refuses serves keeps yields verifies base t None c k o left kept → IfOk o (Vouches refuses serves keeps yields verifies base t c k)
+  ends-vouches verifies base t c k (Err e) left kept fresh h = tt
+  ends-vouches verifies base t c k (Ok l) left kept fresh h =
+      let r = leads-run refuses serves keeps yields verifies base t (λ old act x new held. checks verifies old act x new held) h.1.0 c k h.0 kept l (done-at _ _ h.2) h.1.1 in record {
+        answers = h.1.0;
+        last = h.0;
+        kept = kept;
+        allowed = h.1.1;
+        loaded = loaded verifies c h.1.0 l fresh r.1 r.0;
+      }
+
+  -- the same, where the load's parts are those that were given
+  pub vouched : {V : Type 0} (w : V → Verifies) (base : Parts) (v v' : V) (t t' : T) (c c' : CoreDoc) (k k' : K) (fetch : Option (Collect S)) (o : Result LoadedDoc Failure) (left : CoreDoc) (kept : K)
+      → v ≡ v' → t ≡ t' → c ≡ c' → k ≡ k' → fetch ≡ None → IsFresh c'
+      → Ends refuses serves keeps yields (w v) base t fetch c k o left kept → IfOk o (Vouches refuses serves keeps yields (w v') base t' c' k')
+  vouched w base v v' t t' c c' k k' fetch o left kept ev et ec ek none fresh h =
+      let h1 = subst (λ x. Ends refuses serves keeps yields (w x) base t fetch c k o left kept) ev h in
+      let h2 = subst (λ x. Ends refuses serves keeps yields (w v') base x fetch c k o left kept) et h1 in
+      let h3 = subst (λ x. Ends refuses serves keeps yields (w v') base t' fetch x k o left kept) ec h2 in
+      let h4 = subst (λ x. Ends refuses serves keeps yields (w v') base t' fetch c' x o left kept) ek h3 in
+      let h5 = subst (λ x. Ends refuses serves keeps yields (w v') base t' x c' k' o left kept) none h4 in
+      ends-vouches (w v') base t' c' k' o left kept fresh h5

@@ -11,7 +11,6 @@ use Rattle.tough_vault.specs.declared.entry.Receipt.{Receipt}
 use Rattle.tough_vault.specs.declared.checks.StepError.{StepError}
 use Rattle.tough_vault.specs.Checks.{timestamp_first, snapshot_first, expiry}
 use Rattle.tough_vault.specs.Documents.{stored_text, timestamp_verdict, snapshot_verdict}
-use Rattle.tough_vault.specs.Journal.{Last}
 use Rattle.tough_vault.specs.Stored.{Files}
 use Rattle.tough_vault.specs.Step.{Parts, Takes, Clears}
 use Rattle.tough_vault.specs.Steps.{time_step, root_step, timestamp_step, snapshot_step, document_step}

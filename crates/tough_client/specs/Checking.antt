@@ -1,13 +1,12 @@
 -- A step that succeeded has made its checks.
-use Rattle.std.proofs.Common.{◌≡◌, ℕ, ℤ, List, [], ◌∷◌, Option, None, Some, Bool, Result, Ok, Err, refl}
-use Rattle.std.specs.Prelude.{⊤}
+use Rattle.std.proofs.Common.{◌≡◌, ℕ, Option, None, Some, Bool, Result, Ok, Err, refl}
 use Rattle.tough_keys.specs.Same.{Verifies}
 use Rattle.tough_vault.specs.declared.entry.Receipt.{Receipt}
 use Rattle.tough_vault.specs.declared.checks.StepError.{StepError}
-use Rattle.tough_vault.specs.Checks.{Reason, or_else, first_of}
+use Rattle.tough_vault.specs.Checks.{Reason, or_else}
 use Rattle.tough_vault.specs.Stored.{Files}
 use Rattle.tough_vault.specs.Step.{Parts}
-use Rattle.tough_client.specs.Acts.{Act, NoteTime, PutRoot, ClearRotated, AdvanceTimestamp, AdvanceSnapshot, PutDocument, Checked, CheckedIfOk, Acts}
+use Rattle.tough_client.specs.Acts.{Act, NoteTime, PutRoot, ClearRotated, AdvanceTimestamp, AdvanceSnapshot, PutDocument, CheckedIfOk, Acts}
 
 none_behind : (a b : Option Reason) → or_else a b ≡ None → b ≡ None
 none_behind None b h = h

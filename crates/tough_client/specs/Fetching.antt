@@ -1,6 +1,6 @@
 -- What may come of fetching a metadata file (TUF specification 1.0, section 5.2): its name is joined to the base URL, and what the
 -- transport serves there is bounded and checked.
-use Rattle.std.specs.Prelude.{◌≡◌, ◌⊎◌, ℕ, List, [], Option, Some, None, Result, Ok, Err, Vec}
+use Rattle.std.specs.Prelude.{◌≡◌, ◌⊎◌, ℕ, [], Some, Result, Ok, Err, Vec}
 use Rattle.std.specs.declared.alloc.Global.{Global}
 use Rattle.url.specs.Parts.{Parts, serialize}
 use Rattle.url.specs.Parser.{parse_url, Gives}

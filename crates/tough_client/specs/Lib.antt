@@ -5,3 +5,6 @@ pub mod Loading
 pub mod Asking
 pub mod Running
 pub mod Words
+pub mod Base
+pub mod Loader
+pub mod Vouching

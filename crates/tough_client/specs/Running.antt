@@ -1,5 +1,5 @@
 -- The parts of a load.
-use Rattle.std.specs.Prelude.{◌≡◌, ◌≤◌, ℕ, List, length, Option, IfSome}
+use Rattle.std.specs.Prelude.{◌≤◌, length, Option, IfSome}
 use Rattle.tough_net.specs.declared.collect.Collect.{Collect}
 use Rattle.tough_net.specs.Collecting.{collected, bounds_of, held_by}
 

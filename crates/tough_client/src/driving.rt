@@ -1,9 +1,12 @@
 //! Runs a load on this thread, with nothing to wait for.
 
-ghost use Rattle.std.specs.Prelude.{◌≡◌, IfOk};
+ghost use Rattle.std.specs.Prelude.{◌≡◌, Ok, IfOk};
 ghost use Rattle.tough_update.specs.View.{core_doc, outcome_doc};
-ghost use Rattle.tough_client.specs.Loading.{Gives};
+ghost use Rattle.tough_client.specs.Loader.{IsBegun, first_core, settings_of, transport_of, verifier_of, keeper_of};
+ghost use Rattle.tough_client.specs.Loading.{Ends, Walks};
 ghost use Rattle.tough_client.specs.Running.{CanPoll};
+ghost use Rattle.tough_client.specs.Vouching.{Vouches};
+ghost use Rattle.tough_client.specs.Words as part;
 
 use crate::keeper::Keeper;
 use crate::load::Load;
@@ -28,8 +31,12 @@ where
     K: Keeper,
     C: Clock + Drop,
     V: Verify + Drop,
-    requires { CanPoll T.Stream.can_poll load.old.fetch }
-    ensures { IfOk result (λ r. Gives T.refuses T.serves K.keeps T.Stream.yields (V.verifies load.old.verifier) load.old.base load.old.transport load.old.fetch (core_doc load.old.core) load.old.keeper (outcome_doc r)) }
+    requires { CanPoll T.Stream.can_poll (part.fetch_of load.old) }
+    ensures done { IfOk result (λ r. Ends T.refuses T.serves K.keeps T.Stream.yields (V.verifies (part.verifier_of load.old)) (part.base_of load.old) (part.transport_of load.old)
+        (part.fetch_of load.old) (core_doc (part.core_of load.old)) (part.keeper_of load.old) (outcome_doc r) (core_doc (part.core_of load.new)) (part.keeper_of load.new)) }
+    ensures walked { Walks K.keeps (V.verifies (part.verifier_of load.old)) (part.keeper_of load.old) (part.keeper_of load.new) }
+    ensures trusted { (from : _) → IsBegun from load.old → IfOk result (λ r. IfOk (outcome_doc r) (Vouches T.refuses T.serves K.keeps T.Stream.yields
+        (V.verifies (verifier_of from)) (part.base_of load.old) (transport_of from) (first_core (settings_of from)) (keeper_of from))) }
 {
     let solo = Solo::new(rt, Doorbell::spinning())?;
     for _ in 0..u64::MAX {

@@ -1,27 +1,29 @@
 //! What a load that succeeds promises.
 
-ghost use Rattle.std.specs.Prelude.{◌≡◌, None, Ok, List};
-ghost use Rattle.url.specs.Parts.{Parts};
-ghost use Rattle.tough_keys.specs.Same.{Verifies};
-ghost use Rattle.tough_update.specs.Stages.{LoadedDoc, CoreDoc};
-ghost use Rattle.tough_update.specs.Answered.{AnswerDoc};
-ghost use Rattle.tough_update.specs.Runs.{IsFresh, Loaded};
+ghost use Rattle.std.specs.Prelude.{◌≡◌, Ok};
+ghost use Rattle.tough_update.specs.Stages.{LoadedDoc};
+ghost use Rattle.tough_update.specs.View.{core_doc};
+ghost use Rattle.tough_client.specs.declared.loader.RepositoryLoader.{RepositoryLoader as Loader};
+ghost use Rattle.tough_client.specs.declared.load.Load.{Load};
+ghost use Rattle.tough_client.specs.Loader.{IsBegun, first_core, settings_of, transport_of, verifier_of, keeper_of};
 ghost use Rattle.tough_client.specs.Loading.{Gives};
+ghost use Rattle.tough_client.specs.Vouching.{Vouches};
+ghost use Rattle.tough_client.specs.Words as part;
 
 use crate::keeper::Keeper;
+use tough_disk::Clock;
 use tough_net::Transport;
-use tough_update::laws::trusts;
+use tough_roles::Verify;
 
-/// A load that succeeds gives documents that are trusted: a chain of roots from the bytes that were handed in ends in its root, under
-/// which timestamp, snapshot and targets reach their thresholds; each names the next; under `Safe` none of them had expired when the load
-/// noted the time; and the root after the last one was asked for. For every verifier, transport and keeper (TUF specification 5).
-pub fn loads_are_trusted<T: Transport, K: Keeper>()
-    ensures { (verifies : Verifies) (base : Parts) (t : T) (c : CoreDoc) (k : K) (l : LoadedDoc) → IsFresh c
-        → Gives T.refuses T.serves K.keeps T.Stream.yields verifies base t None c k (Ok l)
-        → (answers : List AnswerDoc) × Loaded verifies c answers l }
-{
-    trusts();
-}
+/// A load that a loader made, and that succeeds, gives documents that are trusted: a chain of roots from the bytes that were handed in ends
+/// in its root, under which timestamp, snapshot and targets reach their thresholds; each names the next; under `Safe` none of them had
+/// expired when the load noted the time; and the root after the last one was asked for. For every verifier, transport, clock and keeper
+/// (TUF specification 5).
+pub fn loads_are_trusted<T: Transport, V: Verify + Drop, C: Clock + Drop, K: Keeper>()
+    ensures { (from : Loader T V C K) (l : Load T K C V T.Stream) (d : LoadedDoc) → IsBegun from l
+        → Gives T.refuses T.serves K.keeps T.Stream.yields (V.verifies (part.verifier_of l)) (part.base_of l) (part.transport_of l) (part.fetch_of l) (core_doc (part.core_of l)) (part.keeper_of l) (Ok d)
+        → Vouches T.refuses T.serves K.keeps T.Stream.yields (V.verifies (verifier_of from)) (part.base_of l) (transport_of from) (first_core (settings_of from)) (keeper_of from) d }
+{}
 
 /// How many laws this file states.
 pub const LAWS: usize = 1;

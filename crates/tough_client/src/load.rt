@@ -219,29 +219,31 @@ impl<T: Transport, K: Keeper, C: Clock + Drop, V: Verify + Drop> Load<T, K, C, V
 }
 
 impl<T: Transport, K: Keeper, C: Clock + Drop, V: Verify + Drop> Future for Load<T, K, C, V> {
+    ghost use Rattle.tough_client.specs.Words.{transport_of, base_of, verifier_of, keeper_of, core_of, fetch_of};
+
     type Output = Result<Loaded, Error>;
 
-    ghost can_poll = { λ m. CanPoll T.Stream.can_poll m.fetch };
+    ghost can_poll = { λ m. CanPoll T.Stream.can_poll (fetch_of m) };
 
-    ghost needs = { λ m s. IsSomeAnd m.fetch (λ f. T.Stream.needs (collected f) s) };
+    ghost needs = { λ m s. IsSomeAnd (fetch_of m) (λ f. T.Stream.needs (collected f) s) };
 
-    ghost gives = { λ m r. Gives T.refuses T.serves K.keeps T.Stream.yields (V.verifies m.verifier) m.base m.transport m.fetch (core_doc m.core) m.keeper (outcome_doc r) };
+    ghost gives = { λ m r. Gives T.refuses T.serves K.keeps T.Stream.yields (V.verifies (verifier_of m)) (base_of m) (transport_of m) (fetch_of m) (core_doc (core_of m)) (keeper_of m) (outcome_doc r) };
 
     fn poll(&mut self, cx: &mut Context<'_>) -> Poll<Self::Output>
-        requires { CanPoll T.Stream.can_poll self.old.fetch }
-        ensures value { IfReady result (λ r. Gives T.refuses T.serves K.keeps T.Stream.yields (V.verifies self.old.verifier) self.old.base self.old.transport self.old.fetch (core_doc self.old.core) self.old.keeper (outcome_doc r)) }
+        requires { CanPoll T.Stream.can_poll (fetch_of self.old) }
+        ensures value { IfReady result (λ r. Gives T.refuses T.serves K.keeps T.Stream.yields (V.verifies (verifier_of self.old)) (base_of self.old) (transport_of self.old) (fetch_of self.old) (core_doc (core_of self.old)) (keeper_of self.old) (outcome_doc r)) }
         ensures same { OnPending result ((r : _)
-            → Gives T.refuses T.serves K.keeps T.Stream.yields (V.verifies self.new.verifier) self.new.base self.new.transport self.new.fetch (core_doc self.new.core) self.new.keeper (outcome_doc r)
-            → Gives T.refuses T.serves K.keeps T.Stream.yields (V.verifies self.old.verifier) self.old.base self.old.transport self.old.fetch (core_doc self.old.core) self.old.keeper (outcome_doc r)) }
-        ensures parts { (self.new.transport ≡ self.old.transport) × (self.new.base ≡ self.old.base) × (self.new.verifier ≡ self.old.verifier) }
-        ensures walked { Walks K.keeps (V.verifies self.old.verifier) self.old.keeper self.new.keeper }
-        ensures done { IfReady result (λ r. Ends T.refuses T.serves K.keeps T.Stream.yields (V.verifies self.old.verifier) self.old.base self.old.transport
-            self.old.fetch (core_doc self.old.core) self.old.keeper (outcome_doc r) (core_doc self.new.core) self.new.keeper) }
-        ensures again { OnPending result (CanPoll T.Stream.can_poll self.new.fetch) }
+            → Gives T.refuses T.serves K.keeps T.Stream.yields (V.verifies (verifier_of self.new)) (base_of self.new) (transport_of self.new) (fetch_of self.new) (core_doc (core_of self.new)) (keeper_of self.new) (outcome_doc r)
+            → Gives T.refuses T.serves K.keeps T.Stream.yields (V.verifies (verifier_of self.old)) (base_of self.old) (transport_of self.old) (fetch_of self.old) (core_doc (core_of self.old)) (keeper_of self.old) (outcome_doc r)) }
+        ensures parts { (transport_of self.new ≡ transport_of self.old) × (base_of self.new ≡ base_of self.old) × (verifier_of self.new ≡ verifier_of self.old) }
+        ensures walked { Walks K.keeps (V.verifies (verifier_of self.old)) (keeper_of self.old) (keeper_of self.new) }
+        ensures done { IfReady result (λ r. Ends T.refuses T.serves K.keeps T.Stream.yields (V.verifies (verifier_of self.old)) (base_of self.old) (transport_of self.old)
+            (fetch_of self.old) (core_doc (core_of self.old)) (keeper_of self.old) (outcome_doc r) (core_doc (core_of self.new)) (keeper_of self.new)) }
+        ensures again { OnPending result (CanPoll T.Stream.can_poll (fetch_of self.new)) }
         ensures follows { OnPending result ((c : CoreDoc) (k : _)
-            → Reaches T.refuses T.serves K.keeps T.Stream.yields (V.verifies self.old.verifier) self.old.base self.old.transport self.new.fetch (core_doc self.new.core) self.new.keeper c k
-            → Reaches T.refuses T.serves K.keeps T.Stream.yields (V.verifies self.old.verifier) self.old.base self.old.transport self.old.fetch (core_doc self.old.core) self.old.keeper c k) }
-        ensures registered { OnPending result (Covers cx.new (λ s. IsSomeAnd self.new.fetch (λ f. T.Stream.needs (collected f) s))) }
+            → Reaches T.refuses T.serves K.keeps T.Stream.yields (V.verifies (verifier_of self.old)) (base_of self.old) (transport_of self.old) (fetch_of self.new) (core_doc (core_of self.new)) (keeper_of self.new) c k
+            → Reaches T.refuses T.serves K.keeps T.Stream.yields (V.verifies (verifier_of self.old)) (base_of self.old) (transport_of self.old) (fetch_of self.old) (core_doc (core_of self.old)) (keeper_of self.old) c k) }
+        ensures registered { OnPending result (Covers cx.new (λ s. IsSomeAnd (fetch_of self.new) (λ f. T.Stream.needs (collected f) s))) }
         ensures kept { Keeps cx.old cx.new }
     {
         for _ in 0..BUDGET {

@@ -1,9 +1,14 @@
-use Rattle.tough_client.proofs.Trusts.{leads-run, done-at}
+use Rattle.std.proofs.Common.{refl}
+use Rattle.std.specs.Prelude.{Ok}
+use Rattle.tough_update.specs.View.{core_doc}
+use Rattle.tough_client.specs.Loader.{first_core, settings_of, transport_of, verifier_of, keeper_of}
+use Rattle.tough_client.specs.Words as part
+use Rattle.tough_client.proofs.Trusts.{vouched}
 use Rattle.tough_client.proofs.laws.loads_are_trusted.Goals as goal
 
 pub returns : goal.returns
-returns g c = λ verifies base t d k l fresh h.
-    let run = h.2.1 in
-    let r = leads-run g.T.Transport.refuses g.T.Transport.serves g.K.Keeper.keeps g.T.Stream.Stream.yields verifies base t
-    (λ old act x new kept. g.met.K.Keeper.checks verifies old act x new kept) run.0 d k h.2.0 h.1 l (done-at _ _ h.2.2) run.1 in
-    (run.0, c.trusts.ensures verifies d run.0 l fresh r.1 r.0)
+returns g c = λ from l d begun h.
+    vouched g.T.Transport.refuses g.T.Transport.serves g.K.Keeper.keeps g.T.Stream.Stream.yields g.met.K.Keeper.checks
+    g.V.Verify.verifies (part.base_of l) (part.verifier_of l) (verifier_of from) (part.transport_of l) (transport_of from)
+    (core_doc (part.core_of l)) (first_core (settings_of from)) (part.keeper_of l) (keeper_of from) (part.fetch_of l) (Ok d) h.0 h.1
+    begun.verifier begun.transport begun.core begun.keeper begun.fetch refl h.2

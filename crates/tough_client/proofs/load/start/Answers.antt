@@ -1,6 +1,5 @@
-use Rattle.std.proofs.Common.{rules, ◌≡◌, ◌∙◌, ap}
+use Rattle.std.proofs.Common.{rules, ◌∙◌, ap}
 use Rattle.url.specs.Parts.{serialize}
-use Rattle.tough_net.specs.Collecting.{Bounds}
 use Rattle.tough_client.proofs.load.start.Goals as goal
 
 pub returns-in-Ok-fetch_whole-clause-started : goal.returns-in-Ok-fetch_whole-clause-started

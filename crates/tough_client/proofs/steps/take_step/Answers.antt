@@ -5,11 +5,6 @@ use Rattle.tough_update.specs.Questions as ask
 use Rattle.tough_update.specs.View.{question_of}
 use Rattle.tough_client.specs.Acts.{PutDocument, targets_text}
 use Rattle.tough_roles.specs.Signature.{signed_doc}
-use Rattle.tough_roles.specs.Root.{root_doc}
-use Rattle.tough_roles.specs.Timestamp.{timestamp_doc}
-use Rattle.tough_roles.specs.Snapshot.{snapshot_doc}
-use Rattle.tough_vault.specs.Checks.{enforces}
-use Rattle.tough_client.specs.Acts.{NoteTime, PutRoot, ClearRotated, AdvanceTimestamp, AdvanceSnapshot}
 use Rattle.tough_client.proofs.Trails.{Walks_step, Walks_same}
 use Rattle.tough_client.proofs.steps.take_step.Goals as goal
 

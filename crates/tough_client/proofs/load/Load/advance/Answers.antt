@@ -1,4 +1,3 @@
-use Rattle.std.proofs.Common.{◌≡◌, rules, refl}
 use Rattle.tough_update.specs.View.{core_doc, outcome_doc}
 use Rattle.tough_client.proofs.Loads.{Ends_ready}
 use Rattle.tough_client.proofs.load.Load.advance.Goals as goal

@@ -1,5 +1,5 @@
 use Rattle.std.proofs.Common.{◌≡◌, rules, refl}
-use Rattle.tough_update.specs.View.{core_doc, answer_doc, request_doc, fault_doc}
+use Rattle.tough_update.specs.View.{core_doc, request_doc, fault_doc}
 use Rattle.tough_update.specs.Answered as got
 use Rattle.tough_update.specs.Questions as ask
 use Rattle.tough_update.specs.Machine.{question}

@@ -1,4 +1,4 @@
-use Rattle.std.proofs.Common.{◌≡◌, rules, refl}
+use Rattle.std.proofs.Common.{rules}
 use Rattle.tough_update.specs.View.{core_doc, answer_doc, question_of}
 use Rattle.tough_update.specs.Machine.{question}
 use Rattle.tough_client.proofs.Loads.{Reaches_answer, step-allows}

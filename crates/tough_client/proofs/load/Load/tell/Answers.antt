@@ -1,5 +1,5 @@
-use Rattle.std.proofs.Common.{◌≡◌, rules, refl}
-use Rattle.tough_update.specs.View.{core_doc, answer_doc}
+use Rattle.std.proofs.Common.{refl}
+use Rattle.tough_update.specs.View.{core_doc}
 use Rattle.tough_update.specs.Answered as got
 use Rattle.tough_client.proofs.Loads.{Reaches_answer}
 use Rattle.tough_client.proofs.load.Load.tell.Goals as goal

@@ -1,6 +1,6 @@
-use Rattle.std.proofs.Common.{◌≡◌, rules, refl, sym, ◌∙◌, ap, subst}
+use Rattle.std.proofs.Common.{rules, sym, subst}
 use Rattle.tough_update.specs.View.{core_doc, outcome_doc}
-use Rattle.tough_client.specs.Loading.{Ends, Reaches, Walks}
+use Rattle.tough_client.specs.Loading.{Reaches, Walks}
 use Rattle.tough_client.proofs.Loads.{Ends-follows, at_equal}
 use Rattle.tough_client.proofs.Trails.{Walks-trans, Walks_same}
 use Rattle.tough_client.proofs.load.LoadFuture.poll.Goals as goal

@@ -1,0 +1,115 @@
+//! What a load came to, as text: the versions of what was loaded, or the refusal's name with its numbers.
+
+use std::alloc::{AllocError, Global};
+use tough::{Cause, Error, Repository, TransportError, schema};
+
+/// What a load came to.
+pub(crate) fn tell(
+    alloc: Global,
+    outcome: &Result<Repository, Error>,
+) -> Result<String, AllocError> {
+    match outcome {
+        Ok(loaded) => format!(in alloc;
+            "root {} timestamp {} snapshot {} targets {}",
+            loaded.root().signed.version,
+            loaded.timestamp().signed.version,
+            loaded.snapshot().signed.version,
+            loaded.targets().signed.version
+        ),
+        Err(error) => told(alloc, error),
+    }
+}
+
+// Why a load was refused, but for a version that is lower than another.
+fn told(alloc: Global, error: &Error) -> Result<String, AllocError> {
+    match error {
+        Error::ParseTrustedMetadata { .. } => format!(in alloc; "ParseTrustedMetadata"),
+        Error::VerifyTrustedMetadata { source } => {
+            format!(in alloc; "VerifyTrustedMetadata {}", unverified(source))
+        }
+        Error::ParseMetadata { role, .. } => format!(in alloc; "ParseMetadata {}", role.name()),
+        Error::MaxUpdatesExceeded { max_root_updates } => {
+            format!(in alloc; "MaxUpdatesExceeded {max_root_updates}")
+        }
+        Error::Transport { source } => format!(in alloc; "Transport {}", unfetched(source)),
+        Error::SystemTimeSteppedBackward {
+            sys_time,
+            latest_known_time,
+        } => format!(in alloc; "SystemTimeSteppedBackward {sys_time} {latest_known_time}"),
+        Error::VerifyMetadata { role, source } => {
+            format!(in alloc; "VerifyMetadata {} {}", role.name(), unverified(source))
+        }
+        Error::ExpiredMetadata { role } => format!(in alloc; "ExpiredMetadata {}", role.name()),
+        other => lower(alloc, other),
+    }
+}
+
+// That a version isn't as it was, or as it is listed.
+fn lower(alloc: Global, error: &Error) -> Result<String, AllocError> {
+    match error {
+        Error::VersionMismatch {
+            role,
+            fetched,
+            expected,
+        } => format!(in alloc; "VersionMismatch {} {fetched} {expected}", role.name()),
+        Error::TimestampMetaLength {
+            version,
+            meta_length,
+        } => format!(in alloc; "TimestampMetaLength {version} {meta_length}"),
+        Error::MissingSnapshotMeta { version } => {
+            format!(in alloc; "MissingSnapshotMeta {version}")
+        }
+        Error::SnapshotTargetsMetaMissing { version } => {
+            format!(in alloc; "SnapshotTargetsMetaMissing {version}")
+        }
+        Error::OlderMetadata {
+            role,
+            current_version,
+            new_version,
+        } => format!(in alloc;
+            "OlderMetadata {} {current_version} {new_version}",
+            role.name()
+        ),
+        other => missing(alloc, other),
+    }
+}
+
+// That a listing lacks what an older one had.
+fn missing(alloc: Global, error: &Error) -> Result<String, AllocError> {
+    match error {
+        Error::SnapshotRoleMissing {
+            role,
+            old_version,
+            new_version,
+        } => format!(in alloc; "SnapshotRoleMissing {role} {old_version} {new_version}"),
+        Error::SnapshotRoleRollback {
+            role,
+            old_role_version,
+            old_snapshot_version,
+            new_role_version,
+            new_snapshot_version,
+        } => format!(in alloc;
+            "SnapshotRoleRollback {role} {old_role_version} in {old_snapshot_version} {new_role_version} in {new_snapshot_version}"
+        ),
+        other => format!(in alloc; "{other}"),
+    }
+}
+
+// Why a document wasn't verified.
+fn unverified(error: &schema::Error) -> &'static str {
+    match error {
+        schema::Error::SignatureThreshold { .. } => "SignatureThreshold",
+        schema::Error::DuplicateKeyId { .. } => "DuplicateKeyId",
+        schema::Error::MissingRole { .. } => "MissingRole",
+        _ => "another cause",
+    }
+}
+
+// Why a file wasn't fetched.
+fn unfetched(error: &TransportError) -> &'static str {
+    match error.cause() {
+        Some(Cause::HashMismatch { .. }) => "HashMismatch",
+        Some(Cause::MaxSizeExceeded { .. }) => "MaxSizeExceeded",
+        _ => "another cause",
+    }
+}
