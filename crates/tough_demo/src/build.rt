@@ -32,8 +32,8 @@ fn signed_text<T: Role + Drop>(
     pretty(alloc, &document)
 }
 
-// Where a metadata file lies: with consistent snapshots its version stands before its name (TUF specification 1.0,
-// section 6.2).
+// Where a metadata file lies: with consistent snapshots its version stands before its name
+// (TUF specification 1.0, section 6.2).
 fn metadata_path(
     alloc: Global,
     version: NonZeroU64,

@@ -1,7 +1,15 @@
 //! The four roles (TUF specification 1.0, sections 4.3 to 4.6).
-ghost use Rattle.std.specs.Prelude.{◌≡◌, IfOk};
+ghost use Rattle.std.specs.Prelude.{◌≡◌, [], ◌∷◌, None, Ok, Some, IfOk, IsTrue, codes};
 ghost use Rattle.std.specs.Int.NonZero.{non_zero_u64_get};
-ghost use Rattle.tough_schema.specs.Targets.{targets_doc};
+ghost use Rattle.serde_json.specs.Data.{no_members};
+ghost use Rattle.jiff.specs.Words.{parse_timestamp};
+ghost use Rattle.tough_keys.specs.Key.{key_doc};
+ghost use Rattle.tough_roles.specs.Root.{root_doc, roles_doc};
+ghost use Rattle.tough_roles.specs.Timestamp.{metafile_doc, timestamp_doc};
+ghost use Rattle.tough_roles.specs.Snapshot.{snapshot_doc};
+ghost use Rattle.tough_schema.specs.Delegations.{no_delegations};
+ghost use Rattle.tough_schema.specs.Targets.{listing_doc, targets_doc};
+ghost use Rattle.tough_demo.specs.Demo.{AreSignedAlone, IsHead, IsKnownAlone};
 
 use crate::error::DemoError;
 use crate::keys::{identifier, signed_alone};
@@ -11,7 +19,7 @@ use std::alloc::Global;
 use std::collections::BTreeMap;
 use std::num::NonZeroU64;
 use tough_base::TargetName;
-use tough_schema::{Key, Metafile, RoleType, Root, Snapshot, Target, Targets, Timestamp};
+use tough_schema::{Key, Metafile, RoleKeys, RoleType, Root, Snapshot, Target, Targets, Timestamp};
 
 /// When all documents of demonstrations expire.
 pub const EXPIRES: &str = "2999-12-31T23:59:59Z";
@@ -19,13 +27,33 @@ pub const EXPIRES: &str = "2999-12-31T23:59:59Z";
 const SPEC_VERSION: &str = "1.0.0";
 
 /// The instant at which all documents of demonstrations expire.
-pub fn expires() -> Result<Instant, DemoError> {
-    EXPIRES.parse().map_err(|_| DemoError::Instant)
+pub fn expires() -> Result<Instant, DemoError>
+    ensures { IfOk result (λ t. parse_timestamp EXPIRES.now ≡ Ok t.nanosecond) }
+{
+    match EXPIRES.parse::<Instant>() {
+        Ok(instant) => Ok(instant),
+        Err(_) => Err(DemoError::Instant),
+    }
+}
+
+// The roles of a root, each of which this key signs alone.
+fn roles_signed_alone(alloc: Global, key: &Key) -> Result<BTreeMap<RoleType, RoleKeys>, DemoError>
+    ensures { IfOk result (λ m. AreSignedAlone (key_doc key.now) (roles_doc m.entries)) }
+{
+    let mut roles = BTreeMap::new(alloc);
+    roles.insert(RoleType::Root, signed_alone(alloc, key)?)?;
+    roles.insert(RoleType::Snapshot, signed_alone(alloc, key)?)?;
+    roles.insert(RoleType::Targets, signed_alone(alloc, key)?)?;
+    roles.insert(RoleType::Timestamp, signed_alone(alloc, key)?)?;
+    Ok(roles)
 }
 
 /// A root of this version, of a repository with consistent snapshots, whose one key signs every role.
 pub fn root(alloc: Global, version: NonZeroU64, key: Key) -> Result<Root, DemoError>
-    ensures { IfOk result (λ r. non_zero_u64_get r.version ≡ non_zero_u64_get version) }
+    ensures head { IfOk result (λ r. IsHead EXPIRES.now (non_zero_u64_get version) (root_doc r).head) }
+    ensures keys { IfOk result (λ r. IsKnownAlone (key_doc key) (root_doc r).keys) }
+    ensures roles { IfOk result (λ r. AreSignedAlone (key_doc key) (root_doc r).roles) }
+    ensures consistent { IfOk result (λ r. IsTrue r.consistent_snapshot) }
 {
     root_with(alloc, version, key, true)
 }
@@ -37,18 +65,13 @@ pub fn root_with(
     key: Key,
     consistent: bool,
 ) -> Result<Root, DemoError>
-    ensures version { IfOk result (λ r. non_zero_u64_get r.version ≡ non_zero_u64_get version) }
+    ensures head { IfOk result (λ r. IsHead EXPIRES.now (non_zero_u64_get version) (root_doc r).head) }
+    ensures keys { IfOk result (λ r. IsKnownAlone (key_doc key) (root_doc r).keys) }
+    ensures roles { IfOk result (λ r. AreSignedAlone (key_doc key) (root_doc r).roles) }
     ensures consistent { IfOk result (λ r. r.consistent_snapshot ≡ consistent) }
+    ensures extra { IfOk result (λ r. (root_doc r).extra ≡ no_members) }
 {
-    let mut roles = BTreeMap::new(alloc);
-    for role in [
-        RoleType::Root,
-        RoleType::Snapshot,
-        RoleType::Targets,
-        RoleType::Timestamp,
-    ] {
-        roles.insert(role, signed_alone(alloc, &key)?)?;
-    }
+    let roles = roles_signed_alone(alloc, &key)?;
     let mut keys = BTreeMap::new(alloc);
     keys.insert(identifier(alloc, &key)?, key)?;
     Ok(Root {
@@ -68,7 +91,8 @@ pub fn timestamp(
     version: NonZeroU64,
     snapshot: NonZeroU64,
 ) -> Result<Timestamp, DemoError>
-    ensures { IfOk result (λ t. non_zero_u64_get t.version ≡ non_zero_u64_get version) }
+    ensures head { IfOk result (λ t. IsHead EXPIRES.now (non_zero_u64_get version) (timestamp_doc t).head) }
+    ensures meta { IfOk result (λ t. (timestamp_doc t).meta ≡ (codes "snapshot.json", record { version = non_zero_u64_get snapshot; length = None; hashes = None; extra = no_members }) ∷ []) }
 {
     let metafile = Metafile {
         length: None,
@@ -85,7 +109,9 @@ pub fn timestamp_of(
     version: NonZeroU64,
     snapshot: Metafile,
 ) -> Result<Timestamp, DemoError>
-    ensures { IfOk result (λ t. non_zero_u64_get t.version ≡ non_zero_u64_get version) }
+    ensures head { IfOk result (λ t. IsHead EXPIRES.now (non_zero_u64_get version) (timestamp_doc t).head) }
+    ensures meta { IfOk result (λ t. (timestamp_doc t).meta ≡ (codes "snapshot.json", metafile_doc snapshot) ∷ []) }
+    ensures extra { IfOk result (λ t. (timestamp_doc t).extra ≡ no_members) }
 {
     let mut meta = BTreeMap::new(alloc);
     meta.insert(String::from_str(alloc, "snapshot.json")?, snapshot)?;
@@ -104,7 +130,9 @@ pub fn snapshot(
     version: NonZeroU64,
     targets: Metafile,
 ) -> Result<Snapshot, DemoError>
-    ensures { IfOk result (λ s. non_zero_u64_get s.version ≡ non_zero_u64_get version) }
+    ensures head { IfOk result (λ s. IsHead EXPIRES.now (non_zero_u64_get version) (snapshot_doc s).head) }
+    ensures meta { IfOk result (λ s. (snapshot_doc s).meta ≡ (codes "targets.json", metafile_doc targets) ∷ []) }
+    ensures extra { IfOk result (λ s. (snapshot_doc s).extra ≡ no_members) }
 {
     let mut meta = BTreeMap::new(alloc);
     meta.insert(String::from_str(alloc, "targets.json")?, targets)?;
@@ -123,7 +151,10 @@ pub fn targets(
     version: NonZeroU64,
     listing: BTreeMap<TargetName, Target>,
 ) -> Result<Targets, DemoError>
-    ensures { IfOk result (λ t. (targets_doc t).head.version ≡ non_zero_u64_get version) }
+    ensures head { IfOk result (λ t. IsHead EXPIRES.now (non_zero_u64_get version) (targets_doc t).head) }
+    ensures listing { IfOk result (λ t. (targets_doc t).targets ≡ listing_doc listing.entries) }
+    ensures delegations { IfOk result (λ t. (targets_doc t).delegations ≡ Some no_delegations) }
+    ensures extra { IfOk result (λ t. (targets_doc t).extra ≡ no_members) }
 {
     let spec_version = String::from_str(alloc, SPEC_VERSION)?;
     let mut made = Targets::new(alloc, spec_version, version, expires()?);

@@ -1,5 +1,11 @@
 //! Signed documents, and their texts.
-ghost use Rattle.std.specs.Prelude.{◌≡◌, IfOk};
+ghost use Rattle.std.specs.Prelude.{◌≡◌, Some, IfOk};
+ghost use Rattle.serde_json.specs.Data as Data;
+ghost use Rattle.tough_keys.specs.Key.{key_doc};
+ghost use Rattle.tough_roles.specs.Chain.{text_by};
+ghost use Rattle.tough_roles.specs.Document.{document_json};
+ghost use Rattle.tough_roles.specs.Signature.{signatures_doc};
+ghost use Rattle.tough_demo.specs.Demo.{IsPretty, IsSignedAlone};
 
 use crate::error::DemoError;
 use crate::keys::identifier;
@@ -13,7 +19,8 @@ pub fn sign<T: Role + Drop>(
     role: T,
     signer: &DemoSign,
 ) -> Result<Signed<T>, DemoError>
-    ensures { IfOk result (λ s. s.signed ≡ role) }
+    ensures role { IfOk result (λ s. s.signed ≡ role) }
+    ensures signature { IfOk result (λ s. IsSignedAlone (key_doc signer.now.key) (text_by T.json role) (signatures_doc s.signatures.items)) }
 {
     let text = canonical_form(alloc, &role)?;
     let sig = Decoded::from_vec(alloc, signer.sign(alloc, text.as_slice())?)?;
@@ -27,7 +34,9 @@ pub fn sign<T: Role + Drop>(
 }
 
 /// The document as an editor writes it to a file: JSON with two blanks a level, and a line feed at its end.
-pub fn pretty<T: Role>(alloc: Global, document: &Signed<T>) -> Result<Vec<u8>, DemoError> {
+pub fn pretty<T: Role>(alloc: Global, document: &Signed<T>) -> Result<Vec<u8>, DemoError>
+    ensures { IfOk result (λ b. (d : Data.Data) × (document_json T.json document.now ≡ Some d) × IsPretty d b.items) }
+{
     let value = document.to_value(alloc)?;
     let mut text = value.to_vec_pretty(alloc)?;
     text.push(b'\n')?;

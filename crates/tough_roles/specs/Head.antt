@@ -1,5 +1,5 @@
--- What each role has: the version of the specification, its own version, and when it expires (TUF specification 1.0,
--- section 4.2.1).
+-- What each role has: the version of the specification, its own version, and when it expires
+-- (TUF specification 1.0, section 4.2.1).
 use Rattle.std.specs.Prelude.{ℕ, ℤ, List, Option, Some, codes}
 use Rattle.serde_json.specs.Data.{string, Members}
 use Rattle.tough_json.specs.Reading.{◌>>=◌, required, without, text, positive, instant}
