@@ -6,7 +6,7 @@ pub use tough_base::{
 };
 pub use tough_schema::{
     DelegatedRole, DelegatedTargets, Delegations, DemoSign, DemoVerify, EcdsaKey, EcdsaScheme,
-    Ed25519Key, Ed25519Scheme, Error, Hashes, Key, KeyParseError, Metafile, PathSet, ReadError,
-    Role, RoleKeys, RoleType, Root, RsaKey, RsaScheme, Sign, SignError, Signature, Signed,
-    Snapshot, Target, Targets, Timestamp, Verify, WriteError, canonical_form,
+    Ed25519Key, Ed25519Scheme, Error, FileError, Hashes, Key, KeyParseError, Metafile, PathSet,
+    ReadError, Role, RoleKeys, RoleType, Root, RsaKey, RsaScheme, Sign, SignError, Signature,
+    Signed, Snapshot, Target, Targets, Timestamp, Verify, WriteError, canonical_form,
 };
