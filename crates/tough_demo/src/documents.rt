@@ -1,5 +1,5 @@
 //! The four roles (TUF specification 1.0, sections 4.3 to 4.6).
-ghost use Rattle.std.specs.Prelude.{◌≡◌, [], ◌∷◌, None, Ok, Some, IfOk, IsTrue, codes};
+ghost use Rattle.std.specs.Prelude.{◌≡◌, [], ◌∷◌, ℤ, None, Ok, Some, IfOk, IsTrue, OnErr, codes};
 ghost use Rattle.std.specs.Int.NonZero.{non_zero_u64_get};
 ghost use Rattle.serde_json.specs.Data.{no_members};
 ghost use Rattle.jiff.specs.Words.{parse_timestamp};
@@ -28,7 +28,8 @@ const SPEC_VERSION: &str = "1.0.0";
 
 /// The instant at which all documents of demonstrations expire.
 pub fn expires() -> Result<Instant, DemoError>
-    ensures { IfOk result (λ t. parse_timestamp EXPIRES.now ≡ Ok t.nanosecond) }
+    ensures ok { IfOk result (λ t. parse_timestamp EXPIRES.now ≡ Ok t.nanosecond) }
+    ensures err { OnErr result ((z : ℤ) → parse_timestamp EXPIRES.now ≡ Ok z → ⊥) }
 {
     match EXPIRES.parse::<Instant>() {
         Ok(instant) => Ok(instant),
