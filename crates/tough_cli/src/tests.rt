@@ -1,3 +1,6 @@
+mod runs;
+mod scene;
+
 use bytes::Bytes;
 use jiff::Timestamp as Instant;
 use std::test::Fail;
