@@ -49,7 +49,11 @@ pub fn run(rt: &HostRuntime, count: u32, folder: Option<&str>) -> Result<(), Err
 // Prints what was done, how long it took, and what the process has held at most.
 fn print(rt: &HostRuntime, done: &str, began: Instant) -> Result<(), Error> {
     let time = began.elapsed(rt)?;
-    println!(rt; "  {done}: {} ms; peak memory {} kB", time.as_millis(), peak_kilobytes(rt)?)?;
+    println!(rt;
+        "  {done}: {} ms; peak memory {} kB",
+        time.as_millis(),
+        peak_kilobytes(rt)?
+    )?;
     Ok(())
 }
 
@@ -78,16 +82,15 @@ fn parts(rt: &HostRuntime, root: &[u8], document: &[u8]) -> Result<(), Error> {
 }
 
 // Loads the repository over memory.
-fn over_memory(
-    rt: &HostRuntime,
-    root: &[u8],
-    metadata: &[RepositoryFile],
-) -> Result<(), Error> {
+fn over_memory(rt: &HostRuntime, root: &[u8], metadata: &[RepositoryFile]) -> Result<(), Error> {
     let alloc = rt.alloc();
     let mut transport = MemoryTransport::in_pieces(alloc, PIECE_LEN);
     for file in metadata {
         let url = format!(in alloc; "{SERVED}{}", file.path)?;
-        transport.insert(url.as_str(), Bytes::copy_from_slice(alloc, file.bytes.as_slice())?)?;
+        transport.insert(
+            url.as_str(),
+            Bytes::copy_from_slice(alloc, file.bytes.as_slice())?,
+        )?;
     }
     let mut vault = Vault::new(alloc, MemoryStore::new(alloc));
     let began = Instant::now(rt)?;

@@ -11,7 +11,8 @@ mod verify;
 use anyhow::Error;
 use std::env;
 
-const USAGE: &str = "usage: bench canonical [MEGABYTES] | verify [THOUSANDS] | load [TARGETS [FOLDER]] | match [CHARACTERS] | search [ROLES]";
+const USAGE: &str =
+    "usage: bench canonical [MEGABYTES] | verify [THOUSANDS] | load [TARGETS [FOLDER]] | match [CHARACTERS] | search [ROLES]";
 
 fn main(rt: HostRuntime) -> Result<(), Error> {
     let mut words = env::args(&rt)?.skip(1);

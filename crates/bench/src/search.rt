@@ -13,13 +13,19 @@ pub fn run(rt: &HostRuntime, roles: u32) -> Result<(), Error> {
     for count in [roles / 10, roles] {
         let began = Instant::now(rt)?;
         let tree = chain(rt.alloc(), count)?;
-        println!(rt; "a chain of {count} roles, made in {} us", began.elapsed(rt)?.as_micros())?;
+        println!(rt;
+            "a chain of {count} roles, made in {} us",
+            began.elapsed(rt)?.as_micros()
+        )?;
         look(rt, &tree)?;
     }
     for count in [roles / 10, roles] {
         let began = Instant::now(rt)?;
         let tree = fan(rt.alloc(), count)?;
-        println!(rt; "a fan of {count} roles, made in {} us", began.elapsed(rt)?.as_micros())?;
+        println!(rt;
+            "a fan of {count} roles, made in {} us",
+            began.elapsed(rt)?.as_micros()
+        )?;
         look(rt, &tree)?;
     }
     Ok(())
@@ -84,10 +90,5 @@ fn role(alloc: Global, number: u32, targets: Targets) -> Result<DelegatedRole, E
 // A document that lists nothing and delegates to no role.
 fn empty(alloc: Global) -> Result<Targets, Error> {
     let spec_version = String::from_str(alloc, "1.0.0")?;
-    Ok(Targets::new(
-        alloc,
-        spec_version,
-        NonZeroU64::MIN,
-        tough_demo::expires()?,
-    ))
+    Ok(Targets::new(alloc, spec_version, NonZeroU64::MIN, tough_demo::expires()?))
 }

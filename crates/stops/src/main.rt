@@ -80,10 +80,7 @@ fn print(
     outcome: &Result<Repository, tough::Error>,
 ) -> Result<(), Error> {
     match outcome {
-        Ok(loaded) => println!(rt;
-            "  {what}: timestamp {}",
-            loaded.timestamp().signed.version
-        )?,
+        Ok(loaded) => println!(rt; "  {what}: timestamp {}", loaded.timestamp().signed.version)?,
         Err(error) => println!(rt; "  {what}: {error}")?,
     }
     Ok(())

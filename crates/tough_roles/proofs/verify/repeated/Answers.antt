@@ -7,9 +7,11 @@ loop-i-init c = none_seen (λ k. k.now) c.new-seen.result.keys c.new-seen.ensure
 
 pub returns-then-not-branch : goal.returns-then-not-branch
 returns-then-not-branch c =
-    let seen = was_there _ _ c.in_ok-insert.ensures.added c.if-not-branch.true in
-    (c.loop-i-test.true, found (λ k. k.now) c.loop-i.seen.keys c.args.signatures.now c.loop-i.i c.index-signatures-i.result c.loop-i-test.true c.index-signatures-i.is c.loop-i.invariant
-    (ap (stands (λ k. k.now) c.loop-i.seen.keys) (sym c.as_slice.ensures) ∙ sym (contained (λ k. k.now) c.loop-i.seen.keys c.as_slice.result) ∙ seen))
+    let seen = was_there _ _ c.in_ok-insert.ensures.added c.if-not-branch.true in (
+      c.loop-i-test.true,
+      found (λ k. k.now) c.loop-i.seen.keys c.args.signatures.now c.loop-i.i c.index-signatures-i.result c.loop-i-test.true c.index-signatures-i.is c.loop-i.invariant
+          (ap (stands (λ k. k.now) c.loop-i.seen.keys) (sym c.as_slice.ensures) ∙ sym (contained (λ k. k.now) c.loop-i.seen.keys c.as_slice.result) ∙ seen),
+    )
 
 pub loop-i-preserved : goal.loop-i-preserved
 loop-i-preserved c =
