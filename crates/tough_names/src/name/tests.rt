@@ -5,6 +5,10 @@ use std::test::Fail;
 
 /// A line for each name, with the text that the original resolves it to behind ` = `.
 const RESOLVED: &str = "a = a
+/this/../is/ok.txt = /is/ok.txt
+../../x = x
+/../../x = /x
+~/\\.\\. = ~/\\.\\.
 //a//b// = /a/b
 a/. = a
 a/b/../../c = c
@@ -129,7 +133,8 @@ b/../\\ = \\
 a/~/\\/~ = a/~/\\/~";
 
 /// Texts that the original refuses.
-const REFUSED: [(&str, NameError); 18] = [
+const REFUSED: [(&str, NameError); 19] = [
+    ("../", NameError::UnsafeTargetNameEmpty),
     ("/..", NameError::UnsafeTargetNameSlash),
     ("./", NameError::UnsafeTargetNameEmpty),
     ("///", NameError::UnsafeTargetNameSlash),
