@@ -34,6 +34,3 @@ pub fn canonical(alloc: Global, value: &Value) -> Result<Vec<u8>, CjsonError>
     write(alloc, &mut out, value)?;
     Ok(out)
 }
-
-#[cfg(test)]
-mod tests;

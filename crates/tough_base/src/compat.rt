@@ -28,6 +28,3 @@ impl<T: Drop + Display> Display for Compat<T> {
 }
 
 impl<T: Drop + Debug + Display> Error for Compat<T> {}
-
-#[cfg(test)]
-mod tests;

@@ -307,6 +307,3 @@ impl<T: Decode> Hash for Decoded<T> {
         self.bytes.hash(state);
     }
 }
-
-#[cfg(test)]
-mod tests;

@@ -21,6 +21,3 @@ impl SafeUrlPath for Url {
         self.path()
     }
 }
-
-#[cfg(test)]
-mod tests;

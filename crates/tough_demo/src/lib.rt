@@ -19,6 +19,3 @@ pub use error::DemoError;
 pub use files::{RepositoryFile, RepositoryFiles};
 pub use keys::{PUBLIC, demo_signer, ed25519};
 pub use text::{pretty, sign};
-
-#[cfg(test)]
-mod tests;

@@ -6,6 +6,3 @@ mod folder;
 
 pub use clock::{Clock, SystemClock};
 pub use folder::DirStore;
-
-#[cfg(test)]
-mod tests;

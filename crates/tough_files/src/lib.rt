@@ -13,6 +13,3 @@ pub use files::{FileKind, Files, FilesError};
 pub use log::{Answer, Call, Request};
 pub use memory::MemoryFiles;
 pub use system::OsFiles;
-
-#[cfg(test)]
-mod tests;

@@ -9,6 +9,3 @@ pub mod write;
 
 pub use error::{ReadError, WriteError};
 pub use moment::{MomentError, moment_text};
-
-#[cfg(test)]
-mod tests;

@@ -20,6 +20,3 @@ pub use kind::Kind;
 pub use parse::KeyParseError;
 pub use sign::{Sign, SignError};
 pub use verify::Verify;
-
-#[cfg(test)]
-mod tests;

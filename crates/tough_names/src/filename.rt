@@ -32,6 +32,3 @@ pub fn encode_filename(alloc: Global, name: &str) -> Result<String, AllocError>
 pub fn encodes_apart()
     ensures { EncodesApart }
 {}
-
-#[cfg(test)]
-mod tests;

@@ -240,6 +240,3 @@ fn resolved_text(alloc: Global, text: &str) -> Result<String, AllocError>
 pub fn resolves_once()
     ensures { ResolvesOnce }
 {}
-
-#[cfg(test)]
-mod tests;

@@ -99,6 +99,3 @@ impl PartialEq for PathPattern {
 impl Eq for PathPattern {
     ghost laws = { Prim.search (comparing, rules) };
 }
-
-#[cfg(test)]
-mod tests;

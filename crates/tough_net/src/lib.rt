@@ -14,8 +14,6 @@ mod requests;
 mod retry_core;
 mod retry_events;
 mod retrying;
-#[cfg(test)]
-mod tests;
 mod transport;
 
 pub use collect::{Collect, fetch_whole};

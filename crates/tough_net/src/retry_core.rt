@@ -181,6 +181,3 @@ fn multiplied(pause: Duration, factor: u32) -> u128
 {
     pause.as_nanos() * factor as u128
 }
-
-#[cfg(test)]
-mod tests;

@@ -35,6 +35,3 @@ pub use tough_keys::{
     RsaKey, RsaScheme, Sign, SignError, Verify,
 };
 pub use verify::canonical_form;
-
-#[cfg(test)]
-mod tests;

@@ -33,6 +33,3 @@ pub use tough_roles::{
     KeyParseError, Metafile, ReadError, Role, RoleKeys, RoleType, Root, RsaKey, RsaScheme, Sign,
     SignError, Signature, Signed, Snapshot, Timestamp, Verify, WriteError, canonical_form,
 };
-
-#[cfg(test)]
-mod tests;

@@ -162,8 +162,3 @@ impl Core {
         }
     }
 }
-
-#[cfg(test)]
-mod documents;
-#[cfg(test)]
-mod tests;

@@ -1,0 +1,7 @@
+//! Tests of `tough_net`.
+#![tactic(auto)]
+
+#[cfg(test)]
+mod retries;
+#[cfg(test)]
+mod streams;
