@@ -3,12 +3,12 @@
 use crate::memory::peak_kilobytes;
 use anyhow::Error;
 use bytes::Bytes;
-use jiff::Timestamp as Moment;
+use jiff::Timestamp;
 use std::alloc::Global;
 use std::time::Instant;
 use tough::schema::{DemoVerify, Root, Signed, Targets};
 use tough::{
-    Clock, DirStore, DocumentName, Files, FilesystemTransport, Keeper, MemoryStore,
+    DirStore, DocumentName, Files, FilesystemTransport, FixedClock, Keeper, MemoryStore,
     MemoryTransport, OsFiles, RepositoryLoader, Transport, Vault, drive,
 };
 use tough_demo::{RepositoryFile, RepositoryFiles};
@@ -19,16 +19,6 @@ const SERVED: &str = "http://localhost/";
 
 // The bytes of a piece in memory, as many as the transport over files hands out.
 const PIECE_LEN: usize = 8192;
-
-// A clock that stands still.
-#[derive(Clone, Copy, Drop)]
-struct Standing(Moment);
-
-impl Clock for Standing {
-    fn now(&mut self) -> Moment {
-        self.0
-    }
-}
 
 /// Prints how long it takes to read a targets document with so many targets, to verify it, to store it, and to load its
 /// repository, over memory and, where a folder is given, over files in that folder.
@@ -144,7 +134,7 @@ fn load<T: Transport, K: Keeper>(
     )
     .transport(transport)
     .verifier(DemoVerify)
-    .clock(Standing(Moment::UNIX_EPOCH))
+    .clock(FixedClock(Timestamp::UNIX_EPOCH))
     .keeper(keeper);
     let mut load = loader.load()?;
     drive(rt, &mut load)??;

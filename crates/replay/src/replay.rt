@@ -4,25 +4,14 @@ use crate::member::{flag, number, text};
 use crate::outcome::tell;
 use crate::shelf::Shelf;
 use bytes::Bytes;
-use jiff::Timestamp as Instant;
 use serde_json::Value;
 use std::alloc::Global;
 use tough::schema::DemoVerify;
 use tough::{
-    Clock, Error, ExpirationEnforcement, Limits, MemoryTransport, Repository, RepositoryLoader,
-    Vault, drive,
+    Error, ExpirationEnforcement, FixedClock, Limits, MemoryTransport, Repository,
+    RepositoryLoader, Vault, drive,
 };
 use url::Url;
-
-// A clock that stands still.
-#[derive(Clone, Copy, Drop)]
-struct Standing(Instant);
-
-impl Clock for Standing {
-    fn now(&mut self) -> Instant {
-        self.0
-    }
-}
 
 // The files of a member, served below the base URL.
 fn serve(alloc: Global, load: &Value) -> anyhow::Result<MemoryTransport> {
@@ -73,7 +62,7 @@ fn run(
     )
     .transport(serve(alloc, load)?)
     .verifier(DemoVerify)
-    .clock(Standing(text(load, "now").parse()?))
+    .clock(FixedClock(text(load, "now").parse()?))
     .keeper(vault)
     .limits(limits(load))
     .expiration_enforcement(enforcement(load));

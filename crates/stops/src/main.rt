@@ -7,26 +7,16 @@ mod shelf;
 use crate::shelf::Shelf;
 use anyhow::Error;
 use bytes::Bytes;
-use jiff::Timestamp as Instant;
+use jiff::Timestamp;
 use std::alloc::Global;
 use std::num::NonZeroU64;
 use tough::schema::DemoVerify;
-use tough::{Clock, MemoryTransport, Repository, RepositoryLoader, Vault, drive};
+use tough::{FixedClock, MemoryTransport, Repository, RepositoryLoader, Vault, drive};
 use tough_demo::RepositoryFiles;
 use url::Url;
 
 // More calls than a load makes on its store.
 const CALLS: u64 = 12;
-
-// A clock that stands still.
-#[derive(Clone, Copy, Drop)]
-struct Standing(Instant);
-
-impl Clock for Standing {
-    fn now(&mut self) -> Instant {
-        self.0
-    }
-}
 
 // What is served: the repository, and a timestamp in the place of its own.
 #[derive(Clone, Copy, Drop)]
@@ -67,7 +57,7 @@ fn load(
     )
     .transport(serve(alloc, served)?)
     .verifier(DemoVerify)
-    .clock(Standing(Instant::UNIX_EPOCH))
+    .clock(FixedClock(Timestamp::UNIX_EPOCH))
     .keeper(vault);
     let mut load = loader.load()?;
     Ok(drive(rt, &mut load)?)

@@ -14,10 +14,10 @@ pub use tough_base::{
     encode_filename,
 };
 pub use tough_client::{
-    Answer, Ask, Clock, Core, DirStore, DocumentName, Entry, ExpirationEnforcement, Fault, Keeper,
-    Limits, ListedVersion, Load, MemoryStore, Receipt, Refusal, Repository, RepositoryLoader,
-    Request, SnapshotVersions, StepError, Store, StoreError, SystemClock, TimestampVersions, Tip,
-    Vault, drive,
+    Answer, Ask, Clock, Core, DirStore, DocumentName, Entry, ExpirationEnforcement, Fault,
+    FixedClock, Keeper, Limits, ListedVersion, Load, MemoryStore, Receipt, Refusal, Repository,
+    RepositoryLoader, Request, SnapshotVersions, StepError, Store, StoreError, SystemClock,
+    TimestampVersions, Tip, Vault, drive,
 };
 pub use tough_net::{
     Cause, Collect, DigestCheck, FilesystemTransport, HttpError, IntoVec, MaxSize, MemoryTransport,

@@ -9,7 +9,7 @@ ghost use Rattle.tough.specs.Program.{IsVouchedFor, version_line, versions_text}
 
 use crate::Error;
 use std::alloc::{AllocError, AllocGlobal, Global};
-use std::io::{self, Read, Write};
+use std::io::{self, Write};
 use std::num::NonZeroU64;
 use std::random::RandomSource;
 use std::{fs, rt};
@@ -50,14 +50,6 @@ fn url(alloc: Global, word: &str) -> Result<Url, Fault> {
     }
 }
 
-// The bytes of a file.
-fn read_file(files: &impl rt::Files, alloc: Global, path: &str) -> io::Result<Vec<u8>> {
-    let mut file = fs::open(files, path)?;
-    let mut bytes = Vec::new(alloc);
-    file.read_to_end(&mut bytes)?;
-    Ok(bytes)
-}
-
 // Loads a repository from files into a folder.
 fn load<R>(
     rt: &R,
@@ -73,7 +65,7 @@ where
     let alloc = rt.alloc();
     let metadata = url(alloc, metadata)?;
     let targets = url(alloc, targets)?;
-    let bytes = match read_file(rt, alloc, root) {
+    let bytes = match fs::read(rt, root) {
         Ok(bytes) => bytes,
         Err(error) => return Err(Fault::FileRead(error)),
     };

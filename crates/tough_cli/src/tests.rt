@@ -2,25 +2,15 @@ mod runs;
 mod scene;
 
 use bytes::Bytes;
-use jiff::Timestamp as Instant;
+use jiff::Timestamp;
 use std::test::Fail;
 use tough::schema::DemoVerify;
 use tough::{
-    Clock, Files, Load, MemoryStore, MemoryTransport, OsFiles, Repository, RepositoryLoader, Vault,
-    drive,
+    Files, FixedClock, Load, MemoryStore, MemoryTransport, OsFiles, Repository, RepositoryLoader,
+    Vault, drive,
 };
 use tough_demo::RepositoryFiles;
 use url::Url;
-
-// A clock that stands still.
-#[derive(Clone, Copy, Drop)]
-struct Standing(Instant);
-
-impl Clock for Standing {
-    fn now(&mut self) -> Instant {
-        self.0
-    }
-}
 
 // The repository's files, served below this URL.
 fn serve(rt: &HostRuntime, base: &str, made: &RepositoryFiles) -> Result<MemoryTransport, Fail> {
@@ -49,7 +39,7 @@ fn loads_a_repository_from_memory(rt: HostRuntime) -> Result<(), Fail> {
             )
             .transport(transport)
             .verifier(DemoVerify)
-            .clock(Standing(Instant::UNIX_EPOCH))
+            .clock(FixedClock(Timestamp::UNIX_EPOCH))
             .keeper(&mut vault);
             let mut load = loader.load()?;
             let loaded = drive(&rt, &mut load)??;

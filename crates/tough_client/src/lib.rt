@@ -12,7 +12,7 @@ pub use driving::drive;
 pub use keeper::Keeper;
 pub use load::Load;
 pub use loader::{RepositoryLoader, Unset};
-pub use tough_disk::{Clock, DirStore, SystemClock};
+pub use tough_disk::{Clock, DirStore, FixedClock, SystemClock};
 pub use tough_update::{
     Answer, Ask, Core, Error, Fault, Known, Limits, Loaded as Repository, Request,
 };

@@ -40,3 +40,18 @@ impl<R: rt::Clock + Drop> Clock for SystemClock<R> {
         }
     }
 }
+
+/// A clock that stands still: it shows the same moment whenever it is asked.
+#[derive(Clone, Copy, Drop)]
+pub struct FixedClock(pub Timestamp);
+
+impl Clock for FixedClock {
+    ghost may_give = { λ clock moment. moment ≡ clock.0.nanosecond };
+
+    fn now(&mut self) -> Timestamp
+        ensures shown { result ≡ self.old.0 }
+        ensures same { self.new ≡ self.old }
+    {
+        self.0
+    }
+}

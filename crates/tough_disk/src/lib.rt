@@ -4,5 +4,5 @@
 mod clock;
 mod folder;
 
-pub use clock::{Clock, SystemClock};
+pub use clock::{Clock, FixedClock, SystemClock};
 pub use folder::DirStore;
