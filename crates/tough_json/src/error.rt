@@ -3,10 +3,16 @@ ghost use Rattle.tough_json.specs.Results.{IsRefusal};
 use std::alloc::{AllocError, AllocFailed, Global};
 
 /// Why a document was not read.
-#[derive(Debug, Drop)]
+#[derive(Debug, Drop, thiserror::Error)]
 pub enum ReadError {
+    /// The bytes are no JSON text.
+    #[error("the bytes are no JSON")]
     Json,
+    /// The JSON is no document of the kind: what is said of the member that was wrong.
+    #[error("not of the document's form: {0}")]
     Shape(String),
+    /// A request for memory was refused.
+    #[error("out of memory")]
     Memory,
 }
 
@@ -33,9 +39,13 @@ impl<T: Drop> From<AllocFailed<T>> for ReadError {
 }
 
 /// Why a document has no JSON: an extra hides a member, or a version is 0.
-#[derive(Debug, Drop)]
+#[derive(Debug, Drop, thiserror::Error)]
 pub enum WriteError {
+    /// There is no JSON that is read as the document.
+    #[error("the document has no JSON")]
     Unwritable,
+    /// A request for memory was refused.
+    #[error("out of memory")]
     Memory,
 }
 

@@ -14,7 +14,7 @@ use url::ParseError;
 #[derive(Debug, Drop, thiserror::Error)]
 pub enum Error {
     /// The bytes that were handed in are no signed root.
-    #[error("Failed to parse trusted root metadata")]
+    #[error("Failed to parse trusted root metadata: {source}")]
     ParseTrustedMetadata {
         /// What was wrong.
         source: ReadError,
@@ -26,7 +26,7 @@ pub enum Error {
         source: schema::Error,
     },
     /// The bytes are no signed document of the role.
-    #[error("Failed to parse {} metadata", .role.name())]
+    #[error("Failed to parse {} metadata: {source}", .role.name())]
     ParseMetadata {
         /// The role.
         role: RoleType,

@@ -1,6 +1,6 @@
 //! The checks of the steps, in their order.
 
-ghost use Rattle.std.specs.Prelude.{◌≡◌, option_map, option_copied};
+ghost use Rattle.std.specs.Prelude.{◌≡◌, true, option_map, option_copied};
 ghost use Rattle.tough_roles.specs.Signature.{signed_doc};
 ghost use Rattle.tough_roles.specs.Root.{root_doc};
 ghost use Rattle.tough_roles.specs.Timestamp.{timestamp_doc, metafile_doc};
@@ -21,6 +21,34 @@ pub enum ExpirationEnforcement {
     Safe,
     /// It is accepted.
     Unsafe,
+}
+
+impl Default for ExpirationEnforcement {
+    ghost is_default = { λ e. enforces e ≡ true };
+
+    fn default() -> ExpirationEnforcement {
+        ExpirationEnforcement::Safe
+    }
+}
+
+impl From<bool> for ExpirationEnforcement {
+    ghost from_gives = { λ refused e. enforces e ≡ refused };
+
+    fn from(refused: bool) -> ExpirationEnforcement {
+        if refused {
+            ExpirationEnforcement::Safe
+        } else {
+            ExpirationEnforcement::Unsafe
+        }
+    }
+}
+
+impl From<ExpirationEnforcement> for bool {
+    ghost from_gives = { λ e refused. refused ≡ enforces e };
+
+    fn from(enforcement: ExpirationEnforcement) -> bool {
+        enforcement == ExpirationEnforcement::Safe
+    }
 }
 
 /// A check of a step that refused (TUF specification 5.3 to 5.6).
