@@ -239,45 +239,47 @@ where
     }
 }
 
+// A folder of a test's own.
+fn folder(rt: &HostRuntime, name: &str) -> Result<String, Fail> {
+    let parent = env::temp_dir(rt)?;
+    let number = process::id(rt.process());
+    let folder = format!(in rt.alloc(); "{}/tough_net-{number}-{name}", parent.display())?;
+    fs::create_dir(rt, folder.as_str())?;
+    Ok(folder)
+}
+
+/// A space is escaped in a URL, and no escape is decoded.
+#[test]
+fn refuses_what_is_no_file(rt: HostRuntime) -> Result<(), Fail> {
+    let folder = folder(&rt, "refused")?;
+    fs::write(&rt, format!(in rt.alloc(); "{folder}/a b")?.as_str(), b"x")?;
+    let transport = FilesystemTransport::new(rt.clone()?);
+    for (before, after, wanted) in [
+        ("file://", "/missing", TransportErrorKind::FileNotFound),
+        ("file://", "/a b", TransportErrorKind::FileNotFound),
+        ("file://", "", TransportErrorKind::Other),
+        ("http://h", "", TransportErrorKind::UnsupportedUrlScheme),
+    ] {
+        let text = format!(in rt.alloc(); "{before}{folder}{after}")?;
+        let url = Url::parse(rt.alloc(), text.as_str())?;
+        assert_eq!(rt; first_error(&rt, &transport, &url)?, wanted, "at {text}");
+    }
+    fs::remove_dir_all(&rt, folder.as_str())?;
+    Ok(())
+}
+
 #[test]
 fn reads_files(rt: HostRuntime) -> Result<(), Fail> {
-    let alloc = rt.alloc();
-    let parent = env::temp_dir(&rt)?;
-    let number = process::id(rt.process());
-    let folder = format!(in alloc; "{}/tough_net-{number}", parent.display())?;
-    fs::create_dir(&rt, folder.as_str())?;
-    let long = Vec::from_elem(alloc, 7u8, 20_000)?;
-    let path = format!(in alloc; "{folder}/long file")?;
+    let folder = folder(&rt, "read")?;
+    let long = Vec::from_elem(rt.alloc(), 7u8, 20_000)?;
+    let path = format!(in rt.alloc(); "{folder}/long")?;
     fs::write(&rt, path.as_str(), long.as_slice())?;
     let transport = FilesystemTransport::new(rt.clone()?);
     let url = Url::parse(
-        alloc,
-        format!(in alloc; "file://{folder}/missing")?.as_str(),
+        rt.alloc(),
+        format!(in rt.alloc(); "file://{path}")?.as_str(),
     )?;
-    assert_eq!(rt;
-        first_error(&rt, &transport, &url)?,
-        TransportErrorKind::FileNotFound
-    );
-    let url = Url::parse(alloc, format!(in alloc; "file://{folder}")?.as_str())?;
-    assert_eq!(rt;
-        first_error(&rt, &transport, &url)?,
-        TransportErrorKind::Other
-    );
-    let url = Url::parse(alloc, format!(in alloc; "http://h{folder}")?.as_str())?;
-    assert_eq!(rt;
-        first_error(&rt, &transport, &url)?,
-        TransportErrorKind::UnsupportedUrlScheme
-    );
-    // A space is escaped in a URL, and no escape is decoded.
-    let url = Url::parse(alloc, format!(in alloc; "file://{path}")?.as_str())?;
-    assert_eq!(rt;
-        first_error(&rt, &transport, &url)?,
-        TransportErrorKind::FileNotFound
-    );
-    let path = format!(in alloc; "{folder}/long")?;
-    fs::write(&rt, path.as_str(), long.as_slice())?;
-    let url = Url::parse(alloc, format!(in alloc; "file://{path}")?.as_str())?;
-    let bytes = block_on(&rt, transport.fetch(&url)?.into_vec(alloc))??;
+    let bytes = block_on(&rt, transport.fetch(&url)?.into_vec(rt.alloc()))??;
     assert!(rt; bytes == long);
     fs::remove_dir_all(&rt, folder.as_str())?;
     Ok(())
