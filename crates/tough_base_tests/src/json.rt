@@ -1,6 +1,7 @@
+use serde_json::Value;
 use std::test::Fail;
 use tough_json::text::{bytes_of, value_of};
-use tough_json::{MomentError, ReadError, moment_text};
+use tough_json::{Form, MomentError, ObjectText, ReadError, moment_text};
 
 // Instants, and how the original writes each; nothing where it refuses the text, `-` where four digits don't show the
 // year.
@@ -58,5 +59,19 @@ fn reads_json_from_bytes(rt: HostRuntime) -> Result<(), Fail> {
     ] {
         assert!(rt; matches!(value_of(rt.alloc(), text), Err(ReadError::Json)));
     }
+    Ok(())
+}
+
+/// An object is written member by member, in the order of the names alone.
+#[test]
+fn writes_in_pieces(rt: HostRuntime) -> Result<(), Fail> {
+    let mut object = ObjectText::new(rt.alloc(), Form::Compact)?;
+    assert!(rt; object.push(rt.alloc(), "a", &Value::Bool(true)).is_ok());
+    assert!(rt; object.push_text("b c", b"[1]").is_ok());
+    let text = object.finish()?;
+    assert_eq!(rt; text.as_slice(), b"{\"a\":true,\"b c\":[1]}".as_slice());
+    let mut turned = ObjectText::new(rt.alloc(), Form::Canonical)?;
+    assert!(rt; turned.push(rt.alloc(), "b", &Value::Null).is_ok());
+    assert!(rt; turned.push(rt.alloc(), "a", &Value::Null).is_err());
     Ok(())
 }

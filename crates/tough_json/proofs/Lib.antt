@@ -8,3 +8,4 @@ pub mod Fractions
 pub mod MomentText
 pub mod MomentExists
 pub mod JsonLemmas
+pub mod PieceLemmas

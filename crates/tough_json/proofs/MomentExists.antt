@@ -1,7 +1,6 @@
 -- Each instant whose year is shown has a date and a time of day: the text that is computed is that of an instant.
-use Rattle.std.proofs.Common.{◌≡◌, ℕ, zero, suc, ◌+◌, ◌-◌, ◌*◌, ◌/◌, ◌%◌, ◌<◌, ◌≤◌, ◌||◌, ℤ, pos, negsuc, ◌-ℤ◌, ◌+ℤ◌, ◌≤ℤ◌, ◌<ℤ◌, int_lt, int_le, unsigned_abs, Bool, true, false, if◌then◌else◌, List, [], ◌∷◌, ◌++◌, Option, Some, None, Ok, inl, inr, refl, sym, ap, subst, ◌∙◌, arith}
+use Rattle.std.proofs.Common.{◌≡◌, ℕ, zero, suc, ◌+◌, ◌/◌, ◌%◌, ◌<◌, ◌≤◌, ◌||◌, ℤ, pos, negsuc, ◌-ℤ◌, ◌+ℤ◌, ◌≤ℤ◌, ◌<ℤ◌, int_lt, int_le, Bool, true, false, List, Some, Ok, inl, inr, refl, sym, ap, subst, ◌∙◌, arith}
 use Rattle.std.proofs.lemmas.Bool.{cases_order}
-use Rattle.std.proofs.lemmas.Int.{ints}
 use Rattle.jiff_core.specs.declared.civil.date.Date.{Date}
 use Rattle.jiff_core.specs.declared.civil.time.Time.{Time}
 use Rattle.jiff_core.specs.declared.civil.datetime.DateTime.{DateTime}
@@ -15,7 +14,7 @@ use Rattle.jiff_core.proofs.CalendarLemmas.{days_from_civil-day_count, day_count
 use Rattle.jiff_core.proofs.DateLemmas.{days_from_civil-next_year}
 use Rattle.jiff_core.proofs.DateTimeLemmas.{civil_nanos-parts}
 use Rattle.jiff_fmt.specs.Temporal.{parse_timestamp}
-use Rattle.tough_json.specs.Moment.{last_passing, year_of, month_of, day_of_month, days_of, clock_of, is_outside, moment_text, civil_text, IsShown, IsMoment}
+use Rattle.tough_json.specs.Moment.{last_passing, year_of, month_of, days_of, clock_of, is_outside, moment_text, civil_text, IsShown, IsMoment}
 use Rattle.tough_json.proofs.MomentText.{moment_text-moment}
 use Rattle.tough_json.proofs.MomentLemmas.{parse_timestamp-moment}
 

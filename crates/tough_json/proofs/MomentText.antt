@@ -1,13 +1,12 @@
 -- The function that gives the text of an instant agrees with the calendar.
-use Rattle.std.proofs.Common.{◌≡◌, ℕ, zero, suc, ◌+◌, ◌-◌, ◌*◌, ◌/◌, ◌%◌, ◌<◌, ◌≤◌, ◌||◌, ℤ, pos, negsuc, neg_ℤ, ◌-ℤ◌, ◌+ℤ◌, ◌≤ℤ◌, ◌<ℤ◌, int_lt, int_le, if◌then◌else◌, unsigned_abs, Bool, true, false, List, [], ◌∷◌, ◌++◌, Option, Some, None, inl, inr, refl, sym, ap, subst, ◌∙◌, arith}
+use Rattle.std.proofs.Common.{◌≡◌, ℕ, zero, suc, ◌+◌, ◌-◌, ◌/◌, ◌%◌, ◌<◌, ◌≤◌, ◌||◌, ℤ, pos, negsuc, ◌-ℤ◌, ◌≤ℤ◌, ◌<ℤ◌, int_lt, int_le, if◌then◌else◌, unsigned_abs, Bool, true, false, List, [], ◌∷◌, ◌++◌, Some, None, inl, inr, refl, sym, ap, subst, ◌∙◌, arith}
 use Rattle.std.proofs.lemmas.Bool.{cases_order}
 use Rattle.std.proofs.lemmas.Int.{ints}
 use Rattle.std.proofs.lemmas.List.{append_assoc}
-use Rattle.std.specs.Int.{int_div_euclid, int_rem_euclid}
 use Rattle.jiff_core.specs.declared.civil.date.Date.{Date}
 use Rattle.jiff_core.specs.declared.civil.time.Time.{Time}
 use Rattle.jiff_core.specs.declared.civil.datetime.DateTime.{DateTime}
-use Rattle.jiff_core.specs.Calendar.{days_from_civil, day_count}
+use Rattle.jiff_core.specs.Calendar.{days_from_civil}
 use Rattle.jiff_core.specs.Date.{epoch_day}
 use Rattle.jiff_core.specs.Time.{time_nanos}
 use Rattle.jiff_core.specs.DateTime.{civil_nanos}
@@ -16,7 +15,7 @@ use Rattle.jiff_core.proofs.CalendarLemmas.{days_from_civil-day_count, day_count
 use Rattle.jiff_core.proofs.DateLemmas.{civil, epoch_day-ordinal}
 use Rattle.jiff_core.proofs.DateTimeLemmas.{epoch_day-civil_nanos, civil_nanos-parts, time_nanos_bound}
 use Rattle.jiff_fmt.specs.Text.{pad2, pad4, year_text, date_text, time_text, fraction_part}
-use Rattle.tough_json.specs.Moment.{last_passing, year_of, month_of, day_of_month, day_text, clock_text, days_of, clock_of, is_outside, moment_text, civil_text, decimals, IsShown, IsMoment, IsBeforeAll}
+use Rattle.tough_json.specs.Moment.{last_passing, year_of, month_of, day_of_month, day_text, clock_text, clock_of, is_outside, moment_text, civil_text, decimals, IsShown, IsMoment, IsBeforeAll}
 
 last_at : (f : ℕ → Bool) (b n : ℕ) (t : Bool) → f (suc b) ≡ t → n ≤ suc b → (0 < n → f n ≡ true) → ((k : ℕ) → n < k → k ≤ suc b → f k ≡ false) → (n ≤ b → last_passing f b ≡ n) → last_passing f (suc b) ≡ n
 unfolding last_passing

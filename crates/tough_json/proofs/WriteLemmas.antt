@@ -48,7 +48,7 @@ pub without-absent : (k : List ℕ) (ms : Members) → get_member k ms ≡ None 
 without-absent k no_members h = refl
 without-absent k (member l e ms) h = without-absent_at (slice_cmp nat_cmp k l) k l e ms h (without-absent k ms)
 
-if_free-ok : {A : Type 0} (o : Option Data) (a b : A) → if_free o a ≡ Some b → (o ≡ None) × (a ≡ b)
+pub if_free-ok : {A : Type 0} (o : Option Data) (a b : A) → if_free o a ≡ Some b → (o ≡ None) × (a ≡ b)
 if_free-ok None a b h = (refl, cc)
 if_free-ok (Some d) a b h = cc
 

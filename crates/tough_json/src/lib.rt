@@ -4,8 +4,10 @@
 pub mod error;
 pub mod member;
 pub mod moment;
+pub mod pieces;
 pub mod text;
 pub mod write;
 
 pub use error::{ReadError, WriteError};
 pub use moment::{MomentError, moment_text};
+pub use pieces::{Form, ObjectText, PieceError};

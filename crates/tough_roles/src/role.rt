@@ -1,8 +1,9 @@
-ghost use Rattle.std.specs.Prelude.{◌≡◌, Option, IfOk};
+ghost use Rattle.std.specs.Prelude.{◌≡◌, Option, Some, IfOk, option_and_then};
 ghost use Rattle.std.specs.Int.NonZero.{non_zero_u64_get};
 ghost use Rattle.serde_json.specs.Data.{Data};
 ghost use Rattle.serde_json.specs.View.{view};
 ghost use Rattle.tough_json.specs.Results.{Writes};
+ghost use Rattle.tough_json.specs.Pieces.{text_in};
 ghost use Rattle.tough_roles.specs.Document.{ReadsValue};
 ghost use Rattle.tough_roles.specs.Head.{Head};
 ghost use Rattle.tough_roles.specs.declared.role_type.RoleType.{RoleType as RoleKind};
@@ -12,6 +13,7 @@ use serde_json::Value;
 use std::alloc::Global;
 use std::num::NonZeroU64;
 use tough_json::error::{ReadError, WriteError};
+use tough_json::{Form, PieceError};
 
 /// What a signed document holds. `is_read d x` says that the JSON `d` is read as `x`; `json x` is the JSON that is
 /// written for it, none where it can't be written; `is_kept x` says what else holds of each value that was read.
@@ -37,6 +39,15 @@ pub trait Role {
     fn to_value(&self, alloc: Global) -> Result<Value, WriteError>
         ensures written { Writes view result (json self.now) }
         ensures back { is_kept self.now → IfOk result (λ v. is_read (view v) self.now) };
+
+    /// The text of the role's JSON, written in pieces, so that no value of the whole is made. `Refused` where the role
+    /// isn't written so: the text of `to_value` decides then.
+    fn text_in_pieces(&self, _alloc: Global, form: Form) -> Result<Vec<u8>, PieceError>
+        ensures { IfOk result (λ t. option_and_then (text_in form) (json self.now) ≡ Some t.items) }
+    {
+        let _whole = form;
+        Err(PieceError::Refused)
+    }
 
     /// The version of the document.
     fn version(&self) -> NonZeroU64

@@ -1,20 +1,23 @@
-ghost use Rattle.std.specs.Prelude.{◌≡◌, ◌≤◌, Some, IfOk, false};
+ghost use Rattle.std.specs.Prelude.{◌≡◌, ◌≤◌, Some, IfOk, false, option_and_then};
 ghost use Rattle.serde_json.specs.Data as Data;
 ghost use Rattle.serde_json.specs.Data.{depth};
 ghost use Rattle.serde_json.specs.Read.{max_depth};
 ghost use Rattle.serde_json.specs.View.{view};
 ghost use Rattle.serde_json.specs.Written.{has_float, compact_text};
 ghost use Rattle.tough_json.specs.Results.{json_of, Writes};
+ghost use Rattle.tough_json.specs.Pieces.{text_in};
 ghost use Rattle.tough_roles.specs.Document.{ReadsText, WritesBytes, IsSigned, IsNotSigned, document_json};
 
 use crate::read_signed::signed_of;
 use crate::role::Role;
 use crate::signature::Signature;
-use crate::write_signed::signed_value;
+use crate::write_signed::{signed_text, signed_value};
 use serde_json::Value;
 use std::alloc::Global;
 use tough_json::error::{ReadError, WriteError};
+use tough_json::pieces::text_in;
 use tough_json::text::{bytes_of, value_of};
+use tough_json::{Form, PieceError};
 
 /// A role with its signatures.
 #[derive(Drop)]
@@ -47,5 +50,28 @@ impl<T: Role> Signed<T> {
     {
         let value = self.to_value(alloc)?;
         Ok(bytes_of(alloc, &value)?)
+    }
+
+    // The same text, where the role is written in pieces.
+    fn text_in_pieces(&self, alloc: Global, form: Form) -> Result<Vec<u8>, PieceError>
+        ensures { IfOk result (λ t. option_and_then (text_in form) (document_json T.json self.now) ≡ Some t.items) }
+    {
+        let role = self.signed.text_in_pieces(alloc, form)?;
+        let text = signed_text(alloc, form, role.as_slice(), &self.signatures)?;
+        Ok(text)
+    }
+
+    /// The text of the document, canonical or compact; `Unwritable` where its role has no JSON, or that has no such text.
+    pub fn text(&self, alloc: Global, form: Form) -> Result<Vec<u8>, WriteError>
+        ensures { Writes (λ t. t.items) result (option_and_then (text_in form) (document_json T.json self.now)) }
+    {
+        match self.text_in_pieces(alloc, form) {
+            Ok(text) => Ok(text),
+            Err(PieceError::Memory) => Err(WriteError::Memory),
+            Err(PieceError::Refused) => {
+                let value = self.to_value(alloc)?;
+                text_in(alloc, form, &value)
+            }
+        }
     }
 }

@@ -21,14 +21,21 @@ use std::alloc::{AllocError, Global};
 use std::collections::{BTreeMap, BTreeSet};
 use tough_base::{Decoded, Hex};
 use tough_json::error::WriteError;
+use tough_json::{Form, PieceError};
 use tough_keys::{Key, Verify, text_of};
 
 /// The canonical text of a role as it is kept, which is what is signed; `Unwritable` where it has none.
 pub fn canonical_form<T: Role>(alloc: Global, role: &T) -> Result<Vec<u8>, WriteError>
     ensures { Writes (λ t. t.items) result (text_by T.json role.now) }
 {
-    let value = role.to_value(alloc)?;
-    text_of(alloc, &value)
+    match role.text_in_pieces(alloc, Form::Canonical) {
+        Ok(text) => Ok(text),
+        Err(PieceError::Memory) => Err(WriteError::Memory),
+        Err(PieceError::Refused) => {
+            let value = role.to_value(alloc)?;
+            text_of(alloc, &value)
+        }
+    }
 }
 
 // Whether an identifier is listed.

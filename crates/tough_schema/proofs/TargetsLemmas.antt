@@ -17,7 +17,7 @@ use Rattle.tough_roles.proofs.HeadLemmas.{head-back}
 use Rattle.tough_roles.proofs.Tables.{AreBack, table-back}
 use Rattle.tough_schema.specs.Target.{TargetDoc, target_json}
 use Rattle.tough_schema.specs.Delegations.{DelegationsDoc, delegations_at, delegations_json}
-use Rattle.tough_schema.specs.Targets.{TargetsDoc, if_clean, name_at, entry_at, listing_at, listing_json, resolves_to, raw_name, targets_at, parts_json, targets_json, IsKept, KeysRise, AreSorted}
+use Rattle.tough_schema.specs.Targets.{TargetsDoc, if_clean, name_at, entry_at, listing_at, listing_json, resolves_to, raw_name, targets_at, parts_json, around_json, targets_json, IsKept, KeysRise, AreSorted}
 use Rattle.tough_schema.proofs.TargetLemmas.{target-back}
 use Rattle.tough_schema.proofs.DelegationsLemmas.{delegations-back, delegations-present, delegations-kept}
 
@@ -55,17 +55,17 @@ delegated-back (Some g) inner ms new kept rise w h =
     optional-with_some (codes "delegations") delegations_at a.0 ms new g (subst (λ z. with_optional (codes "delegations") z ms ≡ Some new) (sym (some-inj a.2)) h) (delegations-present g a.0 a.1) (delegations-back g a.0 kept.0 kept.1 rise a.1)
 
 pub targets-back : (t : TargetsDoc) (d : Data) → IsTimestampNanos t.head.expires → IsKept t.delegations → AreSorted t → targets_json t ≡ Some d → targets_at d ≡ Some t
-unfolding targets_json parts_json targets_at
+unfolding targets_json around_json parts_json targets_at
 targets-back t d range kept sorted w =
-    let a = bind_ok (parts_json t t.extra) (λ parts. head_json (codes "targets") t.head parts >>= λ ms. Some (object ms)) d w in
-    let b = bind_ok (head_json (codes "targets") t.head a.0) (λ ms. Some (object ms)) d a.2 in
-    let c = bind_ok (optional_json delegations_json t.delegations) (λ inner. with_optional (codes "delegations") inner t.extra >>= λ delegations. listing_json t.targets no_members >>= λ listed. with (codes "targets") (object listed) delegations) a.0 a.1 in
-    let e = bind_ok (with_optional (codes "delegations") c.0 t.extra) (λ delegations. listing_json t.targets no_members >>= λ listed. with (codes "targets") (object listed) delegations) a.0 c.2 in
-    let f = bind_ok (listing_json t.targets no_members) (λ listed. with (codes "targets") (object listed) e.0) a.0 e.2 in
+    let f = bind_ok (listing_json t.targets no_members) (λ listed. around_json (object listed) t >>= λ ms. Some (object ms)) d w in
+    let b = bind_ok (around_json (object f.0) t) (λ ms. Some (object ms)) d f.2 in
+    let a = bind_ok (parts_json (object f.0) t t.extra) (λ parts. head_json (codes "targets") t.head parts) b.0 b.1 in
+    let c = bind_ok (optional_json delegations_json t.delegations) (λ inner. with_optional (codes "delegations") inner t.extra >>= λ delegations. with (codes "targets") (object f.0) delegations) a.0 a.1 in
+    let e = bind_ok (with_optional (codes "delegations") c.0 t.extra) (λ delegations. with (codes "targets") (object f.0) delegations) a.0 c.2 in
     rw (
       ← some-inj b.2,
-      head-back (codes "targets") t.head a.0 b.0 range b.1,
-      required-with (codes "targets") listing_at (object f.0) e.0 a.0 t.targets f.2 (table-back names_total (λ there. true) entry_at raw_name target_json t.targets f.0 refl (entries_back t.targets) sorted.names_rise f.1),
+      head-back (codes "targets") t.head a.0 b.0 range a.2,
+      required-with (codes "targets") listing_at (object f.0) e.0 a.0 t.targets e.2 (table-back names_total (λ there. true) entry_at raw_name target_json t.targets f.0 refl (entries_back t.targets) sorted.names_rise f.1),
       delegated-back t.delegations c.0 t.extra e.0 kept sorted.keys_rise c.1 e.1,
     ) refl
 

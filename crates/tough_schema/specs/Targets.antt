@@ -91,18 +91,23 @@ targets_at d = do
   delegations ← optional (codes "delegations") delegations_at targets.1
   Some (record { head = head.0; targets = targets.0; delegations = delegations.0; extra = delegations.1 })
 
--- the members with the delegations and the targets
-unfoldable pub parts_json : TargetsDoc → Members → Option Members
-parts_json t members = do
+-- the members with the delegations, and that under `targets`
+unfoldable pub parts_json : Data → TargetsDoc → Members → Option Members
+parts_json listed t members = do
   inner ← optional_json delegations_json t.delegations
   delegations ← with_optional (codes "delegations") inner members
-  listed ← listing_json t.targets no_members
-  with (codes "targets") (object listed) delegations
+  with (codes "targets") listed delegations
+
+-- the document's members, with that under `targets`
+unfoldable pub around_json : Data → TargetsDoc → Option Members
+around_json listed t = do
+  parts ← parts_json listed t t.extra
+  head_json (codes "targets") t.head parts
 
 unfoldable pub targets_json : TargetsDoc → Option Data
 targets_json t = do
-  parts ← parts_json t t.extra
-  members ← head_json (codes "targets") t.head parts
+  listed ← listing_json t.targets no_members
+  members ← around_json (object listed) t
   Some (object members)
 
 -- each key stands under its own identifier, and each pattern is one, as in each document that was read

@@ -8,7 +8,7 @@ ghost use Rattle.tough_schema.specs.Targets.{targets_doc, delegated_doc, targets
 use crate::delegations::Delegations;
 use crate::read_targets::targets_of;
 use crate::target::Target;
-use crate::write_targets::targets_value;
+use crate::write_targets::{targets_text, targets_value};
 use serde_json::{Map, Value};
 use std::alloc::Global;
 use std::collections::BTreeMap;
@@ -16,6 +16,7 @@ use std::num::NonZeroU64;
 use tough_base::TargetName;
 use tough_json::error::{ReadError, WriteError};
 use tough_json::text::value_of;
+use tough_json::{Form, PieceError};
 use tough_roles::{Role, RoleType};
 
 /// Which targets there are, and who else may list some (TUF specification 1.0, section 4.5).
@@ -94,6 +95,11 @@ impl Role for Targets {
         Ok(value)
     }
 
+    fn text_in_pieces(&self, alloc: Global, form: Form) -> Result<Vec<u8>, PieceError> {
+        let text = targets_text(alloc, self, form)?;
+        Ok(text)
+    }
+
     fn version(&self) -> NonZeroU64 {
         self.version
     }
@@ -131,6 +137,11 @@ impl Role for DelegatedTargets {
     fn to_value(&self, alloc: Global) -> Result<Value, WriteError> {
         let value = targets_value(alloc, &self.targets)?;
         Ok(value)
+    }
+
+    fn text_in_pieces(&self, alloc: Global, form: Form) -> Result<Vec<u8>, PieceError> {
+        let text = targets_text(alloc, &self.targets, form)?;
+        Ok(text)
     }
 
     fn version(&self) -> NonZeroU64 {

@@ -1,13 +1,16 @@
 //! Targets, written as JSON.
 
-ghost use Rattle.std.specs.Prelude.{◌≡◌, IfOk};
+ghost use Rattle.std.specs.Prelude.{◌≡◌, IfOk, OnOk, Some, option_and_then};
 ghost use Rattle.std.specs.List.Sorted.{IsStrictlySortedBy};
 ghost use Rattle.std.specs.Map.{keys_of};
-ghost use Rattle.serde_json.specs.Data.{no_members};
+ghost use Rattle.serde_json.specs.Data.{Data, Members, no_members, object};
 ghost use Rattle.serde_json.specs.View.{view, members_view};
 ghost use Rattle.tough_names.specs.Named.{by_raw_then_resolved};
+ghost use Rattle.tough_json.specs.Pieces.{text_in, AreBelow, and_last, Stands};
+ghost use Rattle.tough_json.specs.declared.pieces.Form.{Form as Kind};
 ghost use Rattle.tough_json.specs.Results.{Writes};
-ghost use Rattle.tough_schema.specs.Targets.{listing_doc, listing_json, targets_doc, parts_json, targets_json, AreSorted};
+ghost use Rattle.tough_schema.specs.Target.{target_doc, target_json};
+ghost use Rattle.tough_schema.specs.Targets.{listing_doc, listing_json, targets_doc, parts_json, around_json, targets_json, AreSorted, KeysRise};
 
 use crate::target::Target;
 use crate::targets::Targets;
@@ -18,7 +21,9 @@ use std::alloc::Global;
 use std::collections::BTreeMap;
 use tough_base::TargetName;
 use tough_json::error::WriteError;
+use tough_json::pieces::object_with;
 use tough_json::write::{copy_members, with, with_optional};
+use tough_json::{Form, ObjectText, PieceError};
 use tough_roles::head::with_head;
 
 // Each target under its name.
@@ -37,31 +42,35 @@ fn listing_value(
     Ok(members)
 }
 
-// The members with the delegations and the targets.
+// The members with the delegations, and that value under `targets`.
 #[tactic(auto, unfolding(crate::specs::Targets::parts_json))]
 fn with_parts(
     alloc: Global,
     members: Map<String, Value>,
     targets: &Targets,
+    listed: Value,
 ) -> Result<Map<String, Value>, WriteError>
-    ensures written { Writes (λ m. members_view m.entries) result (parts_json (targets_doc targets.now) (members_view members.entries)) }
-    ensures ordered { IfOk result (λ m. AreSorted (targets_doc targets.now)) }
+    ensures written { Writes (λ m. members_view m.entries) result (parts_json (view listed) (targets_doc targets.now) (members_view members.entries)) }
+    ensures ordered { IfOk result (λ m. KeysRise (targets_doc targets.now).delegations) }
 {
     let inner = optional_delegations(alloc, &targets.delegations)?;
     let delegations = with_optional(alloc, members, "delegations", inner)?;
-    let listed = listing_value(alloc, &targets.targets)?;
-    let parts = with(alloc, delegations, "targets", Value::Object(listed))?;
+    let parts = with(alloc, delegations, "targets", listed)?;
     Ok(parts)
 }
 
-/// The JSON of the targets.
-#[tactic(auto, unfolding(crate::specs::Targets::targets_json))]
-pub(crate) fn targets_value(alloc: Global, targets: &Targets) -> Result<Value, WriteError>
-    ensures written { Writes view result (targets_json (targets_doc targets.now)) }
-    ensures ordered { IfOk result (λ v. AreSorted (targets_doc targets.now)) }
+// The document's members, with that value under `targets`.
+#[tactic(auto, unfolding(crate::specs::Targets::around_json))]
+fn members_around(
+    alloc: Global,
+    targets: &Targets,
+    listed: Value,
+) -> Result<Map<String, Value>, WriteError>
+    ensures written { Writes (λ m. members_view m.entries) result (around_json (view listed) (targets_doc targets.now)) }
+    ensures ordered { IfOk result (λ m. KeysRise (targets_doc targets.now).delegations) }
 {
     let extra = copy_members(alloc, &targets._extra)?;
-    let parts = with_parts(alloc, extra, targets)?;
+    let parts = with_parts(alloc, extra, targets, listed)?;
     let name = targets.spec_version.as_str();
     let members = with_head(
         alloc,
@@ -71,5 +80,60 @@ pub(crate) fn targets_value(alloc: Global, targets: &Targets) -> Result<Value, W
         targets.version,
         targets.expires,
     )?;
+    Ok(members)
+}
+
+/// The JSON of the targets.
+#[tactic(auto, unfolding(crate::specs::Targets::targets_json))]
+pub(crate) fn targets_value(alloc: Global, targets: &Targets) -> Result<Value, WriteError>
+    ensures written { Writes view result (targets_json (targets_doc targets.now)) }
+    ensures ordered { IfOk result (λ v. AreSorted (targets_doc targets.now)) }
+{
+    let listed = listing_value(alloc, &targets.targets)?;
+    let members = members_around(alloc, targets, Value::Object(listed))?;
     Ok(Value::Object(members))
+}
+
+// Adds a target under its name. Its JSON is made, written and dropped.
+fn push_target(
+    alloc: Global,
+    object: &mut ObjectText,
+    name: &str,
+    target: &Target,
+) -> Result<(), PieceError>
+    ensures { OnOk result ((d : Data) × (target_json (target_doc target.now) ≡ Some d) × ((form : Kind) (ms : Members) → Stands form ms object.old → AreBelow name.now ms × Stands form (and_last ms name.now d) object.new)) }
+{
+    let value = target_value(alloc, target)?;
+    object.push(alloc, name, &value)
+}
+
+// The text of the listing, written target by target.
+fn listing_text(
+    alloc: Global,
+    form: Form,
+    targets: &BTreeMap<TargetName, Target>,
+) -> Result<Vec<u8>, PieceError>
+    ensures { IfOk result (λ t. (ms : Members) × (listing_json (listing_doc targets.now.entries) no_members ≡ Some ms) × (text_in form (object ms) ≡ Some t.items)) }
+{
+    let mut object = ObjectText::new(alloc, form)?;
+    for (name, target) in targets.iter() {
+        push_target(alloc, &mut object, name.raw(), target)?;
+    }
+    let text = object.finish()?;
+    Ok(text)
+}
+
+/// The text of the targets' JSON, written target by target. `Refused` where a member's name, of the listing or of the
+/// document, isn't ASCII, is empty or has a control character, a quote or a backslash, and where there is no text.
+pub(crate) fn targets_text(
+    alloc: Global,
+    targets: &Targets,
+    form: Form,
+) -> Result<Vec<u8>, PieceError>
+    ensures { IfOk result (λ t. option_and_then (text_in form) (targets_json (targets_doc targets.now)) ≡ Some t.items) }
+{
+    let listed = listing_text(alloc, form, &targets.targets)?;
+    let members = members_around(alloc, targets, Value::Null)?;
+    let text = object_with(alloc, form, &members, "targets", listed.as_slice())?;
+    Ok(text)
 }

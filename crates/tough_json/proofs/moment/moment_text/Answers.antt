@@ -1,7 +1,6 @@
 use Rattle.std.proofs.Common.{string_bytes, rules}
-use Rattle.jiff_core.specs.DateTime.{civil_nanos}
 use Rattle.jiff_fmt.specs.Text.{date_text, time_text}
-use Rattle.tough_json.specs.Moment.{decimals, civil_text, IsMoment}
+use Rattle.tough_json.specs.Moment.{decimals}
 use Rattle.tough_json.proofs.MomentLemmas.{is_shown, not_shown, civil_text-parts, parse_timestamp-moment}
 use Rattle.tough_json.proofs.MomentText.{moment_text-moment, moment_text-before}
 use Rattle.tough_json.proofs.moment.moment_text.Goals as goal

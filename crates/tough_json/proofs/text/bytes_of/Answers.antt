@@ -1,7 +1,6 @@
-use Rattle.std.proofs.Common.{sym, ap, subst, ◌∙◌, rules, string_bytes, ◌≡◌, Some}
+use Rattle.std.proofs.Common.{string_bytes}
 use Rattle.std.proofs.lemmas.Str.{IsUtf8-had}
 use Rattle.serde_json.specs.View.{view}
-use Rattle.tough_json.specs.Results.{json_of}
 use Rattle.tough_json.proofs.JsonLemmas.{json_of-some}
 use Rattle.tough_json.proofs.text.bytes_of.Goals as goal
 

@@ -1,0 +1,5 @@
+use Rattle.tough_json.proofs.PieceLemmas.{finished}
+use Rattle.tough_json.proofs.pieces.ObjectText.finish.Goals as goal
+
+pub returns : goal.returns
+returns c = λ form ms s. finished form ms c.args.self _ s c.in_ok-extend_from_slice.ensures.items
