@@ -1,3 +1,5 @@
+//! Copies of keys.
+
 ghost use Rattle.std.specs.Prelude.{◌≡◌, IfOk};
 ghost use Rattle.serde_json.specs.View.{members_view};
 ghost use Rattle.tough_keys.specs.Key.{key_doc};
@@ -7,8 +9,8 @@ use serde_json::{Map, Value};
 use std::alloc::AllocError;
 use std::default::Emptied;
 
-// The same members.
-fn copy(members: &Map<String, Value>) -> Result<Map<String, Value>, AllocError>
+/// The same members.
+pub fn copy(members: &Map<String, Value>) -> Result<Map<String, Value>, AllocError>
     ensures { IfOk result (λ m. members_view m.entries ≡ members_view members.now.entries) }
 {
     let mut copies = Map::emptied(members)?;

@@ -1,7 +1,7 @@
 //! Keys: their JSON, their identifiers, and what verifies and signs by them.
 #![tactic(auto)]
 
-mod clone;
+pub mod clone;
 mod demo;
 mod equal;
 mod id;

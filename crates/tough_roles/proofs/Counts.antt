@@ -1,5 +1,5 @@
 -- Counting signatures, where no identifier stands twice, counts the identifiers that have signed.
-use Rattle.std.proofs.Common.{◌≡◌, ℕ, ◌+◌, ◌<◌, List, [], ◌∷◌, map, drop, drop-cons, add-one, get_or, length, filter, count_by, Bool, true, false, ◌&&◌, ◌||◌, cond, Option, Some, None, Ok, option_map, suc, refl, sym, ap, ◌∙◌}
+use Rattle.std.proofs.Common.{◌≡◌, ℕ, ◌+◌, ◌<◌, List, [], ◌∷◌, map, drop, drop-cons, add-one, get_or, length, filter, count_by, Bool, true, false, ◌&&◌, ◌||◌, cond, Option, Some, None, option_map, suc, refl, sym, ap, ◌∙◌}
 use Rattle.std.proofs.lemmas.Cmp.{nat_list_eq_equiv}
 use Rattle.std.proofs.lemmas.List.Sums.{length-filter}
 use Rattle.std.proofs.lemmas.Map.Made.{length-from_keys}
@@ -14,7 +14,7 @@ use Rattle.tough_roles.specs.declared.signature.Signature.{Signature}
 use Rattle.tough_roles.specs.Signature.{SignatureDoc, signature_doc}
 use Rattle.tough_roles.specs.Root.{RoleKeysDoc, key_under}
 use Rattle.tough_roles.specs.Policy.{policy_of, pair_of}
-use Rattle.tough_roles.specs.Verdict.{is_by, has_signed, signers, signer_count, some_twice}
+use Rattle.tough_roles.specs.Verdict.{has_signed, signers, signer_count, some_twice}
 use Rattle.tough_roles.specs.Counting.{bytes_of, key_of, under, is_valid, is_signed}
 
 pub list_any-map : {X Y : Type 0} (p : X → Bool) (h : Y → X) (ys : List Y) → list_any p (map h ys) ≡ list_any (λ y. p (h y)) ys

@@ -1,12 +1,12 @@
 -- What is written for a head is read as it.
 use Rattle.std.proofs.Common.{◌≡◌, ℤ, List, ℕ, codes, Some, refl}
 use Rattle.jiff_core.specs.Timestamp.{IsTimestampNanos}
-use Rattle.serde_json.specs.Data.{Data, string, Members}
+use Rattle.serde_json.specs.Data.{string, Members}
 use Rattle.tough_json.specs.Moment.{moment_text}
 use Rattle.tough_json.specs.Reading.{◌>>=◌, text, positive, instant}
 use Rattle.tough_json.specs.Writing.{with, positive_json}
 use Rattle.tough_json.proofs.MomentExists.{parse_timestamp-text}
-use Rattle.tough_json.proofs.WriteLemmas.{bind_ok, some-inj, required-with, without-with, positive-back}
+use Rattle.tough_json.proofs.WriteLemmas.{bind_ok, required-with, without-with, positive-back}
 use Rattle.tough_roles.specs.Head.{Head, head_at, head_json, with_moment}
 
 instant-back : (z : ℤ) (s : List ℕ) → IsTimestampNanos z → moment_text z ≡ Some s → instant (string s) ≡ Some z

@@ -1,5 +1,5 @@
 -- The verdict is Ok exactly where the threshold is reached, as a set of identifiers.
-use Rattle.std.proofs.Common.{◌≡◌, ◌≤◌, ℕ, List, [], ◌∷◌, map, length, filter, Bool, true, false, ◌&&◌, ◌||◌, cond, nat_le, if◌then◌else◌, Option, Some, None, Result, Ok, Err, IfOk, inl, inr, refl, sym, ap, subst, ◌∙◌, arith}
+use Rattle.std.proofs.Common.{◌≡◌, ◌≤◌, ℕ, List, [], ◌∷◌, length, filter, Bool, true, false, ◌&&◌, ◌||◌, cond, nat_le, if◌then◌else◌, Option, Some, None, Result, Ok, Err, IfOk, inl, inr, refl, sym, ap, subst, ◌∙◌, arith}
 use Rattle.std.proofs.lemmas.Bool.{le-leb}
 use Rattle.std.proofs.lemmas.Bool.Decides.{nat_tests}
 use Rattle.std.proofs.lemmas.Cmp.{nat_list_eq_equiv}
@@ -17,7 +17,7 @@ use Rattle.tough_roles.specs.Signature.{SignatureDoc, SignedDoc}
 use Rattle.tough_roles.specs.Root.{RootDoc}
 use Rattle.tough_roles.specs.Chain.{text_by, ReachesUnder}
 use Rattle.tough_roles.specs.Policy.{Policy, policy}
-use Rattle.tough_roles.specs.Verdict.{Refused, DuplicateKeyId, SignatureThreshold, is_by, has_signed, signers, signer_count, some_twice, counted, verdict, Answers, IsRefusal, IsOkOrMemory}
+use Rattle.tough_roles.specs.Verdict.{SignatureThreshold, is_by, has_signed, signers, signer_count, some_twice, counted, verdict, Answers, IsRefusal, IsOkOrMemory}
 use Rattle.tough_roles.specs.Reaches.{IsAmong, IsSigner, AreOnce, Reaches}
 use Rattle.tough_roles.proofs.Counts.{list_any-map, any-filter, or_false}
 

@@ -1,17 +1,16 @@
 -- What is written for a root is read as it.
-use Rattle.std.proofs.Common.{◌≡◌, List, [], ◌∷◌, ℕ, Bool, true, false, is_none, codes, Some, None, Option, option_map, if◌then◌else◌, refl, sym, ap, ◌∙◌, rules}
+use Rattle.std.proofs.Common.{◌≡◌, List, [], ◌∷◌, ℕ, Bool, true, false, is_none, codes, Some, None, Option, option_map, if◌then◌else◌, refl, sym, ap, ◌∙◌}
 use Rattle.std.specs.Cmp.{IsTotalOrder}
 use Rattle.std.specs.Cmp.Lexicographic.{on_texts}
-use Rattle.std.specs.Str.{bytes_eq}
 use Rattle.std.proofs.lemmas.Cmp.{nat_cmp_total}
 use Rattle.std.proofs.lemmas.Slice.Eq.{bytes_eq-Decides}
 use Rattle.jiff_core.specs.Timestamp.{IsTimestampNanos}
 use Rattle.tough_base.specs.Spelled.{Spelled, hex_bytes}
-use Rattle.serde_json.specs.Data.{Data, boolean, array, object, Members, no_members}
+use Rattle.serde_json.specs.Data.{Data, boolean, array, object, no_members}
 use Rattle.tough_json.specs.Reading.{◌>>=◌, spelled, hexadecimal, listing, positive, truth}
 use Rattle.tough_json.specs.Writing.{with, stands_for, positive_json, hexadecimal_json, all_json}
 use Rattle.tough_json.proofs.WriteLemmas.{bind_ok, some-inj, required-with, hexadecimal-back, positive-back, all-back}
-use Rattle.tough_keys.specs.Key.{KeyDoc, key_at, key_json, key_id_of}
+use Rattle.tough_keys.specs.Key.{KeyDoc, key_json, key_id_of}
 use Rattle.tough_keys.proofs.KeyLemmas.{key-back}
 use Rattle.tough_roles.specs.Head.{head_json}
 use Rattle.tough_roles.specs.Roles.{rank, role_name, role_type, role_cmp}

@@ -1,5 +1,5 @@
 -- Looking for an identifier that stands twice, with a set of those that were seen.
-use Rattle.std.proofs.Common.{◌≡◌, ℕ, ◌+◌, ◌<◌, suc, List, [], ◌∷◌, map, drop, drop-cons, add-one, get_or, length, Bool, true, false, ◌||◌, not, Ordering, Less, Equal, Greater, is_eq, nat_cmp, bytes_eq, Option, Some, None, ◌≢◌, refl, sym, ap, ◌∙◌, subst}
+use Rattle.std.proofs.Common.{◌≡◌, ℕ, ◌+◌, ◌<◌, List, [], ◌∷◌, map, drop, drop-cons, add-one, get_or, length, Bool, true, false, ◌||◌, not, Ordering, Less, Equal, Greater, is_eq, nat_cmp, bytes_eq, Option, Some, None, ◌≢◌, refl, sym, ap, ◌∙◌, subst}
 use Rattle.std.specs.Prelude.{MatchOption}
 use Rattle.std.proofs.lemmas.Map.Text.{is_eq-slice_cmp}
 use Rattle.std.proofs.lemmas.Slice.Eq.{bytes_eq-Decides}

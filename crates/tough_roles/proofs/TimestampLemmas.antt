@@ -7,8 +7,6 @@ use Rattle.tough_json.specs.Writing.{with, with_optional, optional_json, positiv
 use Rattle.tough_json.proofs.WriteLemmas.{bind_ok, some-inj, required-with, hexadecimal-back, positive-back, optional-back, length-back, named-back}
 use Rattle.tough_roles.specs.Head.{head_json}
 use Rattle.tough_roles.specs.Timestamp.{HashesDoc, MetafileDoc, TimestampDoc, hashes_at, hashes_json, metafile_at, metafile_json, timestamp_at, timestamp_json}
-use Rattle.tough_roles.specs.declared.timestamp.Timestamp.{Timestamp}
-use Rattle.tough_roles.specs.Timestamp as spec
 use Rattle.tough_roles.proofs.HeadLemmas.{head-back}
 
 pub hashes-back : (h : HashesDoc) (d : Data) → hashes_json h ≡ Some d → hashes_at d ≡ Some h

@@ -11,7 +11,7 @@ use Rattle.tough_roles.specs.Roles.{role_cmp}
 use Rattle.tough_roles.specs.Root.{RoleKeysDoc, role_keys_doc, roles_doc}
 use Rattle.tough_roles.specs.Signature.{SignatureDoc}
 use Rattle.tough_roles.specs.Policy.{Policy, policy_of}
-use Rattle.tough_roles.specs.Verdict.{Refused, MissingRole, JsonSerialization, DuplicateKeyId, counted, some_twice, verdict}
+use Rattle.tough_roles.specs.Verdict.{MissingRole, JsonSerialization, DuplicateKeyId, counted, some_twice, verdict}
 use Rattle.tough_roles.specs.Counting.{bytes_of, is_valid}
 use Rattle.tough_roles.proofs.Counts.{count-signers}
 

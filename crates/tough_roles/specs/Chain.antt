@@ -4,7 +4,6 @@ use Rattle.serde_json.specs.Data.{Data}
 use Rattle.tough_base.specs.CanonicalText.{canonical_of}
 use Rattle.tough_keys.specs.Same.{Verifies}
 use Rattle.tough_roles.specs.Signature.{SignedDoc}
-use Rattle.tough_roles.specs.Roles.{role_cmp}
 use Rattle.tough_roles.specs.Root.{RootDoc, root_json}
 use Rattle.tough_roles.specs.Policy.{Policy, policy}
 use Rattle.tough_roles.specs.Reaches.{Reaches}

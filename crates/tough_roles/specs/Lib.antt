@@ -11,3 +11,6 @@ pub mod Reaches
 pub mod Chain
 pub mod Counting
 pub mod Snapshot
+pub mod RoleId
+pub mod Names
+pub mod Keyring

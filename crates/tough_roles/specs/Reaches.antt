@@ -1,6 +1,6 @@
 -- When signatures reach a role's threshold: a set of identifiers, each listed, each with a key, and each beside a
 -- signature that verifies over the text by that key (TUF specification 1.0, section 4.3: "a threshold number of keys").
-use Rattle.std.specs.Prelude.{◌≡◌, ◌≤◌, ℕ, List, [], ◌∷◌, length, Option, Some, true, ◌⊎◌}
+use Rattle.std.specs.Prelude.{◌≡◌, ◌≤◌, ℕ, List, [], ◌∷◌, length, Some, true, ◌⊎◌}
 use Rattle.std.specs.List.{AllByRecursion, IsDistinct}
 use Rattle.std.specs.Str.{bytes_eq}
 use Rattle.tough_keys.specs.Same.{KeyData, Verifies}

@@ -1,5 +1,5 @@
 -- Timestamps, and what they say of a snapshot (TUF specification 1.0, sections 4.4 and 4.6).
-use Rattle.std.specs.Prelude.{ℕ, List, [], map, Option, Some, option_map, option_and_then, codes, string_bytes, String}
+use Rattle.std.specs.Prelude.{ℕ, List, [], map, Option, Some, option_map, codes, string_bytes, String}
 use Rattle.std.specs.Int.NonZero.{non_zero_u64_get}
 use Rattle.std.specs.declared.alloc.Global.{Global}
 use Rattle.tough_base.specs.Spelled.{Spelled}

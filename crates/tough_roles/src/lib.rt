@@ -1,14 +1,18 @@
 //! Roles, signed documents and their verification.
 #![tactic(auto)]
 
+pub mod clone;
 mod error;
 pub mod head;
+pub mod keyring;
 pub mod laws;
+pub mod names;
 pub mod read_root;
 mod read_signed;
 mod read_snapshot;
 pub mod read_timestamp;
 mod role;
+mod role_id;
 mod role_type;
 mod root;
 mod signature;
@@ -22,7 +26,9 @@ mod write_snapshot;
 pub mod write_timestamp;
 
 pub use error::Error;
+pub use keyring::KeysIter;
 pub use role::Role;
+pub use role_id::RoleId;
 pub use role_type::RoleType;
 pub use root::{RoleKeys, Root};
 pub use signature::Signature;

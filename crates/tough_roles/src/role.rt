@@ -1,4 +1,4 @@
-ghost use Rattle.std.specs.Prelude.{◌≡◌, Option, Some, IfOk, option_and_then};
+ghost use Rattle.std.specs.Prelude.{◌≡◌, ℕ, List, Bool, Option, Some, IfOk, option_and_then, string_bytes};
 ghost use Rattle.std.specs.Int.NonZero.{non_zero_u64_get};
 ghost use Rattle.serde_json.specs.Data.{Data};
 ghost use Rattle.serde_json.specs.View.{view};
@@ -6,17 +6,20 @@ ghost use Rattle.tough_json.specs.Results.{Writes};
 ghost use Rattle.tough_json.specs.Pieces.{text_in};
 ghost use Rattle.tough_roles.specs.Document.{ReadsValue};
 ghost use Rattle.tough_roles.specs.Head.{Head};
+ghost use Rattle.tough_roles.specs.RoleId.{RoleIdDoc, role_id_doc};
 ghost use Rattle.tough_roles.specs.declared.role_type.RoleType.{RoleType as RoleKind};
 
+use crate::role_id::RoleId;
 use crate::role_type::RoleType;
 use serde_json::Value;
-use std::alloc::Global;
+use std::alloc::{AllocError, Global};
 use std::num::NonZeroU64;
 use tough_json::error::{ReadError, WriteError};
 use tough_json::{Form, PieceError};
 
 /// What a signed document holds. `is_read d x` says that the JSON `d` is read as `x`; `json x` is the JSON that is
-/// written for it, none where it can't be written; `is_kept x` says what else holds of each value that was read.
+/// written for it, none where it can't be written; `is_kept x` says what else holds of each value that was read; `file x` is
+/// the name of its file, by whether snapshots are consistent.
 pub trait Role {
     ghost TYPE: { RoleKind };
 
@@ -29,6 +32,10 @@ pub trait Role {
     ghost json: { Self → Option Data };
 
     ghost is_kept: { Self → Type 0 };
+
+    ghost file: { Self → Bool → List ℕ };
+
+    ghost id: { Self → RoleIdDoc };
 
     /// The role that the value is; `Shape` where it is none.
     fn from_value(alloc: Global, value: Value) -> Result<Self, ReadError>
@@ -56,6 +63,14 @@ pub trait Role {
     /// When the document expires.
     fn expires(&self) -> jiff::Timestamp
         ensures { result.nanosecond ≡ (head self.now).expires };
+
+    /// The name of the document's file, with consistent snapshots or without (TUF specification 1.0, section 6.2).
+    fn filename(&self, alloc: Global, consistent_snapshot: bool) -> Result<String, AllocError>
+        ensures { IfOk result (λ s. string_bytes s ≡ file self.now consistent_snapshot) };
+
+    /// Which role the document is of.
+    fn role_id(&self) -> Result<RoleId, AllocError>
+        ensures { IfOk result (λ r. role_id_doc r ≡ id self.now) };
 
     ghost apart: { (x : Self) (d : Data) → is_read d x → is_refused d → ⊥ };
 

@@ -1,15 +1,19 @@
-ghost use Rattle.std.specs.Prelude.{◌≡◌, Some, None};
+ghost use Rattle.std.specs.Prelude.{◌≡◌, codes, Some, None};
 ghost use Rattle.std.proofs.Common.{rules};
 ghost use Rattle.tough_json.specs.Results.{ReadsBytes};
 ghost use Rattle.tough_roles.specs.Root.{root_doc, root_at, root_json, keys_doc, AreOwn};
+ghost use Rattle.tough_roles.specs.Names.{versioned};
+ghost use Rattle.tough_roles.specs.RoleId.{standard};
 ghost use Rattle.tough_roles.specs.declared.role_type.RoleType.TheVariants as types;
 
+use crate::names::versioned;
 use crate::read_root::root_of;
 use crate::role::Role;
+use crate::role_id::RoleId;
 use crate::role_type::RoleType;
 use crate::write_root::root_value;
 use serde_json::{Map, Value};
-use std::alloc::Global;
+use std::alloc::{AllocError, Global};
 use std::collections::BTreeMap;
 use std::num::NonZeroU64;
 use tough_base::{Decoded, Hex};
@@ -62,6 +66,10 @@ impl Role for Root {
 
     ghost is_kept = { λ x. AreOwn (keys_doc x.keys.entries) };
 
+    ghost file = { λ x consistent. versioned (root_doc x).head.version (codes "root.json") };
+
+    ghost id = { λ x. standard types.Root };
+
     fn from_value(alloc: Global, value: Value) -> Result<Root, ReadError> {
         let root = root_of(alloc, value)?;
         Ok(root)
@@ -78,6 +86,14 @@ impl Role for Root {
 
     fn expires(&self) -> jiff::Timestamp {
         self.expires
+    }
+
+    fn filename(&self, alloc: Global, _consistent_snapshot: bool) -> Result<String, AllocError> {
+        versioned(alloc, self.version, "root.json")
+    }
+
+    fn role_id(&self) -> Result<RoleId, AllocError> {
+        Ok(RoleId::StandardRole(RoleType::Root))
     }
 
     ghost apart = { Prim.search rules };

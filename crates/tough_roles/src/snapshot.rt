@@ -1,17 +1,21 @@
-ghost use Rattle.std.specs.Prelude.{◌≡◌, Some, None, ⊤, string_bytes};
+ghost use Rattle.std.specs.Prelude.{◌≡◌, codes, Some, None, ⊤, string_bytes};
 ghost use Rattle.tough_json.specs.Results.{ReadsBytes};
 ghost use Rattle.tough_roles.specs.Snapshot.{snapshot_doc, snapshot_at, snapshot_json, bare_snapshot};
 ghost use Rattle.std.specs.Int.NonZero.{non_zero_u64_get};
 ghost use Rattle.std.proofs.Common.{rules};
+ghost use Rattle.tough_roles.specs.Names.{file_name};
+ghost use Rattle.tough_roles.specs.RoleId.{standard};
 ghost use Rattle.tough_roles.specs.declared.role_type.RoleType.TheVariants as types;
 
+use crate::names::file_name;
 use crate::read_snapshot::snapshot_of;
 use crate::role::Role;
+use crate::role_id::RoleId;
 use crate::role_type::RoleType;
 use crate::timestamp::Metafile;
 use crate::write_snapshot::snapshot_value;
 use serde_json::{Map, Value};
-use std::alloc::Global;
+use std::alloc::{AllocError, Global};
 use std::collections::BTreeMap;
 use std::num::NonZeroU64;
 use tough_json::error::{ReadError, WriteError};
@@ -72,6 +76,10 @@ impl Role for Snapshot {
 
     ghost is_kept = { λ x. ⊤ };
 
+    ghost file = { λ x consistent. file_name consistent (snapshot_doc x).head.version (codes "snapshot.json") };
+
+    ghost id = { λ x. standard types.Snapshot };
+
     fn from_value(alloc: Global, value: Value) -> Result<Snapshot, ReadError> {
         snapshot_of(alloc, value)
     }
@@ -87,6 +95,14 @@ impl Role for Snapshot {
 
     fn expires(&self) -> jiff::Timestamp {
         self.expires
+    }
+
+    fn filename(&self, alloc: Global, consistent_snapshot: bool) -> Result<String, AllocError> {
+        file_name(alloc, consistent_snapshot, self.version, "snapshot.json")
+    }
+
+    fn role_id(&self) -> Result<RoleId, AllocError> {
+        Ok(RoleId::StandardRole(RoleType::Snapshot))
     }
 
     ghost apart = { Prim.search rules };

@@ -1,16 +1,18 @@
-ghost use Rattle.std.specs.Prelude.{◌≡◌, Some, None, ⊤, string_bytes};
+ghost use Rattle.std.specs.Prelude.{◌≡◌, codes, Some, None, ⊤, string_bytes};
 ghost use Rattle.tough_json.specs.Results.{ReadsBytes};
 ghost use Rattle.tough_roles.specs.Timestamp.{timestamp_doc, timestamp_at, timestamp_json, bare_timestamp};
 ghost use Rattle.std.specs.Int.NonZero.{non_zero_u64_get};
 ghost use Rattle.std.proofs.Common.{rules};
+ghost use Rattle.tough_roles.specs.RoleId.{standard};
 ghost use Rattle.tough_roles.specs.declared.role_type.RoleType.TheVariants as types;
 
 use crate::read_timestamp::timestamp_of;
 use crate::role::Role;
+use crate::role_id::RoleId;
 use crate::role_type::RoleType;
 use crate::write_timestamp::timestamp_value;
 use serde_json::{Map, Value};
-use std::alloc::Global;
+use std::alloc::{AllocError, Global};
 use std::collections::BTreeMap;
 use std::num::NonZeroU64;
 use tough_base::{Decoded, Hex};
@@ -88,6 +90,10 @@ impl Role for Timestamp {
 
     ghost is_kept = { λ x. ⊤ };
 
+    ghost file = { λ x consistent. codes "timestamp.json" };
+
+    ghost id = { λ x. standard types.Timestamp };
+
     fn from_value(alloc: Global, value: Value) -> Result<Timestamp, ReadError> {
         timestamp_of(alloc, value)
     }
@@ -103,6 +109,14 @@ impl Role for Timestamp {
 
     fn expires(&self) -> jiff::Timestamp {
         self.expires
+    }
+
+    fn filename(&self, alloc: Global, _consistent_snapshot: bool) -> Result<String, AllocError> {
+        String::from_str(alloc, "timestamp.json")
+    }
+
+    fn role_id(&self) -> Result<RoleId, AllocError> {
+        Ok(RoleId::StandardRole(RoleType::Timestamp))
     }
 
     ghost apart = { Prim.search rules };

@@ -6,6 +6,7 @@ use Rattle.serde_json.specs.Data.{Data, boolean, string, array, object, no_membe
 use Rattle.serde_json.specs.Find.{as_object}
 use Rattle.tough_json.specs.Reading.{◌>>=◌, required, text, positive, truth, hexadecimal, listing}
 use Rattle.tough_json.specs.Writing.{with, positive_json, hexadecimal_json, all_json}
+use Rattle.tough_keys.specs.declared.key.Key.{Key}
 use Rattle.tough_keys.specs.Key.{KeyDoc}
 use Rattle.tough_roles.specs.Root.{keys_doc, keys_at, keys_json}
 use Rattle.tough_schema.specs.declared.delegations.DelegatedRole.{DelegatedRole, out-DelegatedRole}
@@ -31,6 +32,10 @@ delegated_role_doc r = let f = out-DelegatedRole r in
 
 abbrev pub delegations_doc : Delegations → DelegationsDoc
 delegations_doc d = let f = out-Delegations d in record { keys = keys_doc f.keys.entries; roles = map delegated_role_doc f.roles.items }
+
+-- the keys, each under its identifier
+abbrev pub keys_held : Delegations → List (Spelled × Key)
+keys_held d = (out-Delegations d).keys.entries
 
 -- no key and no role
 abbrev pub no_delegations : DelegationsDoc

@@ -15,3 +15,5 @@ pub mod Seeking
 pub mod Whole
 pub mod FileDigest
 pub mod FromPath
+pub mod Copying
+pub mod Update

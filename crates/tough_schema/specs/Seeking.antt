@@ -1,5 +1,5 @@
 -- What the steps of seeking a role answer: words of private clauses.
-use Rattle.std.specs.Prelude.{◌≡◌, ℕ, ◌<◌, List, [], ◌∷◌, length, slice_index_or, Option, Some, None, if◌then◌else◌}
+use Rattle.std.specs.Prelude.{◌≡◌, ℕ, ◌<◌, List, [], ◌∷◌, length, slice_index_or, Option, Some, None, option_map, if◌then◌else◌}
 use Rattle.std.specs.Str.{bytes_eq}
 use Rattle.tough_schema.specs.declared.seek.Seen.{Seen}
 use Rattle.tough_schema.specs.declared.seek.Seen.TheVariants.{Found, Missing, Undocumented}
@@ -8,6 +8,8 @@ use Rattle.tough_schema.specs.declared.seek.Place.TheVariants.{Here, Under}
 use Rattle.tough_schema.specs.Tree.{Document, Roles}
 use Rattle.tough_schema.specs.declared.delegations.DelegatedRole.{DelegatedRole}
 use Rattle.tough_schema.specs.View.{Role, view_role, view_roles, view_delegations}
+use Rattle.tough_schema.specs.Whole.{HeldDoc, RoleTree, role_tree}
+use Rattle.tough_schema.specs.Update.{role_below}
 use Rattle.tough_schema.specs.Seek.{Sought, found, missing, undocumented, undelegated, if_found, seek, seek_in, standing_in}
 
 abbrev pub seen_of : Seen → Sought
@@ -51,3 +53,18 @@ role_at (Some s) = role_of s
 pub record IsPlace (name : List ℕ) (roles : List DelegatedRole) (i : ℕ) : Type 0 where
   pub within : i < length roles
   pub role : (r : DelegatedRole) → r ≡ slice_index_or roles i r → role_of (seek name (view_roles roles)) ≡ role_at (step_at name (view_role r))
+
+-- ---- the same with all that the documents hold
+
+abbrev pub role_seen : Seen → Option RoleTree
+role_seen (Found r) = Some (role_tree r.now)
+role_seen Missing = None
+role_seen Undocumented = None
+
+abbrev pub held_step : List ℕ → Option HeldDoc → Option (Option RoleTree)
+held_step name None = Some None
+held_step name (Some h) = option_map Some (role_below name h.below)
+
+-- what a role answers, if the list isn't gone on with
+abbrev pub role_step : List ℕ → RoleTree → Option (Option RoleTree)
+role_step name r = if bytes_eq r.0.name name then Some (Some r) else held_step name r.1

@@ -1,5 +1,5 @@
 -- Targets, and which JSON is one (TUF specification 1.0, section 4.5).
-use Rattle.std.specs.Prelude.{ℕ, List, [], map, Bool, true, false, Option, Some, None, option_map, option_and_then, Result, Ok, Err, codes, if◌then◌else◌, string_bytes}
+use Rattle.std.specs.Prelude.{ℕ, List, [], ◌++◌, map, Bool, true, false, Option, Some, None, option_map, option_and_then, Result, Ok, Err, codes, if◌then◌else◌, string_bytes}
 use Rattle.std.specs.Int.NonZero.{non_zero_u64_get}
 use Rattle.std.specs.Str.{bytes_eq}
 use Rattle.std.specs.List.Sorted.{IsStrictlySortedBy}
@@ -8,12 +8,15 @@ use Rattle.serde_json.specs.Data.{Data, object, Members, no_members}
 use Rattle.serde_json.specs.Find.{as_object}
 use Rattle.serde_json.specs.View.{members_view}
 use Rattle.tough_names.specs.declared.name.NameError.{NameError}
+use Rattle.tough_names.specs.Filename.{filename_of}
 use Rattle.tough_names.specs.Named.{Named, clean, by_raw_then_resolved}
 use Rattle.tough_json.specs.Reading.{◌>>=◌, required, optional}
 use Rattle.tough_json.specs.Writing.{with, with_optional, optional_json}
 use Rattle.tough_roles.specs.Head.{Head, head_at, head_json}
 use Rattle.tough_roles.specs.Table.{table_from, table_json}
 use Rattle.tough_roles.specs.Root.{by_bytes, AreOwn}
+use Rattle.tough_roles.specs.RoleId.{RoleIdDoc, standard, delegated}
+use Rattle.tough_roles.specs.declared.role_type.RoleType.TheVariants as types
 use Rattle.tough_schema.specs.declared.target.Target.{Target}
 use Rattle.tough_schema.specs.declared.targets.Targets.{Targets, out-Targets}
 use Rattle.tough_schema.specs.declared.targets.DelegatedTargets.{DelegatedTargets, out-DelegatedTargets}
@@ -41,6 +44,17 @@ targets_doc t = let f = out-Targets t in record {
 -- the document of a delegated role, without its name
 abbrev pub delegated_doc : DelegatedTargets → TargetsDoc
 delegated_doc d = targets_doc (out-DelegatedTargets d).targets
+
+abbrev pub delegated_name : DelegatedTargets → List ℕ
+delegated_name d = string_bytes (out-DelegatedTargets d).name
+
+-- the name of a delegated role's file, without a version
+abbrev pub delegated_file : List ℕ → List ℕ
+delegated_file name = filename_of name ++ codes ".json"
+
+-- the role of the name; `targets` is the top-level one
+abbrev pub delegated_id : List ℕ → RoleIdDoc
+delegated_id name = if bytes_eq name (codes "targets") then standard types.Targets else delegated name
 
 -- one that lists nothing, and delegates to no role
 abbrev pub bare_targets : Head → TargetsDoc

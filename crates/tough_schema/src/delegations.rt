@@ -1,5 +1,6 @@
-ghost use Rattle.std.specs.Prelude.{◌≡◌};
-ghost use Rattle.tough_schema.specs.Delegations.{delegations_doc, no_delegations};
+ghost use Rattle.std.specs.Prelude.{◌≡◌, option_map};
+ghost use Rattle.tough_roles.specs.Keyring.{id_of};
+ghost use Rattle.tough_schema.specs.Delegations.{delegations_doc, no_delegations, keys_held};
 
 use crate::targets::DelegatedTargets;
 use std::alloc::Global;
@@ -8,6 +9,7 @@ use std::num::NonZeroU64;
 use tough_base::{Decoded, Hex, PathHashPrefix, PathPattern};
 use tough_keys::Key;
 use tough_roles::Signed;
+use tough_roles::keyring::key_id_in;
 
 /// The names that a delegated role may list: those that a pattern matches, or those whose digest begins with a prefix
 /// (TUF specification 1.0, section 4.5, `paths` and `path_hash_prefixes`).
@@ -35,6 +37,13 @@ impl Delegations {
             keys: BTreeMap::new(alloc),
             roles: Vec::new(alloc),
         }
+    }
+
+    /// The first identifier under which a key stands that is equal to the given one.
+    pub fn key_id(&self, key: &Key) -> Option<&Decoded<Hex>>
+        ensures { option_map (λ id. id.now) result ≡ id_of key.now (keys_held self.now) }
+    {
+        key_id_in(&self.keys, key)
     }
 }
 

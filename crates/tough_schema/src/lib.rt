@@ -1,6 +1,7 @@
 //! Signed documents, targets and delegations among them, their verification, and queries of a tree of targets.
 #![tactic(auto)]
 
+mod copy;
 mod delegations;
 mod edit;
 mod entries;
@@ -19,6 +20,7 @@ mod read_targets;
 mod seek;
 mod target;
 mod targets;
+mod update;
 mod verify;
 mod write_delegations;
 mod write_target;
@@ -30,6 +32,7 @@ pub use target::Target;
 pub use targets::{DelegatedTargets, Targets};
 pub use tough_roles::{
     DemoSign, DemoVerify, EcdsaKey, EcdsaScheme, Ed25519Key, Ed25519Scheme, Error, Hashes, Key,
-    KeyParseError, Metafile, ReadError, Role, RoleKeys, RoleType, Root, RsaKey, RsaScheme, Sign,
-    SignError, Signature, Signed, Snapshot, Timestamp, Verify, WriteError, canonical_form,
+    KeyParseError, KeysIter, Metafile, ReadError, Role, RoleId, RoleKeys, RoleType, Root, RsaKey,
+    RsaScheme, Sign, SignError, Signature, Signed, Snapshot, Timestamp, Verify, WriteError,
+    canonical_form,
 };

@@ -1,11 +1,13 @@
 //! Delegated roles by name.
 
-ghost use Rattle.std.specs.Prelude.{◌≡◌, Some, IfOk, IfErr, option_map};
+ghost use Rattle.std.specs.Prelude.{◌≡◌, Some, IfOk, IfErr, map, option_map, option_and_then};
 ghost use Rattle.tough_schema.specs.Targets.{targets_doc};
 ghost use Rattle.tough_schema.specs.Tree.{Roles};
 ghost use Rattle.tough_schema.specs.View.{view, view_role, view_roles, view_delegated, view_delegations};
 ghost use Rattle.tough_schema.specs.Seek.{found, if_found, seek, seek_in, sought, IsUnsought, HasDocument, IsUnheld, standing, standing_in, first_named, parent, IsOrphan};
-ghost use Rattle.tough_schema.specs.Seeking.{seen_of, step_at, place_of, standing_at};
+ghost use Rattle.tough_schema.specs.Seeking.{seen_of, role_seen, step_at, role_step, place_of, standing_at};
+ghost use Rattle.tough_schema.specs.Update.{role_sought, role_below, document_sought};
+ghost use Rattle.tough_schema.specs.Whole.{tree_doc, role_tree, held_doc, branches_from};
 
 use crate::delegations::{DelegatedRole, Delegations};
 use crate::targets::{DelegatedTargets, Targets};
@@ -29,7 +31,8 @@ enum Place<'a> {
 
 // A role that was found below.
 fn if_found<'a>(seen: Seen<'a>) -> Option<Seen<'a>>
-    ensures { option_map seen_of result ≡ if_found (seen_of seen.entry) }
+    ensures seen { option_map seen_of result ≡ if_found (seen_of seen.entry) }
+    ensures role { option_map role_seen result ≡ option_map Some (role_seen seen.entry) }
 {
     match seen {
         Seen::Found(role) => Some(Seen::Found(role)),
@@ -38,9 +41,11 @@ fn if_found<'a>(seen: Seen<'a>) -> Option<Seen<'a>>
     }
 }
 
+// What seeking the name comes to in a document.
 #[cycle(seek)]
-fn seek_in<'a>(document: &'a Targets, name: &str) -> Seen<'a>
-    ensures { seen_of result ≡ seek_in name.now (view document.now) }
+pub fn seek_in<'a>(document: &'a Targets, name: &str) -> Seen<'a>
+    ensures seen { seen_of result ≡ seek_in name.now (view document.now) }
+    ensures role { role_seen result ≡ role_below name.now (tree_doc document.now) }
 {
     match &document.delegations {
         None => Seen::Missing,
@@ -50,7 +55,8 @@ fn seek_in<'a>(document: &'a Targets, name: &str) -> Seen<'a>
 
 #[cycle(seek)]
 fn seek_among<'a>(roles: &'a [DelegatedRole], name: &str) -> Seen<'a>
-    ensures { seen_of result ≡ seek name.now (view_roles roles.now) }
+    ensures seen { seen_of result ≡ seek name.now (view_roles roles.now) }
+    ensures role { role_seen result ≡ role_sought name.now (branches_from (map role_tree roles.now)) }
 {
     for role in roles {
         match seek_at(role, name) {
@@ -63,7 +69,8 @@ fn seek_among<'a>(roles: &'a [DelegatedRole], name: &str) -> Seen<'a>
 
 #[cycle(seek)]
 pub fn seek_at<'a>(role: &'a DelegatedRole, name: &str) -> Option<Seen<'a>>
-    ensures { option_map seen_of result ≡ step_at name.now (view_role role.now) }
+    ensures seen { option_map seen_of result ≡ step_at name.now (view_role role.now) }
+    ensures role { option_map role_seen result ≡ role_step name.now (role_tree role.now) }
 {
     if role.name.as_str() == name {
         return Some(Seen::Found(role));

@@ -1,23 +1,26 @@
-ghost use Rattle.std.specs.Prelude.{◌≡◌, Some, None, string_bytes};
+ghost use Rattle.std.specs.Prelude.{◌≡◌, ◌++◌, codes, Some, None, string_bytes};
 ghost use Rattle.std.proofs.Common.{rules};
 ghost use Rattle.std.specs.Int.NonZero.{non_zero_u64_get};
 ghost use Rattle.tough_json.specs.Results.{ReadsBytes};
+ghost use Rattle.tough_roles.specs.Names.{file_name};
+ghost use Rattle.tough_roles.specs.RoleId.{standard};
 ghost use Rattle.tough_roles.specs.declared.role_type.RoleType.TheVariants as types;
-ghost use Rattle.tough_schema.specs.Targets.{targets_doc, delegated_doc, targets_at, targets_json, bare_targets, IsKept};
+ghost use Rattle.tough_schema.specs.Targets.{targets_doc, delegated_doc, delegated_name, delegated_file, delegated_id, targets_at, targets_json, bare_targets, IsKept};
 
 use crate::delegations::Delegations;
 use crate::read_targets::targets_of;
 use crate::target::Target;
 use crate::write_targets::{targets_text, targets_value};
 use serde_json::{Map, Value};
-use std::alloc::Global;
+use std::alloc::{AllocError, Global};
 use std::collections::BTreeMap;
 use std::num::NonZeroU64;
-use tough_base::TargetName;
+use tough_base::{TargetName, encode_filename};
 use tough_json::error::{ReadError, WriteError};
 use tough_json::text::value_of;
 use tough_json::{Form, PieceError};
-use tough_roles::{Role, RoleType};
+use tough_roles::names::file_name;
+use tough_roles::{Role, RoleId, RoleType};
 
 /// Which targets there are, and who else may list some (TUF specification 1.0, section 4.5).
 #[derive(Drop)]
@@ -85,6 +88,10 @@ impl Role for Targets {
 
     ghost is_kept = { λ x. IsKept (targets_doc x).delegations };
 
+    ghost file = { λ x consistent. file_name consistent (targets_doc x).head.version (codes "targets.json") };
+
+    ghost id = { λ x. standard types.Targets };
+
     fn from_value(alloc: Global, value: Value) -> Result<Targets, ReadError> {
         let targets = targets_of(alloc, value)?;
         Ok(targets)
@@ -108,6 +115,14 @@ impl Role for Targets {
         self.expires
     }
 
+    fn filename(&self, alloc: Global, consistent_snapshot: bool) -> Result<String, AllocError> {
+        file_name(alloc, consistent_snapshot, self.version, "targets.json")
+    }
+
+    fn role_id(&self) -> Result<RoleId, AllocError> {
+        Ok(RoleId::StandardRole(RoleType::Targets))
+    }
+
     ghost apart = { Prim.search rules };
 }
 
@@ -125,6 +140,10 @@ impl Role for DelegatedTargets {
     ghost json = { λ x. targets_json (delegated_doc x) };
 
     ghost is_kept = { λ x. IsKept (delegated_doc x).delegations };
+
+    ghost file = { λ x consistent. file_name consistent (delegated_doc x).head.version (delegated_file (delegated_name x)) };
+
+    ghost id = { λ x. delegated_id (delegated_name x) };
 
     fn from_value(alloc: Global, value: Value) -> Result<DelegatedTargets, ReadError> {
         let targets = targets_of(alloc, value)?;
@@ -150,6 +169,25 @@ impl Role for DelegatedTargets {
 
     fn expires(&self) -> jiff::Timestamp {
         self.targets.expires
+    }
+
+    fn filename(&self, alloc: Global, consistent_snapshot: bool) -> Result<String, AllocError> {
+        let mut name = encode_filename(alloc, self.name.as_str())?;
+        name.push_str(".json")?;
+        file_name(
+            alloc,
+            consistent_snapshot,
+            self.targets.version,
+            name.as_str(),
+        )
+    }
+
+    // The role that is named `targets` is the top-level one.
+    fn role_id(&self) -> Result<RoleId, AllocError> {
+        if self.name.as_str() == "targets" {
+            return Ok(RoleId::StandardRole(RoleType::Targets));
+        }
+        Ok(RoleId::DelegatedRole(self.name.clone()?))
     }
 
     ghost apart = { Prim.search rules };

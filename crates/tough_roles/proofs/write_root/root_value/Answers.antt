@@ -1,10 +1,9 @@
-use Rattle.std.proofs.Common.{◌≡◌, List, ℕ, Some, codes, string_bytes, sym, ap, subst, ◌∙◌, rules}
+use Rattle.std.proofs.Common.{◌≡◌, List, ℕ, Some, codes, string_bytes, sym, ap, ◌∙◌, rules}
 use Rattle.std.specs.NonZero.{non_zero_u64_get}
-use Rattle.serde_json.specs.Data.{Members}
 use Rattle.serde_json.specs.View.{members_view}
 use Rattle.serde_json.proofs.Views.{view-Object}
 use Rattle.tough_json.specs.Writing.{with}
-use Rattle.tough_roles.specs.Head.{Head, head_json}
+use Rattle.tough_roles.specs.Head.{head_json}
 use Rattle.tough_roles.specs.Root.{root_doc, tables_json}
 use Rattle.tough_roles.proofs.TableLemmas.{root_json-is}
 use Rattle.tough_roles.proofs.write_root.root_value.Goals as goal

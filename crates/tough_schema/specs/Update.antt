@@ -1,0 +1,57 @@
+-- The documents of roles that are taken over from an older tree (TUF specification 1.0, section 4.5).
+use Rattle.std.specs.Prelude.{ℕ, List, [], ◌∷◌, map, Option, Some, None, is_none, option_and_then, if◌then◌else◌}
+use Rattle.std.specs.Option.{option_or}
+use Rattle.std.specs.Str.{bytes_eq}
+use Rattle.tough_schema.specs.Tree.{Entry}
+use Rattle.tough_schema.specs.Whole.{TreeDoc, tree, Branches, no_branches, unloaded, loaded, HeldDoc, RoleTree, put_branch, entries_in}
+
+-- The role that `delegated_role` answers, with its document. The roles of a list are taken in order. One of the name is
+-- the answer, else the role that is found below it. One of another name that has no document ends the search.
+abbrev mutual
+  pub role_sought : List ℕ → Branches → Option RoleTree
+  role_sought name no_branches = None
+  role_sought name (unloaded e bs) = if bytes_eq e.name name then Some (e, None) else None
+  role_sought name (loaded e n signatures t bs) =
+      if bytes_eq e.name name then Some (e, Some (record { name = n; signatures = signatures; below = t }))
+      else option_or (role_below name t) (role_sought name bs)
+
+  pub role_below : List ℕ → TreeDoc → Option RoleTree
+  role_below name (tree o bs) = role_sought name bs
+
+-- the document of that role, if there is one
+abbrev pub document_sought : List ℕ → TreeDoc → Option HeldDoc
+document_sought name old = option_and_then (λ r. r.1) (role_below name old)
+
+-- the role with that document, or else as it is
+abbrev pub given : RoleTree → Option HeldDoc → RoleTree
+given r None = r
+given r (Some h) = (r.0, Some h)
+
+-- each role of the list with the document that the old tree has for its name, where there is one
+abbrev pub updated_in : TreeDoc → Branches → Branches
+updated_in old no_branches = no_branches
+updated_in old (unloaded e bs) = put_branch (given (e, None) (document_sought e.name old)) (updated_in old bs)
+updated_in old (loaded e n signatures t bs) =
+    put_branch (given (e, Some (record { name = n; signatures = signatures; below = t })) (document_sought e.name old)) (updated_in old bs)
+
+-- the same of the new document's list; all else as it is
+abbrev pub updated : TreeDoc → TreeDoc → TreeDoc
+updated old (tree o bs) = tree o (updated_in old bs)
+
+abbrev pub listed_roles : TreeDoc → List Entry
+listed_roles (tree o bs) = entries_in bs
+
+-- the names of the roles for which the old tree has none
+abbrev pub needed : TreeDoc → List Entry → List (List ℕ)
+needed old [] = []
+needed old (e ∷ es) = if is_none (document_sought e.name old) then e.name ∷ needed old es else needed old es
+
+-- ---- words of private clauses
+
+abbrev pub documents_for : TreeDoc → List RoleTree → List (Option HeldDoc)
+documents_for old rs = map (λ r. document_sought r.0.name old) rs
+
+abbrev pub all_given : List RoleTree → List (Option HeldDoc) → List RoleTree
+all_given [] hs = []
+all_given (r ∷ rs) [] = r ∷ all_given rs []
+all_given (r ∷ rs) (h ∷ hs) = given r h ∷ all_given rs hs

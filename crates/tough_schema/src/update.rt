@@ -1,0 +1,122 @@
+//! The documents of roles that are taken over from an older tree.
+
+ghost use Rattle.std.specs.Prelude.{◌≡◌, IfOk, OnOk, OnErr, map, option_map, string_bytes};
+ghost use Rattle.tough_schema.specs.Whole.{tree_doc, role_tree, held_doc};
+ghost use Rattle.tough_schema.specs.Update.{document_sought, documents_for, given, all_given, updated, listed_roles, needed};
+
+use crate::copy::copy_held;
+use crate::delegations::DelegatedRole;
+use crate::seek::{Seen, seek_in};
+use crate::targets::{DelegatedTargets, Targets};
+use std::alloc::{AllocError, Global};
+use tough_roles::Signed;
+
+// The document of the role that `delegated_role` answers, if that has one.
+fn document_of<'a>(targets: &'a Targets, name: &str) -> Option<&'a Signed<DelegatedTargets>>
+    ensures { option_map (λ s. held_doc s.now) result ≡ document_sought name.now (tree_doc targets.now) }
+{
+    let Seen::Found(role) = seek_in(targets, name) else {
+        return None;
+    };
+    match &role.targets {
+        Some(document) => Some(document),
+        None => None,
+    }
+}
+
+// A copy of that document.
+fn copy_of(old: &Targets, name: &str) -> Result<Option<Signed<DelegatedTargets>>, AllocError>
+    ensures { IfOk result (λ o. option_map held_doc o ≡ document_sought name.now (tree_doc old.now)) }
+{
+    match document_of(old, name) {
+        Some(document) => Ok(Some(copy_held(document)?)),
+        None => Ok(None),
+    }
+}
+
+// A copy of the document for each role.
+fn copies_for(
+    alloc: Global,
+    old: &Targets,
+    roles: &[DelegatedRole],
+) -> Result<Vec<Option<Signed<DelegatedTargets>>>, AllocError>
+    ensures { IfOk result (λ v. map (option_map held_doc) v.items ≡ documents_for (tree_doc old.now) (map role_tree roles.now)) }
+{
+    let mut copies = Vec::new(alloc);
+    for role in roles {
+        let copy = copy_of(old, role.name.as_str())?;
+        copies.push(copy)?;
+    }
+    Ok(copies)
+}
+
+// The names of the roles for which there is none.
+fn names_without(
+    alloc: Global,
+    old: &Targets,
+    roles: &[DelegatedRole],
+) -> Result<Vec<String>, AllocError>
+    ensures { IfOk result (λ v. map string_bytes v.items ≡ needed (tree_doc old.now) (map (λ r. (role_tree r).0) roles.now)) }
+{
+    let mut names = Vec::new(alloc);
+    for role in roles {
+        if document_of(old, role.name.as_str()).is_none() {
+            names.push(role.name.clone()?)?;
+        }
+    }
+    Ok(names)
+}
+
+// The role gets the document, if there is one.
+fn give_to(role: &mut DelegatedRole, document: Option<Signed<DelegatedTargets>>)
+    ensures { role_tree role.new ≡ given (role_tree role.old) (option_map held_doc document) }
+{
+    if let Some(document) = document {
+        role.targets = Some(document);
+    }
+}
+
+// Each role gets the document at its place, if there is one.
+fn give(roles: &mut [DelegatedRole], documents: Vec<Option<Signed<DelegatedTargets>>>)
+    ensures { map role_tree roles.new ≡ all_given (map role_tree roles.old) (map (option_map held_doc) documents.items) }
+{
+    let mut left = documents.into_iter();
+    for role in roles.iter_mut() {
+        if let Some(document) = left.next() {
+            give_to(role, document);
+        }
+    }
+}
+
+// Takes the documents over, and gives the names of the roles that got none.
+fn renew(alloc: Global, old: &Targets, new: &mut Targets) -> Result<Vec<String>, AllocError>
+    ensures ok { OnOk result (tree_doc new.new ≡ updated (tree_doc old.now) (tree_doc new.old)) }
+    ensures names { IfOk result (λ v. map string_bytes v.items ≡ needed (tree_doc old.now) (listed_roles (tree_doc new.old))) }
+    ensures refused { OnErr result (tree_doc new.new ≡ tree_doc new.old) }
+{
+    let Some(delegations) = &mut new.delegations else {
+        return Ok(Vec::new(alloc));
+    };
+    let documents = copies_for(alloc, old, &delegations.roles)?;
+    let names = names_without(alloc, old, &delegations.roles)?;
+    give(&mut delegations.roles, documents);
+    Ok(names)
+}
+
+impl Targets {
+    /// Gives each role that the new document lists a copy of the document of the role that `delegated_role` answers by
+    /// its name, where there is one. What comes back are the names of the others, in their order. Where there is no
+    /// memory, nothing is changed.
+    pub fn update_targets(
+        &self,
+        alloc: Global,
+        new_targets: &mut Signed<Targets>,
+    ) -> Result<Vec<String>, AllocError>
+        ensures updated { OnOk result (tree_doc new_targets.new.signed ≡ updated (tree_doc self.now) (tree_doc new_targets.old.signed)) }
+        ensures needed { IfOk result (λ v. map string_bytes v.items ≡ needed (tree_doc self.now) (listed_roles (tree_doc new_targets.old.signed))) }
+        ensures refused { OnErr result (tree_doc new_targets.new.signed ≡ tree_doc new_targets.old.signed) }
+        ensures signatures { new_targets.new.signatures ≡ new_targets.old.signatures }
+    {
+        renew(alloc, self, &mut new_targets.signed)
+    }
+}
