@@ -49,10 +49,9 @@ pub trait Role {
 
     /// The text of the role's JSON, written in pieces, so that no value of the whole is made. `Refused` where the role
     /// isn't written so: the text of `to_value` decides then.
-    fn text_in_pieces(&self, _alloc: Global, form: Form) -> Result<Vec<u8>, PieceError>
+    fn text_in_pieces(&self, alloc: Global, form: Form) -> Result<Vec<u8>, PieceError>
         ensures { IfOk result (λ t. option_and_then (text_in form) (json self.now) ≡ Some t.items) }
     {
-        let _whole = form;
         Err(PieceError::Refused)
     }
 

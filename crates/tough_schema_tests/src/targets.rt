@@ -1,7 +1,10 @@
 use crate::search::with_documents;
 use std::test::Fail;
 use tough_base::TargetName;
-use tough_schema::{DelegatedTargets, DemoVerify, Error, ReadError, Role, Signed, Targets};
+use tough_json::Form;
+use tough_schema::{
+    DelegatedTargets, DemoVerify, Error, ReadError, Role, Signed, Targets, canonical_form,
+};
 
 // A document with everything in it, and what is written for it.
 const FULL: &str =
@@ -127,5 +130,30 @@ fn stops_at_a_terminating_role(rt: HostRuntime) -> Result<(), Fail> {
     };
     assert_eq!(rt; target.length, 2);
     assert_eq!(rt; outcome(targets.validate(rt.alloc())), "Ok");
+    Ok(())
+}
+
+// The text that is signed and the one that is stored are the same here: ASCII, with no control character.
+#[test]
+fn writes_target_by_target(rt: HostRuntime) -> Result<(), Fail> {
+    let targets = Targets::read(rt.alloc(), FULL.as_bytes())?;
+    let text = targets.text_in_pieces(rt.alloc(), Form::Canonical)?;
+    assert_eq!(rt; text.as_slice(), WRITTEN.as_bytes());
+    let text = targets.text_in_pieces(rt.alloc(), Form::Compact)?;
+    assert_eq!(rt; text.as_slice(), WRITTEN.as_bytes());
+    Ok(())
+}
+
+// The name is e and U+0301, and U+00E9 in the canonical text.
+#[test]
+fn composes_names(rt: HostRuntime) -> Result<(), Fail> {
+    let document =
+        "{\"spec_version\":\"1\",\"version\":1,\"expires\":\"2030-01-01T00:00:00Z\",\"targets\":{\"e\\u0301\":{\"length\":1,\"hashes\":{\"sha256\":\"00\"}}}}";
+    let targets = Targets::read(rt.alloc(), document.as_bytes())?;
+    let text = canonical_form(rt.alloc(), &targets)?;
+    assert_eq!(rt;
+        text.as_slice(),
+        b"{\"_type\":\"targets\",\"expires\":\"2030-01-01T00:00:00Z\",\"spec_version\":\"1\",\"targets\":{\"\xc3\xa9\":{\"hashes\":{\"sha256\":\"00\"},\"length\":1}},\"version\":1}".as_slice()
+    );
     Ok(())
 }
