@@ -17,7 +17,7 @@ use tough_json::error::{ReadError, WriteError};
 use tough_json::text::{bytes_of, value_of};
 
 /// A role with its signatures.
-#[derive(Drop)]
+#[derive(Drop, PartialEq)]
 pub struct Signed<T> {
     pub signed: T,
     pub signatures: Vec<Signature>,
