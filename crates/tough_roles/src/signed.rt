@@ -20,7 +20,7 @@ use tough_json::text::{bytes_of, value_of};
 use tough_json::{Form, PieceError};
 
 /// A role with its signatures.
-#[derive(Drop)]
+#[derive(Drop, PartialEq)]
 pub struct Signed<T> {
     pub signed: T,
     pub signatures: Vec<Signature>,

@@ -1,9 +1,12 @@
 -- The documents of roles that are taken over from an older tree (TUF specification 1.0, section 4.5).
-use Rattle.std.specs.Prelude.{ℕ, List, [], ◌∷◌, map, Option, Some, None, is_none, option_and_then, if◌then◌else◌}
+use Rattle.std.specs.Prelude.{ℕ, List, [], ◌∷◌, ◌++◌, map, Option, Some, None, is_none, option_and_then, if◌then◌else◌}
 use Rattle.std.specs.Option.{option_or}
 use Rattle.std.specs.Str.{bytes_eq}
 use Rattle.tough_schema.specs.Tree.{Entry}
 use Rattle.tough_schema.specs.Whole.{TreeDoc, tree, Branches, no_branches, unloaded, loaded, HeldDoc, RoleTree, put_branch, entries_in}
+use Rattle.tough_schema.specs.declared.delegations.DelegatedRole.{DelegatedRole}
+use Rattle.tough_schema.specs.declared.delegations.Delegations.{Delegations, out-Delegations}
+use Rattle.tough_schema.specs.declared.targets.Targets.{Targets, out-Targets}
 
 -- The role that `delegated_role` answers, with its document. The roles of a list are taken in order. One of the name is
 -- the answer, else the role that is found below it. One of another name that has no document ends the search.
@@ -41,10 +44,13 @@ updated old (tree o bs) = tree o (updated_in old bs)
 abbrev pub listed_roles : TreeDoc → List Entry
 listed_roles (tree o bs) = entries_in bs
 
+abbrev pub needed_at : TreeDoc → Entry → List (List ℕ)
+needed_at old e = if is_none (document_sought e.name old) then e.name ∷ [] else []
+
 -- the names of the roles for which the old tree has none
 abbrev pub needed : TreeDoc → List Entry → List (List ℕ)
 needed old [] = []
-needed old (e ∷ es) = if is_none (document_sought e.name old) then e.name ∷ needed old es else needed old es
+needed old (e ∷ es) = needed_at old e ++ needed old es
 
 -- ---- words of private clauses
 
@@ -55,3 +61,20 @@ abbrev pub all_given : List RoleTree → List (Option HeldDoc) → List RoleTree
 all_given [] hs = []
 all_given (r ∷ rs) [] = r ∷ all_given rs []
 all_given (r ∷ rs) (h ∷ hs) = given r h ∷ all_given rs hs
+
+abbrev pub roles_at : Option Delegations → List DelegatedRole
+roles_at None = []
+roles_at (Some g) = (out-Delegations g).roles.items
+
+abbrev pub roles_within : Targets → List DelegatedRole
+roles_within t = roles_at (out-Targets t).delegations
+
+-- each role of a list with the document at its place, if there is one
+abbrev pub all_with : List (Option HeldDoc) → Branches → Branches
+all_with [] bs = bs
+all_with (h ∷ hs) no_branches = no_branches
+all_with (h ∷ hs) (unloaded e bs) = put_branch (given (e, None) h) (all_with hs bs)
+all_with (h ∷ hs) (loaded e n signatures t bs) = put_branch (given (e, Some (record { name = n; signatures = signatures; below = t })) h) (all_with hs bs)
+
+abbrev pub with_documents : List (Option HeldDoc) → TreeDoc → TreeDoc
+with_documents hs (tree o bs) = tree o (all_with hs bs)

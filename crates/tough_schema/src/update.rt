@@ -1,8 +1,8 @@
 //! The documents of roles that are taken over from an older tree.
 
-ghost use Rattle.std.specs.Prelude.{◌≡◌, IfOk, OnOk, OnErr, map, option_map, string_bytes};
+ghost use Rattle.std.specs.Prelude.{◌≡◌, ◌++◌, IfOk, OnOk, OnErr, map, option_map, string_bytes};
 ghost use Rattle.tough_schema.specs.Whole.{tree_doc, role_tree, held_doc};
-ghost use Rattle.tough_schema.specs.Update.{document_sought, documents_for, given, all_given, updated, listed_roles, needed};
+ghost use Rattle.tough_schema.specs.Update.{document_sought, documents_for, given, all_given, updated, listed_roles, needed, needed_at, roles_within, with_documents};
 
 use crate::copy::copy_held;
 use crate::delegations::DelegatedRole;
@@ -50,6 +50,20 @@ fn copies_for(
     Ok(copies)
 }
 
+// Adds the role's name, if there is none.
+fn add_needed(
+    old: &Targets,
+    role: &DelegatedRole,
+    names: &mut Vec<String>,
+) -> Result<(), AllocError>
+    ensures { OnOk result (map string_bytes names.new.items ≡ map string_bytes names.old.items ++ needed_at (tree_doc old.now) (role_tree role.now).0) }
+{
+    if document_of(old, role.name.as_str()).is_none() {
+        names.push(role.name.clone()?)?;
+    }
+    Ok(())
+}
+
 // The names of the roles for which there is none.
 fn names_without(
     alloc: Global,
@@ -60,9 +74,7 @@ fn names_without(
 {
     let mut names = Vec::new(alloc);
     for role in roles {
-        if document_of(old, role.name.as_str()).is_none() {
-            names.push(role.name.clone()?)?;
-        }
+        add_needed(old, role, &mut names)?;
     }
     Ok(names)
 }
@@ -88,19 +100,23 @@ fn give(roles: &mut [DelegatedRole], documents: Vec<Option<Signed<DelegatedTarge
     }
 }
 
-// Takes the documents over, and gives the names of the roles that got none.
-fn renew(alloc: Global, old: &Targets, new: &mut Targets) -> Result<Vec<String>, AllocError>
-    ensures ok { OnOk result (tree_doc new.new ≡ updated (tree_doc old.now) (tree_doc new.old)) }
-    ensures names { IfOk result (λ v. map string_bytes v.items ≡ needed (tree_doc old.now) (listed_roles (tree_doc new.old))) }
-    ensures refused { OnErr result (tree_doc new.new ≡ tree_doc new.old) }
+// The roles that a document lists.
+fn roles_of(document: &Targets) -> &[DelegatedRole]
+    ensures { result.now ≡ roles_within document.now }
 {
-    let Some(delegations) = &mut new.delegations else {
-        return Ok(Vec::new(alloc));
-    };
-    let documents = copies_for(alloc, old, &delegations.roles)?;
-    let names = names_without(alloc, old, &delegations.roles)?;
-    give(&mut delegations.roles, documents);
-    Ok(names)
+    match &document.delegations {
+        Some(delegations) => &delegations.roles,
+        None => &[],
+    }
+}
+
+// Each role that a document lists gets the document at its place, if there is one.
+fn give_below(document: &mut Targets, documents: Vec<Option<Signed<DelegatedTargets>>>)
+    ensures { tree_doc document.new ≡ with_documents (map (option_map held_doc) documents.items) (tree_doc document.old) }
+{
+    if let Some(delegations) = &mut document.delegations {
+        give(&mut delegations.roles, documents);
+    }
 }
 
 impl Targets {
@@ -117,6 +133,10 @@ impl Targets {
         ensures refused { OnErr result (tree_doc new_targets.new.signed ≡ tree_doc new_targets.old.signed) }
         ensures signatures { new_targets.new.signatures ≡ new_targets.old.signatures }
     {
-        renew(alloc, self, &mut new_targets.signed)
+        let roles = roles_of(&new_targets.signed);
+        let documents = copies_for(alloc, self, roles)?;
+        let names = names_without(alloc, self, roles)?;
+        give_below(&mut new_targets.signed, documents);
+        Ok(names)
     }
 }

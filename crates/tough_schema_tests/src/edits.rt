@@ -3,7 +3,7 @@ use crate::targets::outcome;
 use std::alloc::Global;
 use std::test::Fail;
 use tough_base::TargetName;
-use tough_schema::{DelegatedTargets, PathSet, Signed, Target, Targets};
+use tough_schema::{DelegatedTargets, PathSet, Role, RoleId, RoleType, Signed, Target, Targets};
 
 // Targets that delegate to A, and A's document, which delegates to B, and B's.
 const TOP: &str =
@@ -14,6 +14,10 @@ const A: &str =
 
 const B: &str =
     "{\"spec_version\":\"1\",\"version\":3,\"expires\":\"2030-01-01T00:00:00Z\",\"targets\":{\"z\":{\"length\":3,\"hashes\":{\"sha256\":\"00\"}}}}";
+
+// The next version of the targets: B stands in their own list, Z is new.
+const NEXT: &str =
+    "{\"spec_version\":\"1\",\"version\":4,\"expires\":\"2030-01-01T00:00:00Z\",\"targets\":{},\"delegations\":{\"keys\":{},\"roles\":[{\"name\":\"B\",\"keyids\":[],\"threshold\":1,\"terminating\":false,\"paths\":[\"*\"]},{\"name\":\"Z\",\"keyids\":[],\"threshold\":1,\"terminating\":false,\"paths\":[\"*\"]},{\"name\":\"A\",\"keyids\":[],\"threshold\":1,\"terminating\":false,\"paths\":[\"*\"]}]}}";
 
 fn tree(alloc: Global) -> Result<Targets, Fail> {
     let mut made: Vec<Targets> = Vec::new(alloc);
@@ -90,5 +94,54 @@ fn names_signed_targets(rt: HostRuntime) -> Result<(), Fail> {
     let (name, signed) = DelegatedTargets::unnamed(named);
     assert_eq!(rt; name.as_str(), "D");
     assert_eq!(rt; signed.signed.version.get(), 1);
+    Ok(())
+}
+
+#[test]
+fn takes_documents_over(rt: HostRuntime) -> Result<(), Fail> {
+    let old = tree(rt.alloc())?;
+    let mut new = Signed {
+        signed: Targets::read(rt.alloc(), NEXT.as_bytes())?,
+        signatures: Vec::new(rt.alloc()),
+    };
+    let needed = old.update_targets(rt.alloc(), &mut new)?;
+    assert_eq!(rt; needed.as_slice().join(rt.alloc(), ",")?.as_str(), "Z");
+    let documents = new.signed.signed_delegated_targets(rt.alloc())?;
+    let mut names = Vec::new(rt.alloc());
+    for document in &documents {
+        names.push(document.signed.name.as_str())?;
+    }
+    assert_eq!(rt; names.as_slice().join(rt.alloc(), ",")?.as_str(), "B,A,B");
+    assert_eq!(rt; old.signed_delegated_targets(rt.alloc())?.len(), 2);
+    Ok(())
+}
+
+#[test]
+fn names_files(rt: HostRuntime) -> Result<(), Fail> {
+    let targets = Targets::read(rt.alloc(), NEXT.as_bytes())?;
+    assert_eq!(rt;
+        targets.filename(rt.alloc(), true)?.as_str(),
+        "4.targets.json"
+    );
+    assert_eq!(rt;
+        targets.filename(rt.alloc(), false)?.as_str(),
+        "targets.json"
+    );
+    let name = String::from_str(rt.alloc(), "../a")?;
+    let delegated = DelegatedTargets { name, targets };
+    assert_eq!(rt;
+        delegated.filename(rt.alloc(), true)?.as_str(),
+        "4...%2Fa.json"
+    );
+    assert_eq!(rt;
+        delegated.filename(rt.alloc(), false)?.as_str(),
+        "..%2Fa.json"
+    );
+    assert!(rt; matches!(delegated.role_id()?, RoleId::DelegatedRole(_)));
+    let DelegatedTargets { name: _, targets } = delegated;
+    let name = String::from_str(rt.alloc(), "targets")?;
+    let delegated = DelegatedTargets { name, targets };
+    let id = RoleId::StandardRole(RoleType::Targets);
+    assert!(rt; delegated.role_id()? == id);
     Ok(())
 }

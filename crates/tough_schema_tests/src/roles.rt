@@ -1,7 +1,9 @@
 use std::alloc::Global;
 use std::num::NonZeroU64;
 use std::test::Fail;
-use tough_roles::{DemoVerify, Error, ReadError, Role, RoleType, Root, Signed, Timestamp};
+use tough_roles::{
+    DemoVerify, Error, ReadError, Role, RoleId, RoleType, Root, Signed, Snapshot, Timestamp,
+};
 
 // A root with one key, signed by the demonstration scheme: the original's.
 const ROOT: &str =
@@ -268,5 +270,64 @@ fn names_roles(rt: HostRuntime) -> Result<(), Fail> {
             Err(ReadError::Shape(_))
         )
     );
+    Ok(())
+}
+
+fn root(alloc: Global) -> Result<Signed<Root>, ReadError> {
+    Signed::read(alloc, ROOT.as_bytes())
+}
+
+#[test]
+fn names_files(rt: HostRuntime) -> Result<(), Fail> {
+    let root = root(rt.alloc())?;
+    assert_eq!(rt;
+        root.signed.filename(rt.alloc(), true)?.as_str(),
+        "1.root.json"
+    );
+    assert_eq!(rt;
+        root.signed.filename(rt.alloc(), false)?.as_str(),
+        "1.root.json"
+    );
+    assert!(rt; root.signed.role_id()? == RoleId::StandardRole(RoleType::Root));
+    Ok(())
+}
+
+#[test]
+fn names_files_by_version(rt: HostRuntime) -> Result<(), Fail> {
+    let name = String::from_str(rt.alloc(), "1.0.0")?;
+    let version = NonZeroU64::new(12).unwrap_or(NonZeroU64::MIN);
+    let snapshot = Snapshot::new(rt.alloc(), name, version, jiff::Timestamp::MIN);
+    assert_eq!(rt;
+        snapshot.filename(rt.alloc(), true)?.as_str(),
+        "12.snapshot.json"
+    );
+    assert_eq!(rt;
+        snapshot.filename(rt.alloc(), false)?.as_str(),
+        "snapshot.json"
+    );
+    Ok(())
+}
+
+#[test]
+fn gives_the_keys_of_a_role(rt: HostRuntime) -> Result<(), Fail> {
+    let mut root = root(rt.alloc())?;
+    assert_eq!(rt; root.signed.keys(RoleType::Root).count(), 1);
+    assert_eq!(rt; root.signed.keys(RoleType::DelegatedTargets).count(), 0);
+    for key in root.signed.keys(RoleType::Root) {
+        let id = root.signed.key_id(key).ok_or("it has no identifier")?;
+        assert!(rt; id.as_str().starts_with("4c302f8a"));
+    }
+    root.signed.keys.clear();
+    assert_eq!(rt; root.signed.keys(RoleType::Root).count(), 0);
+    Ok(())
+}
+
+#[test]
+fn copies_are_equal(rt: HostRuntime) -> Result<(), Fail> {
+    let root = root(rt.alloc())?;
+    let mut copy = root.clone()?;
+    assert!(rt; copy == root);
+    copy.signed.consistent_snapshot = true;
+    assert!(rt; copy != root);
     Ok(())
 }
