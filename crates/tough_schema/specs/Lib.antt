@@ -17,3 +17,4 @@ pub mod FileDigest
 pub mod FromPath
 pub mod Copying
 pub mod Update
+pub mod Falling

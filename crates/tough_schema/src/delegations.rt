@@ -1,7 +1,9 @@
-ghost use Rattle.std.specs.Prelude.{◌≡◌, option_map};
+ghost use Rattle.std.specs.Prelude.{◌≡◌, ◌<◌, option_map};
 ghost use Rattle.tough_roles.specs.Keyring.{id_of};
 ghost use Rattle.tough_schema.specs.Delegations.{delegations_doc, no_delegations, keys_held};
+ghost use Rattle.tough_schema.specs.Falling.{depth_of, deepest};
 
+use crate::fall::{joined, roles_below};
 use crate::targets::DelegatedTargets;
 use std::alloc::Global;
 use std::collections::BTreeMap;
@@ -13,7 +15,7 @@ use tough_roles::keyring::key_id_in;
 
 /// The names that a delegated role may list: those that a pattern matches, or those whose digest begins with a prefix
 /// (TUF specification 1.0, section 4.5, `paths` and `path_hash_prefixes`).
-#[derive(Drop)]
+#[derive(Drop, PartialEq)]
 pub enum PathSet {
     Paths(Vec<PathPattern>),
     PathHashPrefixes(Vec<PathHashPrefix>),
@@ -21,7 +23,7 @@ pub enum PathSet {
 
 /// The roles that a document delegates to, in their order, and their keys (TUF specification 1.0, section 4.5,
 /// `delegations`).
-#[derive(Drop)]
+#[derive(PartialEq)]
 #[cycle(tree)]
 pub struct Delegations {
     pub keys: BTreeMap<Decoded<Hex>, Key>,
@@ -47,8 +49,37 @@ impl Delegations {
     }
 }
 
+impl Delegations {
+    /// The roles; the keys are dropped.
+    pub(crate) fn into_roles(self) -> Vec<DelegatedRole>
+        ensures { deepest result.items < depth_of self }
+    {
+        let Delegations { keys: _, roles } = self;
+        roles
+    }
+}
+
+impl Drop for Delegations {
+    /// Takes one role after another, with those below it in the place of it. Where there is no memory to keep them, they
+    /// are dropped before the others.
+    #[cycle(fall)]
+    fn drop(self) {
+        let mut left = self.into_roles();
+        for _ in 0..u64::MAX {
+            let Some(role) = left.pop() else {
+                return;
+            };
+            if let Some(below) = roles_below(role) {
+                let (more, over) = joined(left, below);
+                left = more;
+                drop(over);
+            }
+        }
+    }
+}
+
 /// A delegated role, and its document where it was loaded; the document is no member of the JSON.
-#[derive(Drop)]
+#[derive(Drop, PartialEq)]
 #[cycle(tree)]
 pub struct DelegatedRole {
     pub name: String,

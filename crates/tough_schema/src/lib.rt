@@ -5,6 +5,7 @@ mod copy;
 mod delegations;
 mod edit;
 mod entries;
+mod fall;
 mod file_digest;
 mod find;
 mod from_path;

@@ -100,6 +100,7 @@ fn names_signed_targets(rt: HostRuntime) -> Result<(), Fail> {
 #[test]
 fn takes_documents_over(rt: HostRuntime) -> Result<(), Fail> {
     let old = tree(rt.alloc())?;
+    assert!(rt; old.clone()? == old);
     let mut new = Signed {
         signed: Targets::read(rt.alloc(), NEXT.as_bytes())?,
         signatures: Vec::new(rt.alloc()),
@@ -143,5 +144,17 @@ fn names_files(rt: HostRuntime) -> Result<(), Fail> {
     let delegated = DelegatedTargets { name, targets };
     let id = RoleId::StandardRole(RoleType::Targets);
     assert!(rt; delegated.role_id()? == id);
+    Ok(())
+}
+
+#[test]
+fn drops_a_long_chain(rt: HostRuntime) -> Result<(), Fail> {
+    let mut made: Vec<Targets> = Vec::new(rt.alloc());
+    made.push(Targets::read(rt.alloc(), B.as_bytes())?)?;
+    for _ in 0..20_000 {
+        let above = with_documents(rt.alloc(), "1", TOP, &mut made)?;
+        made.push(above)?;
+    }
+    assert_eq!(rt; made.len(), 1);
     Ok(())
 }
