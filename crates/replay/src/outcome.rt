@@ -100,6 +100,7 @@ fn unverified(error: &schema::Error) -> &'static str {
     match error {
         schema::Error::SignatureThreshold { .. } => "SignatureThreshold",
         schema::Error::DuplicateKeyId { .. } => "DuplicateKeyId",
+        schema::Error::JsonSerialization { .. } => "JsonSerialization",
         schema::Error::MissingRole { .. } => "MissingRole",
         _ => "another cause",
     }
