@@ -311,14 +311,18 @@ fn names_files_by_version(rt: HostRuntime) -> Result<(), Fail> {
 #[test]
 fn gives_the_keys_of_a_role(rt: HostRuntime) -> Result<(), Fail> {
     let mut root = root(rt.alloc())?;
-    assert_eq!(rt; root.signed.keys(RoleType::Root).count(), 1);
-    assert_eq!(rt; root.signed.keys(RoleType::DelegatedTargets).count(), 0);
+    let mut keys = root.signed.keys(RoleType::Root);
+    assert!(rt; keys.next().is_some());
+    assert!(rt; keys.next().is_none());
+    let mut none = root.signed.keys(RoleType::DelegatedTargets);
+    assert!(rt; none.next().is_none());
     for key in root.signed.keys(RoleType::Root) {
         let id = root.signed.key_id(key).ok_or("it has no identifier")?;
         assert!(rt; id.as_str().starts_with("4c302f8a"));
     }
     root.signed.keys.clear();
-    assert_eq!(rt; root.signed.keys(RoleType::Root).count(), 0);
+    let mut unknown = root.signed.keys(RoleType::Root);
+    assert!(rt; unknown.next().is_none());
     Ok(())
 }
 
