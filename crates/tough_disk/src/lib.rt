@@ -6,3 +6,6 @@ mod folder;
 
 pub use clock::{Clock, FixedClock, SystemClock};
 pub use folder::DirStore;
+
+#[cfg(test)]
+mod tests;

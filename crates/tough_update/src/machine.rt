@@ -162,3 +162,8 @@ impl Core {
         }
     }
 }
+
+#[cfg(test)]
+mod documents;
+#[cfg(test)]
+mod tests;

@@ -92,3 +92,8 @@ pub(crate) fn next_root<V: Verify>(
     }
     Ok(new)
 }
+
+#[cfg(test)]
+mod documents;
+#[cfg(test)]
+mod tests;

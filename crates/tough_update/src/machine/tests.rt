@@ -1,19 +1,19 @@
-use crate::served::{
+use crate::machine::documents::{
     BARE_TIMESTAMP, CONSISTENT, DELEGATING, EMPTY_LIST, EXACT_SNAPSHOT, EXPIRED, EXPIRED_TARGETS,
     ROOT_1, ROOT_2, ROOT_3, ROTATED, SNAPSHOT, TARGETS, TARGETS_3, TIMESTAMP, UNSIGNED_TARGETS,
 };
+use crate::{Answer, Ask, Core, Error, ExpirationEnforcement, Fault, Limits, StepError};
 use jiff::Timestamp as Instant;
 use std::alloc::Global;
 use std::test::Fail;
 use tough_net::{TransportError, TransportErrorKind};
 use tough_roles::{DemoVerify, RoleType};
-use tough_update::{Answer, Ask, Core, Error, ExpirationEnforcement, Fault, Limits, StepError};
 
 fn accept(alloc: Global, core: &mut Core) {
     core.answer(alloc, &DemoVerify, Answer::Step(Ok(())));
 }
 
-pub(crate) fn serve(alloc: Global, core: &mut Core, text: &str) -> Result<(), Fail> {
+fn serve(alloc: Global, core: &mut Core, text: &str) -> Result<(), Fail> {
     let bytes = Vec::from_slice(alloc, text.as_bytes())?;
     core.answer(alloc, &DemoVerify, Answer::Bytes(bytes));
     Ok(())
@@ -31,7 +31,7 @@ fn miss(alloc: Global, core: &mut Core) -> Result<(), Fail> {
 }
 
 // An update in the year 2026 that has noted the time.
-pub(crate) fn begun(
+fn begun(
     alloc: Global,
     trusted: &str,
     limits: Limits,
@@ -45,7 +45,7 @@ pub(crate) fn begun(
     Ok(core)
 }
 
-pub(crate) fn safely(alloc: Global, trusted: &str) -> Result<Core, Fail> {
+fn safely(alloc: Global, trusted: &str) -> Result<Core, Fail> {
     begun(
         alloc,
         trusted,
@@ -55,7 +55,7 @@ pub(crate) fn safely(alloc: Global, trusted: &str) -> Result<Core, Fail> {
 }
 
 // The file that is asked for.
-pub(crate) fn wanted(core: &Core) -> &str {
+fn wanted(core: &Core) -> &str {
     match core.ask() {
         Ask::Fetch(request) => request.name.as_str(),
         _ => "",
@@ -70,7 +70,7 @@ fn walked(alloc: Global, trusted: &str) -> Result<Core, Fail> {
     Ok(core)
 }
 
-pub(crate) fn failure(core: &Core) -> Option<&Error> {
+fn failure(core: &Core) -> Option<&Error> {
     match core.outcome() {
         Some(Err(error)) => Some(error),
         _ => None,

@@ -1,12 +1,12 @@
-use crate::documents::{ROOT, TIMESTAMP_3, TIMESTAMP_4};
-use crate::snapshot_documents::{
+use crate::vault::documents::{ROOT, TIMESTAMP_3, TIMESTAMP_4};
+use crate::vault::snapshot_documents::{
     SNAPSHOT_3, SNAPSHOT_4, SNAPSHOT_4_FALLEN, SNAPSHOT_4_NO_TARGETS, SNAPSHOT_4_WITHOUT,
     SNAPSHOT_7, SNAPSHOT_8,
 };
+use crate::{Entry, ExpirationEnforcement, MemoryStore, Receipt, Refusal, StepError, Vault};
 use jiff::Timestamp as Instant;
 use std::test::Fail;
 use tough_roles::{DemoVerify, RoleType, Root, Signed, Snapshot, Timestamp};
-use tough_vault::{Entry, ExpirationEnforcement, MemoryStore, Receipt, Refusal, StepError, Vault};
 
 // Puts a snapshot on the vault, in the year 1970.
 fn offer(

@@ -1,9 +1,9 @@
+use super::*;
 use jiff::Timestamp;
 use std::alloc::Global;
 use std::fmt::Debug;
 use std::test::Fail;
 use std::{env, fs, process};
-use tough_disk::{Clock, DirStore, SystemClock};
 use tough_vault::{Store, StoreError, Vault};
 
 // Makes an empty folder of this test's own.

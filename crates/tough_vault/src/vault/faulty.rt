@@ -2,8 +2,9 @@
 
 ghost use Rattle.tough_vault.specs.Stored.{HasCause};
 
+use crate::MemoryStore;
+use crate::store::{Store, StoreError};
 use std::alloc::Global;
-use tough_vault::{MemoryStore, Store, StoreError};
 
 /// What is wrong with the store.
 #[derive(Clone, Copy, Debug, PartialEq, Eq, Drop)]

@@ -1,15 +1,15 @@
-use crate::documents::{
+use crate::vault::documents::{
     ROOT, TIMESTAMP_3, TIMESTAMP_4, TIMESTAMP_5, TIMESTAMP_6, TIMESTAMP_6_BELOW,
     TIMESTAMP_6_EXPIRED, TIMESTAMP_6_FOREIGN, TIMESTAMP_6_OTHER, TIMESTAMP_6_TWO,
 };
-use crate::faulty::{Fault, FaultyStore};
-use jiff::Timestamp as Instant;
-use std::test::Fail;
-use tough_roles::{DemoVerify, RoleType, Root, Signed, Timestamp};
-use tough_vault::{
+use crate::vault::faulty::{Fault, FaultyStore};
+use crate::{
     DocumentName, Entry, ExpirationEnforcement, MemoryStore, Receipt, Refusal, StepError, Store,
     TimestampVersions, Vault,
 };
+use jiff::Timestamp as Instant;
+use std::test::Fail;
+use tough_roles::{DemoVerify, RoleType, Root, Signed, Timestamp};
 
 fn root(rt: &HostRuntime) -> Result<Signed<Root>, Fail> {
     Ok(Signed::<Root>::read(rt.alloc(), ROOT.as_bytes())?)
