@@ -6,6 +6,7 @@
 pub mod error;
 mod program;
 pub mod schema;
+pub mod sign;
 
 pub use error::Error;
 pub use program::run;

@@ -1,12 +1,15 @@
 //! Roles, keys, and the documents that are signed.
 
+pub mod decoded;
+pub mod key;
+
 pub use tough_base::{
-    CjsonError, Decode, DecodeError, Decoded, EcdsaFlex, EcdsaPem, Encode, Hex, PathHashPrefix,
-    PathPattern, PatternError, RsaPem, canonical,
+    CjsonError, Compat, Decode, DecodeError, Decoded, EcdsaFlex, EcdsaPem, Encode, Hex,
+    PathHashPrefix, PathPattern, PatternError, RsaPem, canonical,
 };
 pub use tough_schema::{
     DelegatedRole, DelegatedTargets, Delegations, DemoSign, DemoVerify, EcdsaKey, EcdsaScheme,
-    Ed25519Key, Ed25519Scheme, Error, FileError, Hashes, Key, KeyParseError, Metafile, PathSet,
-    ReadError, Role, RoleKeys, RoleType, Root, RsaKey, RsaScheme, Sign, SignError, Signature,
-    Signed, Snapshot, Target, Targets, Timestamp, Verify, WriteError, canonical_form,
+    Ed25519Key, Ed25519Scheme, Error, FileError, Hashes, Key, KeyParseError, KeysIter, Metafile,
+    PathSet, ReadError, Role, RoleId, RoleKeys, RoleType, Root, RsaKey, RsaScheme, Sign, SignError,
+    Signature, Signed, Snapshot, Target, Targets, Timestamp, Verify, WriteError, canonical_form,
 };

@@ -1,0 +1,5 @@
+//! Values that stand in documents as texts.
+
+pub use tough_base::{
+    Compat, Decode, DecodeError, Decoded, EcdsaFlex, EcdsaPem, Encode, Hex, RsaPem,
+};

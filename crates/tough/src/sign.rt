@@ -1,0 +1,3 @@
+//! Signers.
+
+pub use tough_schema::{Sign, SignError};
