@@ -135,6 +135,19 @@ fn needs_a_store(rt: HostRuntime) -> Result<(), Fail> {
 }
 
 #[test]
+fn refuses_a_folder_in_place_of_a_stored_file(rt: HostRuntime) -> Result<(), Fail> {
+    let scene = Scene::new(&rt, "folder")?;
+    let folder = scene.at(&rt, "store/timestamp.json")?;
+    std::fs::create_dir_all(&rt, folder.as_str())?;
+    assert_told(
+        &rt,
+        &scene.load(&rt)?,
+        "Failed to open a file of the datastore",
+    );
+    scene.end(&rt)
+}
+
+#[test]
 fn refuses_what_it_cannot_fetch(rt: HostRuntime) -> Result<(), Fail> {
     let scene = Scene::new(&rt, "fetch")?;
     let run = scene.load_from(&rt, "ftp://h/metadata")?;
