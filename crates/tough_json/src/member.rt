@@ -11,12 +11,30 @@ use std::alloc::Global;
 use std::num::NonZeroU64;
 use tough_base::{Decode, DecodeError, Decoded, Hex};
 
+fn remove(members: &mut Map<String, Value>, name: &str) -> Option<Value>
+    ensures value { option_map view result ≡ get_member name.now (members_view members.old.entries) }
+    ensures left { members_view members.new.entries ≡ without name.now (members_view members.old.entries) }
+{
+    members.remove(name)
+}
+
+// An object that is empty keeps no room.
+fn trim(members: &mut Map<String, Value>)
+    ensures { members.new.entries ≡ members.old.entries }
+{
+    if members.is_empty() {
+        members.clear();
+    }
+}
+
 // Takes a member out.
 pub fn take(members: &mut Map<String, Value>, name: &str) -> Option<Value>
     ensures value { option_map view result ≡ get_member name.now (members_view members.old.entries) }
     ensures left { members_view members.new.entries ≡ without name.now (members_view members.old.entries) }
 {
-    members.remove(name)
+    let found = remove(members, name);
+    trim(members);
+    found
 }
 
 // A text that must be there.
