@@ -8,6 +8,8 @@ mod edits;
 #[cfg(test)]
 mod files;
 #[cfg(test)]
+mod growth;
+#[cfg(test)]
 mod roles;
 #[cfg(test)]
 mod rows;

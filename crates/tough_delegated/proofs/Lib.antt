@@ -1,0 +1,3 @@
+pub mod Listing
+pub mod Turning
+pub mod Once

@@ -1,0 +1,5 @@
+use Rattle.tough_delegated.proofs.Once.{grows-once}
+use Rattle.tough_delegated.proofs.laws.grows_once.Goals as goal
+
+pub returns : goal.returns
+returns c = grows-once

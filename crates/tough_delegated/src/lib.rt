@@ -1,0 +1,11 @@
+//! The documents of delegated roles: which one is fetched next, and the tree that they make (TUF specification 1.0, section 5.6.7).
+#![tactic(auto)]
+
+mod growth;
+pub mod laws;
+mod list;
+mod look;
+mod turn;
+mod turns;
+
+pub use growth::{Growth, Progress};
