@@ -1,3 +1,4 @@
 pub mod Listing
 pub mod Turning
 pub mod Once
+pub mod Under

@@ -1,3 +1,4 @@
 pub mod Growing
 pub mod View
 pub mod Once
+pub mod Under

@@ -11,5 +11,16 @@ pub fn grows_once()
     ensures { (metas : Metas) (top : HeldDoc) (documents : List HeldDoc) (t : SignedDoc TreeDoc) → IsBare top → AreBare documents → runs metas (begun metas top) documents ≡ grown t → Distinct (carriers_below t.role) }
 {}
 
+ghost use Rattle.std.specs.Prelude.{ℕ, Bool, IsTrue, Option};
+ghost use Rattle.tough_schema.specs.Delegations.{DelegationsDoc};
+ghost use Rattle.tough_schema.specs.Targets.{TargetsDoc};
+ghost use Rattle.tough_delegated.specs.Under.{AllTaken, Below};
+
+/// What is asked of each document that is taken, of the delegations that ask for it, the name of the role and the document without those
+/// of its roles, holds throughout the tree: of the delegations of each document, and each of its roles that has one.
+pub fn grows_under()
+    ensures { (fits : Option DelegationsDoc → List ℕ → SignedDoc TargetsDoc → Bool) (metas : Metas) (top : HeldDoc) (documents : List HeldDoc) (t : SignedDoc TreeDoc) → IsBare top → AllTaken (λ g name page. IsTrue (fits g name page)) metas (begun metas top) documents → runs metas (begun metas top) documents ≡ grown t → Below (λ g name page. IsTrue (fits g name page)) t.role }
+{}
+
 /// How many laws this file states.
-pub const LAWS: usize = 1;
+pub const LAWS: usize = 2;
