@@ -1,5 +1,6 @@
 use serde_json::Value;
 use std::test::Fail;
+use tough_json::borrowed::{Scratch, borrowed, value_in};
 use tough_json::text::{bytes_of, value_of};
 use tough_json::{Form, MomentError, ObjectText, ReadError, moment_text};
 
@@ -58,6 +59,41 @@ fn reads_json_from_bytes(rt: HostRuntime) -> Result<(), Fail> {
         b"\"\xff\"".as_slice(),
     ] {
         assert!(rt; matches!(value_of(rt.alloc(), text), Err(ReadError::Json)));
+    }
+    Ok(())
+}
+
+// A text, and the compact JSON of the value that it is; nothing where it is none. Of a name that comes twice the last
+// stays, and a number must be in range.
+const TEXTS: [(&str, &str); 11] = [
+    (
+        "{\"b\":1,\"a\":[2, {}],\"b\":[3]}",
+        "{\"a\":[2,{}],\"b\":[3]}",
+    ),
+    (" null ", "null"),
+    ("[true,false]", "[true,false]"),
+    ("18446744073709551615", "18446744073709551615"),
+    ("-9223372036854775808", "-9223372036854775808"),
+    ("\"\\u00e9\\n\"", "\"\u{e9}\\n\""),
+    ("1e400", ""),
+    ("{\"a\":[1e999]}", ""),
+    ("{\"a\":1e999,\"a\":1}", ""),
+    ("1 2", ""),
+    ("[1,]", ""),
+];
+
+/// JSON that borrows its text stands for the value that the text is.
+#[test]
+fn borrows_json(rt: HostRuntime) -> Result<(), Fail> {
+    for (text, want) in TEXTS {
+        let mut scratch = Scratch::new(rt.alloc());
+        let Ok(found) = borrowed(rt.alloc(), text.as_bytes(), &mut scratch) else {
+            assert_eq!(rt; "", want, "{text}");
+            continue;
+        };
+        let value = value_in(rt.alloc(), &found)?;
+        let written = bytes_of(rt.alloc(), &value)?;
+        assert_eq!(rt; written.as_slice(), want.as_bytes(), "{text}");
     }
     Ok(())
 }

@@ -9,3 +9,4 @@ pub mod MomentText
 pub mod MomentExists
 pub mod JsonLemmas
 pub mod PieceLemmas
+pub mod BorrowedLemmas

@@ -3,3 +3,4 @@ pub mod Results
 pub mod Writing
 pub mod Moment
 pub mod Pieces
+pub mod Borrowed

@@ -1,12 +1,15 @@
 -- What is written for a signed document is read as it.
-use Rattle.std.proofs.Common.{◌≡◌, List, codes, Option, Some, None, inl, inr, refl}
+use Rattle.std.proofs.Common.{◌≡◌, ℕ, Result, Ok, Err, List, codes, Option, Some, None, inl, inr, refl}
 use Rattle.serde_json.specs.Data.{Data, array, object, no_members}
 use Rattle.tough_json.specs.Reading.{◌>>=◌, hexadecimal, listing}
 use Rattle.tough_json.specs.Writing.{with, hexadecimal_json, all_json}
 use Rattle.tough_json.proofs.WriteLemmas.{bind_ok, some-inj, required-with, hexadecimal-back, all-back}
 use Rattle.tough_roles.specs.Signature.{SignatureDoc, signature_at, signature_json, signed_parts, signed_parts_json, signed_at, signed_doc}
 use Rattle.tough_roles.specs.declared.signed.Signed.{Signed}
-use Rattle.tough_roles.specs.Document.{IsSigned, IsNotSigned}
+use Rattle.tough_json.specs.Results.{json_of, Refuses}
+use Rattle.tough_json.specs.declared.error.ReadError.{ReadError}
+use Rattle.tough_json.specs.declared.error.ReadError.TheVariants as errors
+use Rattle.tough_roles.specs.Document.{IsSigned, IsNotSigned, RefusesValue, ReadsValue, ReadsText}
 
 pub signature-back : (s : SignatureDoc) (d : Data) → signature_json s ≡ Some d → signature_at d ≡ Some s
 unfolding signature_json signature_at
@@ -41,3 +44,21 @@ signed-read f doc d s h = rw (h.found, h.read) refl
 pub signed-refused : {A : Type 0} (f : Data → Option A) (d : Data) → IsNotSigned (λ e. f e ≡ None) d → signed_at f d ≡ None
 signed-refused f d (inl none) = rw none refl
 signed-refused f d (inr (role, ss, found, none)) = rw (found, none) refl
+
+-- ---- what is refused
+
+pub no-parts : (refused : Data → Type 0) (e : ReadError) (d : Data) → Refuses e (signed_parts d) → RefusesValue (IsNotSigned refused) e d
+no-parts refused errors.Json d h = h
+no-parts refused (errors.Shape s) d h = inl h
+no-parts refused errors.Memory d h = tt
+
+pub no-role : (refused : Data → Type 0) (e : ReadError) (d role : Data) (ss : List SignatureDoc) → signed_parts d ≡ Some (role, ss) → RefusesValue refused e role → RefusesValue (IsNotSigned refused) e d
+no-role refused errors.Json d role ss found h = h
+no-role refused (errors.Shape s) d role ss found h = inr (role, ss, found, h)
+no-role refused errors.Memory d role ss found h = tt
+
+pub read-text : {X : Type 0} (is : Data → X → Type 0) (refused : Data → Type 0) (r : Result X ReadError) (d : Data) (bytes : List ℕ) → json_of bytes ≡ Some d → ReadsValue is refused r d → ReadsText is refused r bytes
+read-text is refused (Ok x) d bytes e h = (d, e, h)
+read-text is refused (Err errors.Json) d bytes e h = absurd h
+read-text is refused (Err (errors.Shape s)) d bytes e h = (d, e, h)
+read-text is refused (Err errors.Memory) d bytes e h = tt

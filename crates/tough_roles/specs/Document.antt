@@ -1,13 +1,15 @@
 -- What reading and writing a signed document answers, over what its role says of itself.
 use Rattle.std.specs.Prelude.{◌≡◌, ◌≤◌, ℕ, List, Option, Some, None, Result, Ok, Err, ⊤, ◌⊎◌, Vec, false}
 use Rattle.std.specs.declared.alloc.Global.{Global}
+use Rattle.json.specs.Value.{value_view}
+use Rattle.json.specs.declared.value.Value.{Value}
 use Rattle.serde_json.specs.Data.{Data, depth}
-use Rattle.serde_json.specs.Read.{max_depth}
+use Rattle.serde_json.specs.Read.{max_depth, of_json}
 use Rattle.serde_json.specs.Written.{has_float, compact_text}
 use Rattle.tough_json.specs.declared.error.ReadError.{ReadError}
 use Rattle.tough_json.specs.declared.error.ReadError.TheVariants as errors
 use Rattle.tough_json.specs.declared.error.WriteError.{WriteError}
-use Rattle.tough_json.specs.Results.{json_of, RefusesWrite}
+use Rattle.tough_json.specs.Results.{json_of, Refuses, RefusesWrite}
 use Rattle.tough_roles.specs.declared.signed.Signed.{Signed}
 use Rattle.tough_roles.specs.Signature.{SignatureDoc, signatures_doc, signed_parts, signed_parts_json}
 use Rattle.tough_json.specs.Reading.{◌>>=◌}
@@ -33,6 +35,11 @@ ReadsText is_read refused (Ok x) bytes = (d : Data) × (json_of bytes ≡ Some d
 ReadsText is_read refused (Err e) bytes = RefusesText refused e bytes
 
 -- ---- a signed document
+
+-- the JSON of the role, and the signatures
+abbrev pub ReadsParts : {A X : Type 0} → (X → List SignatureDoc) → Result (Value A × X) ReadError → Option (Data × List SignatureDoc) → Type 0
+ReadsParts doc (Ok p) answer = (role : Data) × (of_json (value_view p.0) ≡ Some role) × (answer ≡ Some (role, doc p.1))
+ReadsParts doc (Err e) answer = Refuses e answer
 
 -- the value is a document with this role and these signatures
 pub record IsSigned {T : Type 0} (is_read : Data → T → Type 0) (d : Data) (s : Signed T) : Type 0 where

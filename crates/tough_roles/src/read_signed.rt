@@ -1,15 +1,19 @@
 ghost use Rattle.std.specs.Prelude.{◌≡◌, Some};
+ghost use Rattle.json.specs.Value.{value_view};
+ghost use Rattle.serde_json.specs.Data.{Data};
+ghost use Rattle.serde_json.specs.Read.{of_json};
 ghost use Rattle.serde_json.specs.View.{view, items_view, members_view};
 ghost use Rattle.tough_json.specs.Reading.{all_at, listing, required};
 ghost use Rattle.tough_json.specs.Results.{Reads, Takes};
 ghost use Rattle.tough_roles.specs.Signature.{signature_doc, signatures_doc, signature_at, signed_parts};
-ghost use Rattle.tough_roles.specs.Document.{ReadsValue, IsSigned, IsNotSigned};
+ghost use Rattle.tough_roles.specs.Document.{ReadsValue, ReadsParts, IsSigned, IsNotSigned};
 
 use crate::role::Role;
 use crate::signature::Signature;
 use crate::signed::Signed;
 use serde_json::{Map, Value};
 use std::alloc::Global;
+use tough_json::borrowed::{Borrowed, take_member};
 use tough_json::error::{ReadError, shape};
 use tough_json::member::{hexadecimal, take};
 
@@ -53,21 +57,33 @@ fn signatures(
 
 // The role's JSON and the signatures.
 #[tactic(auto, unfolding(crate::specs::Signature::signed_parts))]
-fn parts_of(alloc: Global, value: Value) -> Result<(Value, Vec<Signature>), ReadError>
-    ensures { Reads (λ p. (view p.0, signatures_doc p.1.items)) result (signed_parts (view value)) }
+fn parts_of(
+    alloc: Global,
+    document: Borrowed<'_>,
+) -> Result<(Borrowed<'_>, Vec<Signature>), ReadError>
+    ensures { (d : Data) → of_json (value_view document.entry) ≡ Some d → ReadsParts (λ v. signatures_doc v.items) result (signed_parts d) }
 {
-    let Value::Object(mut members) = value else {
+    let Borrowed::Object(members) = document else {
         return Err(shape(alloc, "document"));
     };
-    let role = tough_json::member::value(alloc, &mut members, "signed")?;
-    let listed = signatures(alloc, &mut members, "signatures")?;
+    let (role, mut others) = take_member(alloc, members, "signed")?;
+    let listed = signatures(alloc, &mut others, "signatures")?;
     Ok((role, listed))
 }
 
-pub(crate) fn signed_of<T: Role>(alloc: Global, value: Value) -> Result<Signed<T>, ReadError>
-    ensures { ReadsValue (IsSigned T.is_read) (IsNotSigned T.is_refused) result (view value) }
+// The document that the JSON is.
+pub(crate) fn signed_of<T: Role>(
+    alloc: Global,
+    document: Borrowed<'_>,
+) -> Result<Signed<T>, ReadError>
+    ensures { (d : Data) → of_json (value_view document.entry) ≡ Some d → ReadsValue (IsSigned T.is_read) (IsNotSigned T.is_refused) result d }
 {
-    let (role, signatures) = parts_of(alloc, value)?;
-    let signed = T::from_value(alloc, role)?;
-    Ok(Signed { signed, signatures })
+    let (role, signatures) = match parts_of(alloc, document) {
+        Ok(parts) => parts,
+        Err(error) => return Err(error),
+    };
+    match T::from_borrowed(alloc, role) {
+        Ok(signed) => Ok(Signed { signed, signatures }),
+        Err(error) => Err(error),
+    }
 }

@@ -1,6 +1,8 @@
 ghost use Rattle.std.specs.Prelude.{◌≡◌, ℕ, List, Bool, Option, Some, IfOk, option_and_then, string_bytes};
 ghost use Rattle.std.specs.Int.NonZero.{non_zero_u64_get};
+ghost use Rattle.json.specs.Value.{value_view};
 ghost use Rattle.serde_json.specs.Data.{Data};
+ghost use Rattle.serde_json.specs.Read.{of_json};
 ghost use Rattle.serde_json.specs.View.{view};
 ghost use Rattle.tough_json.specs.Results.{Writes};
 ghost use Rattle.tough_json.specs.Pieces.{text_in};
@@ -14,6 +16,7 @@ use crate::role_type::RoleType;
 use serde_json::Value;
 use std::alloc::{AllocError, Global};
 use std::num::NonZeroU64;
+use tough_json::borrowed::{Borrowed, value_in};
 use tough_json::error::{ReadError, WriteError};
 use tough_json::{Form, PieceError};
 
@@ -41,6 +44,17 @@ pub trait Role {
     fn from_value(alloc: Global, value: Value) -> Result<Self, ReadError>
         ensures read { ReadsValue is_read is_refused result (view value) }
         ensures kept { IfOk result is_kept };
+
+    /// The role that the JSON is, as `from_value` reads it.
+    fn from_borrowed(alloc: Global, value: Borrowed<'_>) -> Result<Self, ReadError>
+        ensures read { (d : Data) → of_json (value_view value.entry) ≡ Some d → ReadsValue is_read is_refused result d }
+        ensures kept { (d : Data) → of_json (value_view value.entry) ≡ Some d → IfOk result is_kept }
+    {
+        match value_in(alloc, &value) {
+            Ok(value) => Self::from_value(alloc, value),
+            Err(error) => Err(error),
+        }
+    }
 
     /// The role as JSON, which is read as it; `Unwritable` where it has none.
     fn to_value(&self, alloc: Global) -> Result<Value, WriteError>

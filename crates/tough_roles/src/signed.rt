@@ -14,9 +14,10 @@ use crate::signature::Signature;
 use crate::write_signed::{signed_text, signed_value};
 use serde_json::Value;
 use std::alloc::Global;
+use tough_json::borrowed::{Scratch, borrowed};
 use tough_json::error::{ReadError, WriteError};
 use tough_json::pieces::text_in;
-use tough_json::text::{bytes_of, value_of};
+use tough_json::text::bytes_of;
 use tough_json::{Form, PieceError};
 
 /// A role with its signatures.
@@ -31,8 +32,11 @@ impl<T: Role> Signed<T> {
     pub fn read(alloc: Global, bytes: &[u8]) -> Result<Signed<T>, ReadError>
         ensures { ReadsText (IsSigned T.is_read) (IsNotSigned T.is_refused) result bytes.now }
     {
-        let value = value_of(alloc, bytes)?;
-        signed_of(alloc, value)
+        let mut scratch = Scratch::new(alloc);
+        match borrowed(alloc, bytes, &mut scratch) {
+            Ok(document) => signed_of(alloc, document),
+            Err(error) => Err(error),
+        }
     }
 
     /// The document as JSON, which is read as it; `Unwritable` where its role has none.

@@ -1,9 +1,9 @@
 -- A role is sought alike with its whole document and as the search sees it.
-use Rattle.std.proofs.Common.{◌≡◌, ℕ, List, Bool, true, false, Option, Some, None, option_map, if◌then◌else◌, refl, sym, ap, ◌∙◌}
+use Rattle.std.proofs.Common.{◌≡◌, ℕ, List, Bool, true, false, Option, Some, None, option_map, if◌then◌else◌, refl, ap, ◌∙◌}
 use Rattle.std.specs.Option.{option_or}
 use Rattle.std.specs.Str.{bytes_eq}
 use Rattle.tough_schema.specs.Tree.{Entry}
-use Rattle.tough_schema.specs.View.{Role, searchable, roles_in, role_in}
+use Rattle.tough_schema.specs.View.{searchable, roles_in, role_in}
 use Rattle.tough_schema.specs.Seek.{Sought, found, missing, undocumented, undelegated, if_found, or_next, seek, seek_in}
 use Rattle.tough_schema.specs.Seeking.{role_of}
 use Rattle.tough_schema.specs.Update.{role_sought, role_below}

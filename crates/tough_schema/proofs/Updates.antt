@@ -11,10 +11,10 @@ use Rattle.tough_schema.specs.declared.delegations.Delegations.{Delegations, out
 use Rattle.tough_schema.specs.declared.targets.DelegatedTargets.{DelegatedTargets, out-DelegatedTargets}
 use Rattle.tough_schema.specs.declared.targets.Targets.{Targets, out-Targets, roll-Targets}
 use Rattle.tough_schema.specs.Tree.{Entry}
-use Rattle.tough_schema.specs.Whole.{TreeDoc, tree, Branches, no_branches, HeldDoc, RoleTree, NamedTree, DelegationsTree, put_branch, branches_from, branches_of, tree_doc, delegations_tree, named_tree, role_tree, held_doc, entries_in}
+use Rattle.tough_schema.specs.Whole.{TreeDoc, tree, Branches, no_branches, HeldDoc, RoleTree, NamedTree, DelegationsTree, put_branch, branches_from, branches_of, tree_doc, delegations_tree, role_tree, held_doc, entries_in}
 use Rattle.tough_schema.specs.Seeking.{held_step, role_step}
 use Rattle.tough_schema.specs.Update.{role_sought, role_below, document_sought, given, updated_in, updated, listed_roles, needed, needed_at, documents_for, all_given, roles_at, roles_within, all_with, with_documents}
-use Rattle.tough_schema.proofs.Wholes.{TargetsFields, own, tree-roll, tree-out, delegations-roll, delegations-out, role-out, named-out}
+use Rattle.tough_schema.proofs.Wholes.{own, tree-roll, tree-out, delegations-roll, delegations-out, role-out, named-out}
 
 -- ---- the role of a name, with its document
 

@@ -105,6 +105,13 @@ targets_at d = do
   delegations ← optional (codes "delegations") delegations_at targets.1
   Some (record { head = head.0; targets = targets.0; delegations = delegations.0; extra = delegations.1 })
 
+-- the document with that listing, and with these as the other members
+unfoldable pub targets_around : List (Named × TargetDoc) → Members → Option TargetsDoc
+targets_around listing ms = do
+  head ← head_at ms
+  delegations ← optional (codes "delegations") delegations_at head.1
+  Some (record { head = head.0; targets = listing; delegations = delegations.0; extra = delegations.1 })
+
 -- the members with the delegations, and that under `targets`
 unfoldable pub parts_json : Data → TargetsDoc → Members → Option Members
 parts_json listed t members = do

@@ -8,7 +8,7 @@ ghost use Rattle.tough_roles.specs.declared.role_type.RoleType.TheVariants as ty
 ghost use Rattle.tough_schema.specs.Targets.{targets_doc, delegated_doc, delegated_name, delegated_file, delegated_id, targets_at, targets_json, bare_targets, IsKept};
 
 use crate::delegations::Delegations;
-use crate::read_targets::targets_of;
+use crate::read_targets::{targets_in, targets_of};
 use crate::target::Target;
 use crate::write_targets::{targets_text, targets_value};
 use serde_json::{Map, Value};
@@ -16,8 +16,8 @@ use std::alloc::{AllocError, Global};
 use std::collections::BTreeMap;
 use std::num::NonZeroU64;
 use tough_base::{TargetName, encode_filename};
+use tough_json::borrowed::{Borrowed, Scratch, borrowed};
 use tough_json::error::{ReadError, WriteError};
-use tough_json::text::value_of;
 use tough_json::{Form, PieceError};
 use tough_roles::names::file_name;
 use tough_roles::{Role, RoleId, RoleType};
@@ -68,8 +68,11 @@ impl Targets {
     pub fn read(alloc: Global, bytes: &[u8]) -> Result<Targets, ReadError>
         ensures { ReadsBytes targets_doc result bytes.now targets_at }
     {
-        let value = value_of(alloc, bytes)?;
-        targets_of(alloc, value)
+        let mut scratch = Scratch::new(alloc);
+        match borrowed(alloc, bytes, &mut scratch) {
+            Ok(value) => targets_in(alloc, value),
+            Err(error) => Err(error),
+        }
     }
 }
 
@@ -95,6 +98,13 @@ impl Role for Targets {
     fn from_value(alloc: Global, value: Value) -> Result<Targets, ReadError> {
         let targets = targets_of(alloc, value)?;
         Ok(targets)
+    }
+
+    fn from_borrowed(alloc: Global, value: Borrowed<'_>) -> Result<Targets, ReadError> {
+        match targets_in(alloc, value) {
+            Ok(targets) => Ok(targets),
+            Err(error) => Err(error),
+        }
     }
 
     fn to_value(&self, alloc: Global) -> Result<Value, WriteError> {
@@ -151,6 +161,16 @@ impl Role for DelegatedTargets {
             name: String::new(alloc),
             targets,
         })
+    }
+
+    fn from_borrowed(alloc: Global, value: Borrowed<'_>) -> Result<DelegatedTargets, ReadError> {
+        match targets_in(alloc, value) {
+            Ok(targets) => Ok(DelegatedTargets {
+                name: String::new(alloc),
+                targets,
+            }),
+            Err(error) => Err(error),
+        }
     }
 
     fn to_value(&self, alloc: Global) -> Result<Value, WriteError> {

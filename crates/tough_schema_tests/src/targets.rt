@@ -44,7 +44,12 @@ Shape {\"spec_version\":\"1\",\"version\":1,\"expires\":\"2030-01-01T00:00:00Z\"
 Shape {\"spec_version\":\"1\",\"version\":1,\"expires\":\"2030-01-01T00:00:00Z\",\"targets\":{},\"delegations\":{\"keys\":{},\"roles\":[{\"name\":\"r\",\"keyids\":[],\"threshold\":0,\"terminating\":false,\"paths\":[\"*\"]}]}}
 Shape {\"spec_version\":\"1\",\"version\":1,\"expires\":\"2030-01-01T00:00:00Z\",\"targets\":{},\"delegations\":{\"keys\":{},\"roles\":[{\"name\":\"r\",\"keyids\":[],\"threshold\":1,\"terminating\":null,\"paths\":[\"*\"]}]}}
 Shape {\"spec_version\":\"1\",\"version\":1,\"expires\":\"2030-01-01T00:00:00Z\",\"targets\":{},\"delegations\":{\"keys\":{},\"roles\":null}}
-Shape {\"spec_version\":\"1\",\"version\":1,\"expires\":\"2030-01-01T00:00:00Z\",\"targets\":{},\"delegations\":{\"keys\":{\"00\":{\"keytype\":\"ed25519\",\"scheme\":\"ed25519\",\"keyval\":{\"public\":\"00\"}}},\"roles\":[]}}";
+Shape {\"spec_version\":\"1\",\"version\":1,\"expires\":\"2030-01-01T00:00:00Z\",\"targets\":{},\"delegations\":{\"keys\":{\"00\":{\"keytype\":\"ed25519\",\"scheme\":\"ed25519\",\"keyval\":{\"public\":\"00\"}}},\"roles\":[]}}
+Ok {\"spec_version\":\"1\",\"version\":1,\"expires\":\"2030-01-01T00:00:00Z\",\"targets\":{\"t\":5,\"s\":{\"length\":1,\"hashes\":{\"sha256\":\"00\"}},\"t\":{\"length\":1,\"hashes\":{\"sha256\":\"00\"}}}}
+Shape {\"spec_version\":\"1\",\"version\":1,\"expires\":\"2030-01-01T00:00:00Z\",\"targets\":{\"t\":{\"length\":1,\"hashes\":{\"sha256\":\"00\"}},\"t\":5}}
+Ok {\"targets\":5,\"spec_version\":\"1\",\"version\":1,\"expires\":\"2030-01-01T00:00:00Z\",\"targets\":{}}
+Json {\"spec_version\":\"1\",\"version\":1,\"expires\":\"2030-01-01T00:00:00Z\",\"targets\":null,\"z\":1e400}
+Json {\"spec_version\":\"1\",\"version\":1,\"expires\":\"2030-01-01T00:00:00Z\",\"targets\":{\"t\":{\"length\":1e999}}}";
 
 #[test]
 fn reads_documents(rt: HostRuntime) -> Result<(), Fail> {

@@ -7,7 +7,7 @@ use Rattle.tough_schema.specs.Seeking.{seen_of, role_seen}
 use Rattle.tough_schema.specs.Update.{role_sought}
 use Rattle.tough_schema.specs.Whole.{role_tree, branches_from}
 use Rattle.tough_schema.proofs.Seeks.{seek-inner, seek-next, step-here, step-bare, step-below}
-use Rattle.tough_schema.proofs.Updates.{sought-next, role_step-here, role_step-bare, role_step-below, below-leaf, below-inner}
+use Rattle.tough_schema.proofs.Updates.{sought-next, role_step-here, role_step-bare, role_step-below, below-inner}
 use Rattle.tough_schema.proofs.seek.+seek.Goals as goal
 
 pub seek_in-returns-in-Some : goal.seek_in-returns-in-Some

@@ -1,4 +1,4 @@
-use Rattle.std.proofs.Common.{◌≡◌, List, ◌∷◌, sym, ap, ◌∙◌, rules}
+use Rattle.std.proofs.Common.{◌≡◌, List, sym, ap, ◌∙◌, rules}
 use Rattle.serde_json.specs.Data.{no_members}
 use Rattle.tough_json.specs.Pieces.{and_last}
 use Rattle.tough_json.specs.Writing.{with}
