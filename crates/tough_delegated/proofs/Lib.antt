@@ -2,3 +2,4 @@ pub mod Listing
 pub mod Turning
 pub mod Once
 pub mod Under
+pub mod Listed

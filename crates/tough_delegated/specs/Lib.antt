@@ -2,3 +2,4 @@ pub mod Growing
 pub mod View
 pub mod Once
 pub mod Under
+pub mod Listed

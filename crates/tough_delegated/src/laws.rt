@@ -22,5 +22,12 @@ pub fn grows_under()
     ensures { (fits : Option DelegationsDoc → List ℕ → SignedDoc TargetsDoc → Bool) (metas : Metas) (top : HeldDoc) (documents : List HeldDoc) (t : SignedDoc TreeDoc) → IsBare top → AllTaken (λ g name page. IsTrue (fits g name page)) metas (begun metas top) documents → runs metas (begun metas top) documents ≡ grown t → Below (λ g name page. IsTrue (fits g name page)) t.role }
 {}
 
+ghost use Rattle.tough_delegated.specs.Listed.{WantsListed};
+
+/// A document that is wanted is one that the snapshot lists so, for a role of the document whose list is being fetched.
+pub fn wanted_is_listed()
+    ensures { (metas : Metas) (top : HeldDoc) (documents : List HeldDoc) → WantsListed metas (runs metas (begun metas top) documents) }
+{}
+
 /// How many laws this file states.
-pub const LAWS: usize = 2;
+pub const LAWS: usize = 3;
