@@ -24,7 +24,7 @@ fn measure(rt: &impl Runtime<A = Global>, stem: &str, bytes: usize) -> Result<()
     let value = Value::from_str(rt.alloc(), text.as_str())?;
     let read = began.elapsed(rt)?;
     let began = Instant::now(rt)?;
-    let canonical = tough_base::canonical(rt.alloc(), &value)?;
+    let canonical = tough_json::canonical(rt.alloc(), &value)?;
     let written = began.elapsed(rt)?;
     println!(rt; "names of {stem}: {} bytes", text.len())?;
     println!(rt; "  read: {} MB/s", rate(text.len(), read))?;

@@ -4,12 +4,13 @@ pub mod decoded;
 pub mod key;
 
 pub use tough_base::{
-    CjsonError, Compat, Decode, DecodeError, Decoded, EcdsaFlex, EcdsaPem, Encode, Hex,
-    PathHashPrefix, PathPattern, PatternError, RsaPem, canonical,
+    Compat, Decode, DecodeError, Decoded, EcdsaFlex, EcdsaPem, Encode, Hex, PathHashPrefix,
+    PathPattern, PatternError, RsaPem,
 };
 pub use tough_schema::{
-    DelegatedRole, DelegatedTargets, Delegations, DemoSign, DemoVerify, EcdsaKey, EcdsaScheme,
-    Ed25519Key, Ed25519Scheme, Error, FileError, Hashes, Key, KeyParseError, KeysIter, Metafile,
-    PathSet, ReadError, Role, RoleId, RoleKeys, RoleType, Root, RsaKey, RsaScheme, Sign, SignError,
-    Signature, Signed, Snapshot, Target, Targets, Timestamp, Verify, WriteError, canonical_form,
+    CjsonError, DelegatedRole, DelegatedTargets, Delegations, DemoSign, DemoVerify, EcdsaKey,
+    EcdsaScheme, Ed25519Key, Ed25519Scheme, Error, FileError, Hashes, Key, KeyParseError, KeysIter,
+    Metafile, PathSet, ReadError, Role, RoleId, RoleKeys, RoleType, Root, RsaKey, RsaScheme, Sign,
+    SignError, Signature, Signed, Snapshot, Target, Targets, Timestamp, Verify, WriteError,
+    canonical, canonical_form,
 };

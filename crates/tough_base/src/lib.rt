@@ -1,12 +1,10 @@
-//! Decoded values and canonical JSON: what the rest of `tough` stands on.
+//! Decoded values, names and files: what the rest of `tough` stands on.
 #![tactic(auto)]
 
-pub mod cjson;
 mod compat;
 mod decoded;
 mod url_path;
 
-pub use cjson::{CjsonError, canonical, holds_float};
 pub use compat::Compat;
 pub use decoded::{Decode, DecodeError, Decoded, EcdsaFlex, EcdsaPem, Encode, Hex, RsaPem};
 pub use tough_files::{FileKind, Files, FilesError, MemoryFiles, OsFiles};

@@ -1,6 +1,6 @@
 use serde_json::Value;
 use std::test::Fail;
-use tough_base::{CjsonError, canonical};
+use tough_json::{CjsonError, canonical};
 
 #[test]
 fn sorts_names(rt: HostRuntime) -> Result<(), Fail> {

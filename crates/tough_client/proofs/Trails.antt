@@ -4,7 +4,7 @@ use Rattle.std.proofs.Common.{refl}
 use Rattle.tough_keys.specs.Same.{Verifies}
 use Rattle.tough_vault.specs.declared.entry.Receipt.{Receipt}
 use Rattle.tough_vault.specs.declared.checks.StepError.{StepError}
-use Rattle.tough_client.specs.Acts.{Act}
+use Rattle.tough_vault.specs.Act.{Act}
 use Rattle.tough_client.specs.Loading.{Trail, Walks}
 
 module _ {K : Type 0} (keeps : Verifies → K → Act → Result Receipt StepError → K → Type 0) (verifies : Verifies) where

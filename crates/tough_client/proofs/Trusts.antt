@@ -25,7 +25,7 @@ use Rattle.tough_update.specs.Machine.{question, question_at}
 use Rattle.tough_update.specs.Promises.{ended}
 use Rattle.tough_update.specs.Runs.{Keeps, run, Along, IsFresh}
 use Rattle.tough_update.proofs.Whole.{loaded}
-use Rattle.tough_client.specs.Acts.{Act, CheckedIfOk, AdvanceTimestamp, AdvanceSnapshot}
+use Rattle.tough_vault.specs.Act.{Act, CheckedIfOk}
 use Rattle.tough_client.specs.Fetching.{Fetches, bounds}
 use Rattle.tough_client.specs.Loading.{Allows, Leads, Ends}
 use Rattle.tough_client.specs.Vouching.{Vouches}
@@ -44,21 +44,9 @@ digest-has (Some d) bytes h = (bytes_eq-Decides (sha256 bytes) d).1 h
 fits-true : (url : Parts) (r : RequestDoc) (bytes : List ℕ) → Fits (bounds url r) bytes → IsTrue (fits_request r bytes)
 fits-true url r bytes h = both-true _ _ (within (length bytes) r.max_size h.0) (digest-has r.sha256 bytes h.1)
 
-pub done-at : (s : StageDoc) (r : Result LoadedDoc Failure) → ended s ≡ Some r → s ≡ at.Done r
-done-at at.Moment r h = absurd (cc (h))
-done-at (at.NoteTime n) r h = absurd (cc (h))
-done-at (at.FetchRoot w q) r h = absurd (cc (h))
-done-at (at.PutRoot w) r h = absurd (cc (h))
-done-at (at.PutLast w) r h = absurd (cc (h))
-done-at (at.Clear b) r h = absurd (cc (h))
-done-at (at.FetchTimestamp b q) r h = absurd (cc (h))
-done-at (at.PutTimestamp b t) r h = absurd (cc (h))
-done-at (at.FetchSnapshot b t n q) r h = absurd (cc (h))
-done-at (at.PutSnapshot k n) r h = absurd (cc (h))
-done-at (at.FetchTargets k n q) r h = absurd (cc (h))
-done-at (at.PutTargets k d) r h = absurd (cc (h))
+done-at : (s : StageDoc) (r : Result LoadedDoc Failure) → ended s ≡ Some r → s ≡ at.Done r
 done-at (at.Done x) r h = cc (h)
-done-at at.Taken r h = absurd (cc (h))
+done-at _ r h = absurd (cc (h))
 
 module _ {T S K : Type 0} (refuses : T → Parts → TransportError → Type 0) (serves : T → Parts → Runs Item) (keeps : Verifies → K → Act → Result Receipt StepError → K → Type 0) (yields : S → Runs Item)
     (verifies : Verifies) (base : Parts) (t : T)
@@ -71,33 +59,11 @@ module _ {T S K : Type 0} (refuses : T → Parts → TransportError → Type 0) 
   fetched-fits r bytes (inr (inr (url, is, inr (Err x, e, h)))) = absurd (cc (e))
 
   allowed-keeps : (q : Question) (k : K) (a : AnswerDoc) (next : K) → Allows refuses serves keeps yields verifies base t q k a next → Keeps verifies q a
-  allowed-keeps ask.Moment k a next h = tt
-  allowed-keeps (ask.Fetch r) k (got.Moment n) next h = tt
   allowed-keeps (ask.Fetch r) k (got.Bytes bytes) next h = fetched-fits r bytes h.0
-  allowed-keeps (ask.Fetch r) k (got.NotStarted f) next h = tt
-  allowed-keeps (ask.Fetch r) k (got.Cut f) next h = tt
-  allowed-keeps (ask.Fetch r) k (got.Step x) next h = tt
-  allowed-keeps (ask.NoteTime now) k a next h = tt
-  allowed-keeps (ask.PutRoot root) k a next h = tt
-  allowed-keeps ask.ClearRotated k a next h = tt
-  allowed-keeps (ask.AdvanceTimestamp root d start enforced) k (got.Moment n) next h = tt
-  allowed-keeps (ask.AdvanceTimestamp root d start enforced) k (got.Bytes b) next h = tt
-  allowed-keeps (ask.AdvanceTimestamp root d start enforced) k (got.NotStarted f) next h = tt
-  allowed-keeps (ask.AdvanceTimestamp root d start enforced) k (got.Cut f) next h = tt
-  allowed-keeps (ask.AdvanceTimestamp root d start enforced) k (got.Step (Err f)) next h = tt
-  allowed-keeps (ask.AdvanceTimestamp root d start enforced) k (got.Step (Ok u)) next (inl (Ok r, e, h)) = checks k (AdvanceTimestamp root d start enforced) (Ok r) next h
-  allowed-keeps (ask.AdvanceTimestamp root d start enforced) k (got.Step (Ok u)) next (inl (Err r, e, h)) = absurd (cc (e))
-  allowed-keeps (ask.AdvanceTimestamp root d start enforced) k (got.Step (Ok u)) next (inr h) = absurd (cc (h.0))
-  allowed-keeps (ask.AdvanceSnapshot root listed d start enforced) k (got.Moment n) next h = tt
-  allowed-keeps (ask.AdvanceSnapshot root listed d start enforced) k (got.Bytes b) next h = tt
-  allowed-keeps (ask.AdvanceSnapshot root listed d start enforced) k (got.NotStarted f) next h = tt
-  allowed-keeps (ask.AdvanceSnapshot root listed d start enforced) k (got.Cut f) next h = tt
-  allowed-keeps (ask.AdvanceSnapshot root listed d start enforced) k (got.Step (Err f)) next h = tt
-  allowed-keeps (ask.AdvanceSnapshot root listed d start enforced) k (got.Step (Ok u)) next (inl (Ok r, e, h)) = checks k (AdvanceSnapshot root listed d start enforced) (Ok r) next h
-  allowed-keeps (ask.AdvanceSnapshot root listed d start enforced) k (got.Step (Ok u)) next (inl (Err r, e, h)) = absurd (cc (e))
-  allowed-keeps (ask.AdvanceSnapshot root listed d start enforced) k (got.Step (Ok u)) next (inr h) = absurd (cc (h.0))
-  allowed-keeps (ask.PutTargets d) k a next h = tt
-  allowed-keeps ask.Ready k a next h = tt
+  allowed-keeps (ask.Step act) k (got.Step (Ok u)) next (inl (Ok r, e, h)) = checks k act (Ok r) next h
+  allowed-keeps (ask.Step act) k (got.Step (Ok u)) next (inl (Err r, e, h)) = absurd (cc (e))
+  allowed-keeps (ask.Step act) k (got.Step (Ok u)) next (inr h) = absurd (cc (h.0))
+  allowed-keeps q k a next h = tt
 
   nothing-follows : (q : Question) (k : K) (a : AnswerDoc) (next : K) → q ≡ ask.Ready → Allows refuses serves keeps yields verifies base t q k a next → ⊥
   nothing-follows q k a next is h = subst (λ (x : Question). Allows refuses serves keeps yields verifies base t x k a next) is h

@@ -1,10 +1,8 @@
-pub mod Acts
-pub mod Checking
 pub mod Fetching
 pub mod Loading
-pub mod Asking
 pub mod Running
 pub mod Words
+pub mod Advancing
 pub mod Base
 pub mod Loader
 pub mod Vouching

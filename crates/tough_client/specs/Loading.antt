@@ -17,8 +17,7 @@ use Rattle.tough_update.specs.Answered.{AnswerDoc}
 use Rattle.tough_update.specs.Answered as got
 use Rattle.tough_update.specs.Machine.{question}
 use Rattle.tough_update.specs.Promises.{Goes, ended}
-use Rattle.tough_vault.specs.Files.{targets_file}
-use Rattle.tough_client.specs.Acts.{targets_text, Act, NoteTime, PutRoot, ClearRotated, AdvanceTimestamp, AdvanceSnapshot, PutDocument}
+use Rattle.tough_vault.specs.Act.{Act}
 use Rattle.tough_client.specs.Fetching.{Fetches, Comes, answer_of}
 
 -- what a step answers, its receipt apart
@@ -32,23 +31,14 @@ module _ {K : Type 0} (keeps : Verifies → K → Act → Result Receipt StepErr
   Steps act k a next = ((r : Result Receipt StepError) × (a ≡ got.Step (taken r)) × keeps verifies k act r next)
       ⊎ ((a ≡ got.Step (Err Memory)) × (next ≡ k))
 
-  -- a step is asked for, and this is its answer
-  abbrev pub StepsAt : Question → K → AnswerDoc → K → Type 0
-  StepsAt (ask.NoteTime now) k a next = Steps (NoteTime now) k a next
-  StepsAt (ask.PutRoot root) k a next = Steps (PutRoot root) k a next
-  StepsAt ask.ClearRotated k a next = Steps ClearRotated k a next
-  StepsAt (ask.AdvanceTimestamp root t start enforced) k a next = Steps (AdvanceTimestamp root t start enforced) k a next
-  StepsAt (ask.AdvanceSnapshot root listed s start enforced) k a next = Steps (AdvanceSnapshot root listed s start enforced) k a next
-  StepsAt (ask.PutTargets d) k a next = Steps (PutDocument targets_file (targets_text d)) k a next
-  StepsAt _ k a next = ⊥
-
 module _ {T S K : Type 0} (refuses : T → Parts → TransportError → Type 0) (serves : T → Parts → Runs Item) (keeps : Verifies → K → Act → Result Receipt StepError → K → Type 0) (yields : S → Runs Item)
     (verifies : Verifies) (base : Parts) (t : T) where
   -- an answer that what was asked allows, and what it leaves of the keeper
   abbrev pub Allows : Question → K → AnswerDoc → K → Type 0
   Allows ask.Moment k a next = ((now : ℤ) × (a ≡ got.Moment now)) × (next ≡ k)
   Allows (ask.Fetch r) k a next = Fetches refuses serves t base r a × (next ≡ k)
-  Allows q k a next = StepsAt keeps verifies q k a next
+  Allows (ask.Step act) k a next = Steps keeps verifies act k a next
+  Allows ask.Ready k a next = ⊥
 
   -- the machine and the keeper after these answers, each allowed for what was asked; want of memory may end the machine in place of
   -- an answer

@@ -12,7 +12,7 @@ use Rattle.tough_net.specs.Items.{Item}
 use Rattle.tough_update.specs.Stages.{LoadedDoc, CoreDoc}
 use Rattle.tough_update.specs.Answered.{AnswerDoc}
 use Rattle.tough_update.specs.Runs.{Loaded}
-use Rattle.tough_client.specs.Acts.{Act}
+use Rattle.tough_vault.specs.Act.{Act}
 use Rattle.tough_client.specs.Loading.{Leads}
 
 module _ {T S K : Type 0} (refuses : T → Parts → TransportError → Type 0) (serves : T → Parts → Runs Item) (keeps : Verifies → K → Act → Result Receipt StepError → K → Type 0) (yields : S → Runs Item)

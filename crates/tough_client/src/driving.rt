@@ -1,9 +1,9 @@
 //! Runs a load on this thread, with nothing to wait for.
 
-ghost use Rattle.std.specs.Prelude.{◌≡◌, Ok, IfOk};
-ghost use Rattle.tough_update.specs.View.{core_doc, outcome_doc};
+ghost use Rattle.std.specs.Prelude.{◌≡◌, Ok, IfOk, IfErr};
+ghost use Rattle.tough_update.specs.View.{outcome_doc};
 ghost use Rattle.tough_client.specs.Loader.{IsBegun, first_core, settings_of, transport_of, verifier_of, keeper_of};
-ghost use Rattle.tough_client.specs.Loading.{Ends, Walks};
+ghost use Rattle.tough_client.specs.Advancing.{Advances, Finishes};
 ghost use Rattle.tough_client.specs.Running.{CanPoll};
 ghost use Rattle.tough_client.specs.Vouching.{Vouches};
 ghost use Rattle.tough_client.specs.Words as part;
@@ -15,10 +15,10 @@ use futures::task::{Doorbell, Poll, Solo};
 use std::alloc::AllocGlobal;
 use std::io;
 use std::random::RandomSource;
-use tough_disk::Clock;
 use tough_net::Transport;
 use tough_roles::Verify;
 use tough_update::{Error, Loaded};
+use tough_vault::Clock;
 
 /// Polls a load until it is ready, at once again where it is pending: for transports that never wait, as those over memory and files.
 pub fn drive<R, T, K, C, V>(
@@ -32,9 +32,8 @@ where
     C: Clock + Drop,
     V: Verify + Drop,
     requires { CanPoll T.Stream.can_poll (part.fetch_of load.old) }
-    ensures done { IfOk result (λ r. Ends T.refuses T.serves K.keeps T.Stream.yields (V.verifies (part.verifier_of load.old)) (part.base_of load.old) (part.transport_of load.old)
-        (part.fetch_of load.old) (core_doc (part.core_of load.old)) (part.keeper_of load.old) (outcome_doc r) (core_doc (part.core_of load.new)) (part.keeper_of load.new)) }
-    ensures walked { Walks K.keeps (V.verifies (part.verifier_of load.old)) (part.keeper_of load.old) (part.keeper_of load.new) }
+    ensures done { IfOk result (λ r. Finishes T.refuses T.serves K.keeps T.Stream.yields V.verifies load.old (outcome_doc r) load.new) }
+    ensures goes { IfErr result (λ e. Advances T.refuses T.serves K.keeps T.Stream.yields V.verifies load.old load.new) }
     ensures trusted { (from : _) → IsBegun from load.old → IfOk result (λ r. IfOk (outcome_doc r) (Vouches T.refuses T.serves K.keeps T.Stream.yields
         (V.verifies (verifier_of from)) (part.base_of load.old) (transport_of from) (first_core (settings_of from)) (keeper_of from))) }
 {

@@ -11,9 +11,9 @@ ghost use Rattle.tough_client.specs.Vouching.{Vouches};
 ghost use Rattle.tough_client.specs.Words as part;
 
 use crate::keeper::Keeper;
-use tough_disk::Clock;
 use tough_net::Transport;
 use tough_roles::Verify;
+use tough_vault::Clock;
 
 /// A load that a loader made, and that succeeds, gives documents that are trusted: a chain of roots from the bytes that were handed in ends
 /// in its root, under which timestamp, snapshot and targets reach their thresholds; each names the next; under `Safe` none of them had

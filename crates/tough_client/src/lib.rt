@@ -12,11 +12,11 @@ pub use driving::drive;
 pub use keeper::Keeper;
 pub use load::Load;
 pub use loader::{RepositoryLoader, Unset};
-pub use tough_disk::{Clock, DirStore, FixedClock, SystemClock};
 pub use tough_update::{
-    Answer, Ask, Core, Error, Fault, Known, Limits, Loaded as Repository, Request,
+    Act, Answer, Ask, Core, Error, Fault, Known, Limits, Loaded as Repository, Request,
 };
 pub use tough_vault::{
-    DocumentName, Entry, ExpirationEnforcement, ListedVersion, MemoryStore, Receipt, Refusal,
-    SnapshotVersions, StepError, Store, StoreError, TimestampVersions, Tip, Vault,
+    Clock, DirStore, DocumentName, Entry, ExpirationEnforcement, FixedClock, ListedVersion,
+    MemoryStore, Receipt, Refusal, SnapshotVersions, StepError, Store, StoreError, SystemClock,
+    TimestampVersions, Tip, Vault,
 };

@@ -5,14 +5,8 @@ ghost use Rattle.futures.specs.Task.{Covers, Keeps};
 ghost use Rattle.futures.specs.Poll.{IfReady, OnPending};
 ghost use Rattle.tough_net.specs.Collecting.{collected, bounds_of, held_by};
 ghost use Rattle.tough_update.specs.Answered as got;
-ghost use Rattle.tough_update.specs.Promises.{Goes};
-ghost use Rattle.tough_update.specs.View.{core_doc, request_doc, fault_doc, outcome_doc, answer_doc};
+ghost use Rattle.tough_update.specs.View.{request_doc, fault_doc, outcome_doc, answer_doc};
 ghost use Rattle.tough_client.specs.Fetching.{Fetches, IsStarted, answer_of};
-ghost use Rattle.tough_update.specs.Stages.{CoreDoc};
-ghost use Rattle.tough_update.specs.Machine.{question};
-ghost use Rattle.tough_update.specs.Questions as ask;
-ghost use Rattle.tough_client.specs.Asking.{IsStep, IsFetch};
-ghost use Rattle.tough_client.specs.Loading.{Reaches, Ends, Gives, Walks};
 ghost use Rattle.tough_client.specs.Running.{CanPoll};
 
 use crate::keeper::Keeper;
@@ -20,11 +14,10 @@ use crate::steps::take_step;
 use futures::task::{Context, Poll};
 use futures::{Future, ready};
 use std::alloc::{AllocError, Global};
-use tough_disk::Clock;
 use tough_net::{Collect, Transport, TransportError, fetch_whole};
 use tough_roles::Verify;
 use tough_update::{Answer, Ask, Core, Error, Fault, Loaded, Request};
-use tough_vault::Receipt;
+use tough_vault::{Clock, Receipt};
 use url::Url;
 
 // The answers that one poll hands to the machine, before it lets other tasks run.
@@ -98,6 +91,7 @@ fn start<T: Transport>(
 
 impl<T: Transport, K: Keeper, C: Clock + Drop, V: Verify + Drop> Load<T, K, C, V> {
     ghost use Rattle.tough_client.specs.Words.{core_of};
+    ghost use Rattle.tough_client.specs.Advancing.{Advances, Finishes};
 
     /// The machine, which stands also after the load is ready.
     pub fn core(&self) -> &Core
@@ -110,11 +104,8 @@ impl<T: Transport, K: Keeper, C: Clock + Drop, V: Verify + Drop> Load<T, K, C, V
     fn collect(&mut self, cx: &mut Context<'_>) -> Poll<()>
         requires running { CanPoll T.Stream.can_poll self.old.fetch }
         requires fetching { IsSome self.old.fetch }
-        ensures same { (self.new.transport ≡ self.old.transport) × (self.new.base ≡ self.old.base) × (self.new.verifier ≡ self.old.verifier) × (self.new.keeper ≡ self.old.keeper) }
+        ensures goes { Advances T.refuses T.serves K.keeps T.Stream.yields V.verifies self.old self.new }
         ensures again { CanPoll T.Stream.can_poll self.new.fetch }
-        ensures follows { (c : CoreDoc) (k : _)
-            → Reaches T.refuses T.serves K.keeps T.Stream.yields (V.verifies self.old.verifier) self.old.base self.old.transport self.new.fetch (core_doc self.new.core) self.new.keeper c k
-            → Reaches T.refuses T.serves K.keeps T.Stream.yields (V.verifies self.old.verifier) self.old.base self.old.transport self.old.fetch (core_doc self.old.core) self.old.keeper c k }
         ensures registered { OnPending result (Covers cx.new (λ s. IsSomeAnd self.new.fetch (λ f. T.Stream.needs (collected f) s))) }
         ensures kept { Keeps cx.old cx.new }
     {
@@ -132,94 +123,41 @@ impl<T: Transport, K: Keeper, C: Clock + Drop, V: Verify + Drop> Load<T, K, C, V
         }
     }
 
-    // Starts the fetch that is asked for.
-    fn begin(&mut self)
-        requires idle { self.old.fetch ≡ None }
-        requires asked { IsFetch (question (core_doc self.old.core)) }
-        ensures same { (self.new.transport ≡ self.old.transport) × (self.new.base ≡ self.old.base) × (self.new.verifier ≡ self.old.verifier) × (self.new.keeper ≡ self.old.keeper) }
-        ensures again { CanPoll T.Stream.can_poll self.new.fetch }
-        ensures follows { (c : CoreDoc) (k : _)
-            → Reaches T.refuses T.serves K.keeps T.Stream.yields (V.verifies self.old.verifier) self.old.base self.old.transport self.new.fetch (core_doc self.new.core) self.new.keeper c k
-            → Reaches T.refuses T.serves K.keeps T.Stream.yields (V.verifies self.old.verifier) self.old.base self.old.transport self.old.fetch (core_doc self.old.core) self.old.keeper c k }
-    {
-        let Ask::Fetch(request) = self.core.ask() else {
-            unreachable!()
-        };
-        match start(self.alloc, &self.transport, &self.base, request) {
-            Ok(fetch) => self.fetch = Some(fetch),
-            Err(fault) => {
-                self.core
-                    .answer(self.alloc, &self.verifier, Answer::NotStarted(fault));
-            }
-        }
-    }
-
-    // Takes the step that is asked for.
-    fn step(&mut self)
-        requires idle { self.old.fetch ≡ None }
-        requires asked { IsStep (question (core_doc self.old.core)) }
-        ensures same { (self.new.transport ≡ self.old.transport) × (self.new.base ≡ self.old.base) × (self.new.verifier ≡ self.old.verifier) × (self.new.fetch ≡ None) }
-        ensures follows { (c : CoreDoc) (k : _)
-            → Reaches T.refuses T.serves K.keeps T.Stream.yields (V.verifies self.old.verifier) self.old.base self.old.transport self.new.fetch (core_doc self.new.core) self.new.keeper c k
-            → Reaches T.refuses T.serves K.keeps T.Stream.yields (V.verifies self.old.verifier) self.old.base self.old.transport self.old.fetch (core_doc self.old.core) self.old.keeper c k }
-        ensures walked { Walks K.keeps (V.verifies self.old.verifier) self.old.keeper self.new.keeper }
-    {
-        let answer = take_step(
-            self.alloc,
-            &mut self.keeper,
-            &self.verifier,
-            &mut self.receipts,
-            self.core.ask(),
-        );
-        self.core.answer(self.alloc, &self.verifier, answer);
-    }
-
-    // Tells the time.
-    fn tell(&mut self)
-        requires idle { self.old.fetch ≡ None }
-        requires asked { question (core_doc self.old.core) ≡ ask.Moment }
-        ensures same { (self.new.transport ≡ self.old.transport) × (self.new.base ≡ self.old.base) × (self.new.verifier ≡ self.old.verifier) × (self.new.keeper ≡ self.old.keeper) × (self.new.fetch ≡ None) }
-        ensures follows { (c : CoreDoc) (k : _)
-            → Reaches T.refuses T.serves K.keeps T.Stream.yields (V.verifies self.old.verifier) self.old.base self.old.transport self.new.fetch (core_doc self.new.core) self.new.keeper c k
-            → Reaches T.refuses T.serves K.keeps T.Stream.yields (V.verifies self.old.verifier) self.old.base self.old.transport self.old.fetch (core_doc self.old.core) self.old.keeper c k }
-    {
-        let now = self.clock.now();
-        self.core
-            .answer(self.alloc, &self.verifier, Answer::Moment(now));
-    }
-
     // Does what the machine asks for, and gives the outcome where nothing is left.
     fn advance(&mut self) -> Option<Result<Loaded, Error>>
         requires idle { self.old.fetch ≡ None }
-        ensures same { (self.new.transport ≡ self.old.transport) × (self.new.base ≡ self.old.base) × (self.new.verifier ≡ self.old.verifier) }
-        ensures done { IfSome result (λ r. Ends T.refuses T.serves K.keeps T.Stream.yields (V.verifies self.old.verifier) self.old.base self.old.transport
-            self.old.fetch (core_doc self.old.core) self.old.keeper (outcome_doc r) (core_doc self.new.core) self.new.keeper) }
-        ensures follows { IsNone result → (c : CoreDoc) (k : _)
-            → Reaches T.refuses T.serves K.keeps T.Stream.yields (V.verifies self.old.verifier) self.old.base self.old.transport self.new.fetch (core_doc self.new.core) self.new.keeper c k
-            → Reaches T.refuses T.serves K.keeps T.Stream.yields (V.verifies self.old.verifier) self.old.base self.old.transport self.old.fetch (core_doc self.old.core) self.old.keeper c k }
-        ensures walked { Walks K.keeps (V.verifies self.old.verifier) self.old.keeper self.new.keeper }
+        ensures done { IfSome result (λ r. Finishes T.refuses T.serves K.keeps T.Stream.yields V.verifies self.old (outcome_doc r) self.new) }
+        ensures goes { IsNone result → Advances T.refuses T.serves K.keeps T.Stream.yields V.verifies self.old self.new }
         ensures again { CanPoll T.Stream.can_poll self.new.fetch }
     {
-        match self.core.ask() {
-            Ask::Ready => self.core.take_outcome(),
-            Ask::Moment => {
-                self.tell();
-                None
+        let answer = match self.core.ask() {
+            Ask::Ready => return self.core.take_outcome(),
+            Ask::Moment => Answer::Moment(self.clock.now()),
+            Ask::Fetch(request) => {
+                match start(self.alloc, &self.transport, &self.base, request) {
+                    Ok(fetch) => {
+                        self.fetch = Some(fetch);
+                        return None;
+                    }
+                    Err(fault) => Answer::NotStarted(fault),
+                }
             }
-            Ask::Fetch(_) => {
-                self.begin();
-                None
-            }
-            _ => {
-                self.step();
-                None
-            }
-        }
+            Ask::Step(act) => take_step(
+                self.alloc,
+                &mut self.keeper,
+                &self.verifier,
+                &mut self.receipts,
+                &act,
+            ),
+        };
+        self.core.answer(self.alloc, &self.verifier, answer);
+        None
     }
 }
 
 impl<T: Transport, K: Keeper, C: Clock + Drop, V: Verify + Drop> Future for Load<T, K, C, V> {
-    ghost use Rattle.tough_client.specs.Words.{transport_of, base_of, verifier_of, keeper_of, core_of, fetch_of};
+    ghost use Rattle.tough_client.specs.Words.{fetch_of};
+    ghost use Rattle.tough_client.specs.Advancing.{MayGive, Advances, Finishes};
 
     type Output = Result<Loaded, Error>;
 
@@ -227,22 +165,17 @@ impl<T: Transport, K: Keeper, C: Clock + Drop, V: Verify + Drop> Future for Load
 
     ghost needs = { λ m s. IsSomeAnd (fetch_of m) (λ f. T.Stream.needs (collected f) s) };
 
-    ghost gives = { λ m r. Gives T.refuses T.serves K.keeps T.Stream.yields (V.verifies (verifier_of m)) (base_of m) (transport_of m) (fetch_of m) (core_doc (core_of m)) (keeper_of m) (outcome_doc r) };
+    ghost gives = { λ m r. MayGive T.refuses T.serves K.keeps T.Stream.yields V.verifies m (outcome_doc r) };
 
     fn poll(&mut self, cx: &mut Context<'_>) -> Poll<Self::Output>
         requires { CanPoll T.Stream.can_poll (fetch_of self.old) }
-        ensures value { IfReady result (λ r. Gives T.refuses T.serves K.keeps T.Stream.yields (V.verifies (verifier_of self.old)) (base_of self.old) (transport_of self.old) (fetch_of self.old) (core_doc (core_of self.old)) (keeper_of self.old) (outcome_doc r)) }
+        ensures value { IfReady result (λ r. MayGive T.refuses T.serves K.keeps T.Stream.yields V.verifies self.old (outcome_doc r)) }
         ensures same { OnPending result ((r : _)
-            → Gives T.refuses T.serves K.keeps T.Stream.yields (V.verifies (verifier_of self.new)) (base_of self.new) (transport_of self.new) (fetch_of self.new) (core_doc (core_of self.new)) (keeper_of self.new) (outcome_doc r)
-            → Gives T.refuses T.serves K.keeps T.Stream.yields (V.verifies (verifier_of self.old)) (base_of self.old) (transport_of self.old) (fetch_of self.old) (core_doc (core_of self.old)) (keeper_of self.old) (outcome_doc r)) }
-        ensures parts { (transport_of self.new ≡ transport_of self.old) × (base_of self.new ≡ base_of self.old) × (verifier_of self.new ≡ verifier_of self.old) }
-        ensures walked { Walks K.keeps (V.verifies (verifier_of self.old)) (keeper_of self.old) (keeper_of self.new) }
-        ensures done { IfReady result (λ r. Ends T.refuses T.serves K.keeps T.Stream.yields (V.verifies (verifier_of self.old)) (base_of self.old) (transport_of self.old)
-            (fetch_of self.old) (core_doc (core_of self.old)) (keeper_of self.old) (outcome_doc r) (core_doc (core_of self.new)) (keeper_of self.new)) }
+            → MayGive T.refuses T.serves K.keeps T.Stream.yields V.verifies self.new (outcome_doc r)
+            → MayGive T.refuses T.serves K.keeps T.Stream.yields V.verifies self.old (outcome_doc r)) }
+        ensures done { IfReady result (λ r. Finishes T.refuses T.serves K.keeps T.Stream.yields V.verifies self.old (outcome_doc r) self.new) }
+        ensures goes { OnPending result (Advances T.refuses T.serves K.keeps T.Stream.yields V.verifies self.old self.new) }
         ensures again { OnPending result (CanPoll T.Stream.can_poll (fetch_of self.new)) }
-        ensures follows { OnPending result ((c : CoreDoc) (k : _)
-            → Reaches T.refuses T.serves K.keeps T.Stream.yields (V.verifies (verifier_of self.old)) (base_of self.old) (transport_of self.old) (fetch_of self.new) (core_doc (core_of self.new)) (keeper_of self.new) c k
-            → Reaches T.refuses T.serves K.keeps T.Stream.yields (V.verifies (verifier_of self.old)) (base_of self.old) (transport_of self.old) (fetch_of self.old) (core_doc (core_of self.old)) (keeper_of self.old) c k) }
         ensures registered { OnPending result (Covers cx.new (λ s. IsSomeAnd (fetch_of self.new) (λ f. T.Stream.needs (collected f) s))) }
         ensures kept { Keeps cx.old cx.new }
     {

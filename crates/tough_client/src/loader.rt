@@ -8,11 +8,10 @@ ghost use Rattle.tough_client.specs.Base.{with_slash, IsFault, IsUnbegun};
 use crate::keeper::Keeper;
 use crate::load::Load;
 use std::alloc::Global;
-use tough_disk::Clock;
 use tough_net::Transport;
 use tough_roles::Verify;
 use tough_update::{Core, Error, Limits};
-use tough_vault::ExpirationEnforcement;
+use tough_vault::{Clock, ExpirationEnforcement};
 use url::{ParseError, Url};
 
 /// A part of a loader that isn't given yet.

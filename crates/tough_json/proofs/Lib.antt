@@ -1,3 +1,16 @@
+pub mod Holding
+pub mod Joining
+pub mod Heads
+pub mod Ends
+pub mod Ordered
+pub mod Unambiguous
+pub mod Exactness
+pub mod Existence
+pub mod Placing
+pub mod Computed
+pub mod Escaping
+pub mod Plain
+pub mod ByName
 pub mod MemberLemmas
 pub mod EachLemmas
 pub mod WriteLemmas
@@ -10,3 +23,4 @@ pub mod MomentExists
 pub mod JsonLemmas
 pub mod PieceLemmas
 pub mod BorrowedLemmas
+pub mod TableLemmas

@@ -1,6 +1,13 @@
+pub mod Ascii
+pub mod ByName
+pub mod Canon
+pub mod CanonicalText
+pub mod Same
+pub mod Small
 pub mod Reading
 pub mod Results
 pub mod Writing
 pub mod Moment
 pub mod Pieces
 pub mod Borrowed
+pub mod Table

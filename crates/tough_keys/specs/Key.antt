@@ -2,7 +2,7 @@
 use Rattle.std.specs.Prelude.{◌≡◌, ℕ, List, Option, Some, None, option_map, option_and_then, codes, if◌then◌else◌, ⊤}
 use Rattle.std.specs.Str.{bytes_eq}
 use Rattle.tough_base.specs.Spelled.{Spelled, hex_bytes, pem_bytes, flex_bytes}
-use Rattle.tough_base.specs.CanonicalText.{canonical_of}
+use Rattle.tough_json.specs.CanonicalText.{canonical_of}
 use Rattle.sha2.specs.Sha256.{sha256}
 use Rattle.serde_json.specs.Data.{Data, string, object, Members}
 use Rattle.serde_json.specs.Find.{as_object, as_str}

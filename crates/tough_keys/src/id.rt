@@ -1,7 +1,7 @@
 ghost use Rattle.std.specs.Prelude.{◌≡◌, IfOk};
 ghost use Rattle.hex.specs.Hex.{encode_lower};
 ghost use Rattle.serde_json.specs.View.{view};
-ghost use Rattle.tough_base.specs.CanonicalText.{canonical_of};
+ghost use Rattle.tough_json.specs.CanonicalText.{canonical_of};
 ghost use Rattle.tough_json.specs.Results.{Writes};
 ghost use Rattle.tough_keys.specs.Key.{key_doc, key_id_of};
 
@@ -9,8 +9,9 @@ use crate::key::Key;
 use serde_json::Value;
 use sha2::{Digest, Sha256};
 use std::alloc::Global;
-use tough_base::{CjsonError, Decoded, Hex, canonical};
+use tough_base::{Decoded, Hex};
 use tough_json::error::WriteError;
+use tough_json::{CjsonError, canonical};
 
 /// The canonical text of a value; `Unwritable` where it has none.
 pub fn text_of(alloc: Global, value: &Value) -> Result<Vec<u8>, WriteError>

@@ -87,29 +87,6 @@ keys-done found = refl
 
 -- ---- roles
 
-insert-role-at : (o : Ordering) (e : RoleType × RoleKeys) (es rest : List (RoleType × RoleKeys)) (id : RoleType) (key : RoleKeys) (docs : List (RoleType × RoleKeysDoc)) → roles_doc rest ≡ docs
-    → roles_doc (match_ordering o ((id, key) ∷ e ∷ es) ((e.0, key) ∷ es) (e ∷ rest)) ≡ match_ordering o ((id, role_keys_doc key) ∷ roles_doc (e ∷ es)) ((e.0, role_keys_doc key) ∷ roles_doc es) ((e.0, role_keys_doc e.1) ∷ docs)
-insert-role-at Less e es rest id key docs h = refl
-insert-role-at Equal e es rest id key docs h = refl
-insert-role-at Greater e es rest id key docs h = ap (λ l. (e.0, role_keys_doc e.1) ∷ l) h
-
-pub insert-roles_doc : (es : List (RoleType × RoleKeys)) (id : RoleType) (key : RoleKeys) → roles_doc (insert_entry role_cmp es id key) ≡ insert_entry role_cmp (roles_doc es) id (role_keys_doc key)
-insert-roles_doc [] id key = refl
-insert-roles_doc (e ∷ es) id key = insert-role-at (role_cmp id e.0) e es (insert_entry role_cmp es id key) id key (insert_entry role_cmp (roles_doc es) id (role_keys_doc key)) (insert-roles_doc es id key)
-
-pub roles-more : (found : List (RoleType × RoleKeysDoc)) (name : List ℕ) (d : Data) (ms : Members) (r : RoleType × RoleKeysDoc) → role_entry_at name d ≡ Some r
-    → roles_from found (member name d ms) ≡ roles_from (insert_entry role_cmp found r.0 r.1) ms
-unfolding table_from
-roles-more found name d ms r h = rw h refl
-
-pub roles-refused : (found : List (RoleType × RoleKeysDoc)) (name : List ℕ) (d : Data) (ms : Members) → role_entry_at name d ≡ None → roles_from found (member name d ms) ≡ None
-unfolding table_from
-roles-refused found name d ms h = rw h refl
-
-pub roles-done : (found : List (RoleType × RoleKeysDoc)) → roles_from found no_members ≡ Some found
-unfolding table_from
-roles-done found = refl
-
 -- ---- each key that was read stands under its own identifier
 
 own_eq : (own id : List ℕ) (a e : Spelled × KeyDoc) (t : Bool) → bytes_eq own id ≡ t → (if t then Some a else None) ≡ Some e → (Some own ≡ Some id) × (a ≡ e)

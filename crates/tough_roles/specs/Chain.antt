@@ -1,7 +1,7 @@
 -- Roots that follow one another (TUF specification 1.0, section 5.3).
 use Rattle.std.specs.Prelude.{◌≡◌, ℕ, ◌+◌, List, [], ◌∷◌, Option, Some, option_and_then}
 use Rattle.serde_json.specs.Data.{Data}
-use Rattle.tough_base.specs.CanonicalText.{canonical_of}
+use Rattle.tough_json.specs.CanonicalText.{canonical_of}
 use Rattle.tough_keys.specs.Same.{Verifies}
 use Rattle.tough_roles.specs.Signature.{SignedDoc}
 use Rattle.tough_roles.specs.Root.{RootDoc, root_json}

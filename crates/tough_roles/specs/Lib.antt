@@ -2,7 +2,7 @@ pub mod Signature
 pub mod Document
 pub mod Head
 pub mod Roles
-pub mod Table
+pub use Rattle.tough_json.specs.Table
 pub mod Root
 pub mod Timestamp
 pub mod Policy

@@ -1,12 +1,12 @@
 //! Roots, read from JSON.
 
 ghost use Rattle.std.specs.Prelude.{◌≡◌, [], option_and_then};
-ghost use Rattle.serde_json.specs.View.{view, items_view, members_view};
+ghost use Rattle.serde_json.specs.View.{view, members_view};
 ghost use Rattle.serde_json.specs.Find.{as_object};
 ghost use Rattle.tough_keys.specs.Key.{key_doc};
-ghost use Rattle.tough_json.specs.Reading.{required, listing, all_at, hexadecimal};
+ghost use Rattle.tough_json.specs.Reading.{required, listing, hexadecimal};
 ghost use Rattle.tough_json.specs.Results.{Reads, Takes};
-ghost use Rattle.tough_roles.specs.Root.{keys_doc, key_entry_at, keys_from, keys_at, role_keys_doc, roles_doc, role_keys_at, role_entry_at, roles_from, roles_at, root_doc, root_at};
+ghost use Rattle.tough_roles.specs.Root.{keys_doc, key_entry_at, keys_from, keys_at, RoleKeysDoc, role_keys_doc, roles_doc, role_keys_at, role_entry_at, roles_at, root_doc, root_at};
 
 use crate::head::head_of;
 use crate::role_type::RoleType;
@@ -16,7 +16,9 @@ use std::alloc::Global;
 use std::collections::BTreeMap;
 use tough_base::{DecodeError, Decoded, Hex};
 use tough_json::error::{ReadError, WriteError, shape};
+use tough_json::list::list;
 use tough_json::member::{positive, take, truth};
+use tough_json::table::{FromEntry, table_of};
 use tough_keys::Key;
 
 // A member as a key under its own identifier.
@@ -75,31 +77,6 @@ pub fn keys(
     }
 }
 
-// Each item as an identifier.
-fn keyids_of(alloc: Global, values: Vec<Value>) -> Result<Vec<Decoded<Hex>>, ReadError>
-    ensures { Reads (λ v. v.items) result (all_at hexadecimal (items_view values.items)) }
-{
-    let mut keyids = Vec::new(alloc);
-    for value in values {
-        let keyid = keyid_of(alloc, value)?;
-        keyids.push(keyid)?;
-    }
-    Ok(keyids)
-}
-
-fn keyid_of(alloc: Global, value: Value) -> Result<Decoded<Hex>, ReadError>
-    ensures { Reads (λ d. d) result (hexadecimal (view value)) }
-{
-    match value {
-        Value::String(text) => match Decoded::from_str(alloc, text.as_str()) {
-            Ok(decoded) => Ok(decoded),
-            Err(DecodeError::Memory) => Err(ReadError::Memory),
-            Err(_) => Err(shape(alloc, "keyids")),
-        },
-        _ => Err(shape(alloc, "keyids")),
-    }
-}
-
 /// The member of the name, as a list of identifiers, which must be there.
 pub fn keyids(
     alloc: Global,
@@ -108,10 +85,7 @@ pub fn keyids(
 ) -> Result<Vec<Decoded<Hex>>, ReadError>
     ensures { Takes (λ v. v.items) result (members_view members.new.entries) (required name.now (listing hexadecimal) (members_view members.old.entries)) }
 {
-    match take(members, name) {
-        Some(Value::Array(items)) => keyids_of(alloc, items),
-        _ => Err(shape(alloc, name)),
-    }
+    list(alloc, members, name)
 }
 
 #[tactic(auto, unfolding(crate::specs::Root::role_keys_at))]
@@ -130,31 +104,25 @@ fn role_keys_of(alloc: Global, value: Value) -> Result<RoleKeys, ReadError>
     })
 }
 
-// A member as a role and its keys.
-#[tactic(auto, unfolding(crate::specs::Root::role_entry_at))]
-fn role_entry(alloc: Global, name: &str, value: Value) -> Result<(RoleType, RoleKeys), ReadError>
-    ensures { Reads (λ p. (p.0, role_keys_doc p.1)) result (role_entry_at name.now (view value)) }
-{
-    let Some(role) = RoleType::of(name) else {
-        return Err(shape(alloc, "roles"));
-    };
-    let keys = role_keys_of(alloc, value)?;
-    Ok((role, keys))
-}
+impl FromEntry<RoleType> for RoleKeys {
+    ghost Doc = { RoleKeysDoc };
 
-// The members as roles.
-fn roles_of(
-    alloc: Global,
-    members: Map<String, Value>,
-) -> Result<BTreeMap<RoleType, RoleKeys>, ReadError>
-    ensures { Reads (λ m. roles_doc m.entries) result (roles_from [] (members_view members.entries)) }
-{
-    let mut roles = BTreeMap::new(alloc);
-    for (name, value) in members {
-        let (role, keys) = role_entry(alloc, name.as_str(), value)?;
-        drop(roles.insert(role, keys)?);
+    ghost doc = { role_keys_doc };
+
+    ghost at = { role_entry_at };
+
+    #[tactic(auto, unfolding(crate::specs::Root::role_entry_at))]
+    fn from_entry(
+        alloc: Global,
+        name: &str,
+        value: Value,
+    ) -> Result<(RoleType, RoleKeys), ReadError> {
+        let Some(role) = RoleType::of(name) else {
+            return Err(shape(alloc, "roles"));
+        };
+        let keys = role_keys_of(alloc, value)?;
+        Ok((role, keys))
     }
-    Ok(roles)
 }
 
 fn roles(
@@ -165,7 +133,7 @@ fn roles(
     ensures { Takes (λ m. roles_doc m.entries) result (members_view members.new.entries) (required name.now roles_at (members_view members.old.entries)) }
 {
     match take(members, name) {
-        Some(Value::Object(inner)) => roles_of(alloc, inner),
+        Some(Value::Object(inner)) => table_of(alloc, inner),
         _ => Err(shape(alloc, name)),
     }
 }

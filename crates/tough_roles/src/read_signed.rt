@@ -2,56 +2,34 @@ ghost use Rattle.std.specs.Prelude.{◌≡◌, Some};
 ghost use Rattle.json.specs.Value.{value_view};
 ghost use Rattle.serde_json.specs.Data.{Data};
 ghost use Rattle.serde_json.specs.Read.{of_json};
-ghost use Rattle.serde_json.specs.View.{view, items_view, members_view};
-ghost use Rattle.tough_json.specs.Reading.{all_at, listing, required};
-ghost use Rattle.tough_json.specs.Results.{Reads, Takes};
-ghost use Rattle.tough_roles.specs.Signature.{signature_doc, signatures_doc, signature_at, signed_parts};
+ghost use Rattle.tough_roles.specs.Signature.{SignatureDoc, signature_doc, signatures_doc, signature_at, signed_parts};
 ghost use Rattle.tough_roles.specs.Document.{ReadsValue, ReadsParts, IsSigned, IsNotSigned};
 
 use crate::role::Role;
 use crate::signature::Signature;
 use crate::signed::Signed;
-use serde_json::{Map, Value};
+use serde_json::Value;
 use std::alloc::Global;
 use tough_json::borrowed::{Borrowed, take_member};
 use tough_json::error::{ReadError, shape};
-use tough_json::member::{hexadecimal, take};
+use tough_json::list::{FromJson, list};
+use tough_json::member::hexadecimal;
 
-#[tactic(auto, unfolding(crate::specs::Signature::signature_at))]
-fn signature_of(alloc: Global, value: Value) -> Result<Signature, ReadError>
-    ensures { Reads signature_doc result (signature_at (view value)) }
-{
-    let Value::Object(mut members) = value else {
-        return Err(shape(alloc, "signatures"));
-    };
-    let keyid = hexadecimal(alloc, &mut members, "keyid")?;
-    let sig = hexadecimal(alloc, &mut members, "sig")?;
-    Ok(Signature { keyid, sig })
-}
+impl FromJson for Signature {
+    ghost Doc = { SignatureDoc };
 
-// Each item as a signature.
-fn signatures_of(alloc: Global, values: Vec<Value>) -> Result<Vec<Signature>, ReadError>
-    ensures { Reads (λ v. signatures_doc v.items) result (all_at signature_at (items_view values.items)) }
-{
-    let mut signatures = Vec::new(alloc);
-    for value in values {
-        let signature = signature_of(alloc, value)?;
-        signatures.push(signature)?;
-    }
-    Ok(signatures)
-}
+    ghost doc = { signature_doc };
 
-// The list of signatures that must be there.
-fn signatures(
-    alloc: Global,
-    members: &mut Map<String, Value>,
-    name: &str,
-) -> Result<Vec<Signature>, ReadError>
-    ensures { Takes (λ v. signatures_doc v.items) result (members_view members.new.entries) (required name.now (listing signature_at) (members_view members.old.entries)) }
-{
-    match take(members, name) {
-        Some(Value::Array(items)) => signatures_of(alloc, items),
-        _ => Err(shape(alloc, name)),
+    ghost at = { signature_at };
+
+    #[tactic(auto, unfolding(crate::specs::Signature::signature_at))]
+    fn from_json(alloc: Global, value: Value, name: &str) -> Result<Signature, ReadError> {
+        let Value::Object(mut members) = value else {
+            return Err(shape(alloc, name));
+        };
+        let keyid = hexadecimal(alloc, &mut members, "keyid")?;
+        let sig = hexadecimal(alloc, &mut members, "sig")?;
+        Ok(Signature { keyid, sig })
     }
 }
 
@@ -67,7 +45,7 @@ fn parts_of(
         return Err(shape(alloc, "document"));
     };
     let (role, mut others) = take_member(alloc, members, "signed")?;
-    let listed = signatures(alloc, &mut others, "signatures")?;
+    let listed = list(alloc, &mut others, "signatures")?;
     Ok((role, listed))
 }
 

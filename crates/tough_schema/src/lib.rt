@@ -31,6 +31,7 @@ pub use delegations::{DelegatedRole, Delegations, PathSet};
 pub use file_digest::FileError;
 pub use target::Target;
 pub use targets::{DelegatedTargets, Targets};
+pub use tough_json::{CjsonError, canonical};
 pub use tough_roles::{
     DemoSign, DemoVerify, EcdsaKey, EcdsaScheme, Ed25519Key, Ed25519Scheme, Error, Hashes, Key,
     KeyParseError, KeysIter, Metafile, ReadError, Role, RoleId, RoleKeys, RoleType, Root, RsaKey,

@@ -1,4 +1,5 @@
 pub mod Walking
+pub mod Turning
 pub mod Sound
 pub mod Whole
 pub mod Rotated

@@ -75,8 +75,8 @@ module _ (v : Verifies) (files : Files) (s : SettingDoc) (l : LoadedDoc) (able :
   abbrev base : BaseDoc
   base = record { start = l.known.start; root = l.known.root }
 
-  leads-put_targets : Leads (at.PutTargets l.known l.targets)
-  leads-put_targets = leads-turn (at.PutTargets l.known l.targets) (at.Done (Ok l)) (got.Step (Ok (tt {0}))) (λ e. cc) (λ x h. h) refl leads-done
+  leads-put_targets : Leads (at.Step (at.PutTargets l.known l.targets))
+  leads-put_targets = leads-turn (at.Step (at.PutTargets l.known l.targets)) (at.Done (Ok l)) (got.Step (Ok (tt {0}))) (λ e. cc) (λ x h. h) refl leads-done
 
   taken : (bytes : List ℕ) → targets_in bytes ≡ Some l.targets → bare_targets bytes ≡ Ok l.targets
   taken bytes h =
@@ -91,55 +91,55 @@ module _ (v : Verifies) (files : Files) (s : SettingDoc) (l : LoadedDoc) (able :
       ap (λ w. if_verified fault w (versioned (l.targets.role.head.version == able.targets_entry.version))) (signed-ok v l.known.root.role role.Targets targets_json l.targets able.targets_signed)
       ∙ (ap versioned (eq-eqb _ _ able.targets_version) ∙ ap expiring able.targets_in_time)
 
-  moves-targets : new_targets v s.enforced l.known able.targets_entry.version able.targets.bytes ≡ Ok (at.PutTargets l.known l.targets)
+  moves-targets : new_targets v s.enforced l.known able.targets_entry.version able.targets.bytes ≡ Ok (at.Step (at.PutTargets l.known l.targets))
   moves-targets =
       ap (λ r. and_then r (accepted_targets v s.enforced l.known able.targets_entry.version)) (taken able.targets.bytes able.targets.reading)
-      ∙ ap (λ r. and_then r (λ u. Ok (at.PutTargets l.known l.targets))) checked
+      ∙ ap (λ r. and_then r (λ u. Ok (at.Step (at.PutTargets l.known l.targets)))) checked
 
   abbrev targets_wanted : StageDoc
-  targets_wanted = at.FetchTargets l.known able.targets_entry.version (targets_request s.limits l.known.root.role.consistent_snapshot able.targets_entry)
+  targets_wanted = at.Fetch (at.Targets l.known able.targets_entry.version) (targets_request s.limits l.known.root.role.consistent_snapshot able.targets_entry)
 
   leads-fetch_targets : Leads targets_wanted
-  leads-fetch_targets = leads-turn targets_wanted (at.PutTargets l.known l.targets) (got.Bytes able.targets.bytes) (λ e. cc)
+  leads-fetch_targets = leads-turn targets_wanted (at.Step (at.PutTargets l.known l.targets)) (got.Bytes able.targets.bytes) (λ e. cc)
       (gets-bytes _ able.targets.bytes able.targets.served) (ap settled moves-targets) leads-put_targets
 
-  leads-put_snapshot : Leads (at.PutSnapshot l.known able.entry.version)
-  leads-put_snapshot = leads-turn (at.PutSnapshot l.known able.entry.version) targets_wanted (got.Step (Ok (tt {0}))) (λ e. cc) (λ x h. h)
+  leads-put_snapshot : Leads (at.Step (at.PutSnapshot l.known able.entry.version))
+  leads-put_snapshot = leads-turn (at.Step (at.PutSnapshot l.known able.entry.version)) targets_wanted (got.Step (Ok (tt {0}))) (λ e. cc) (λ x h. h)
       (ap (λ o. settled (want_targets s.limits l.known o)) able.targets_listed) leads-fetch_targets
 
   abbrev snapshot_wanted : StageDoc
-  snapshot_wanted = at.FetchSnapshot base l.known.timestamp able.entry.version (snapshot_request s.limits l.known.root.role.consistent_snapshot able.entry)
+  snapshot_wanted = at.Fetch (at.Snapshot base l.known.timestamp able.entry.version) (snapshot_request s.limits l.known.root.role.consistent_snapshot able.entry)
 
   leads-fetch_snapshot : Leads snapshot_wanted
-  leads-fetch_snapshot = leads-turn snapshot_wanted (at.PutSnapshot l.known able.entry.version) (got.Bytes able.snapshot.bytes) (λ e. cc)
+  leads-fetch_snapshot = leads-turn snapshot_wanted (at.Step (at.PutSnapshot l.known able.entry.version)) (got.Bytes able.snapshot.bytes) (λ e. cc)
       (gets-bytes _ able.snapshot.bytes able.snapshot.served)
-      (ap (λ o. settled (if_read (ParseMetadata role.Snapshot) o (λ d. Ok (at.PutSnapshot (known_of base l.known.timestamp d) able.entry.version)))) able.snapshot.reading)
+      (ap (λ o. settled (if_read (ParseMetadata role.Snapshot) o (λ d. Ok (at.Step (at.PutSnapshot (known_of base l.known.timestamp d) able.entry.version))))) able.snapshot.reading)
       leads-put_snapshot
 
-  leads-put_timestamp : Leads (at.PutTimestamp base l.known.timestamp)
-  leads-put_timestamp = leads-turn (at.PutTimestamp base l.known.timestamp) snapshot_wanted (got.Step (Ok (tt {0}))) (λ e. cc) (λ x h. h)
+  leads-put_timestamp : Leads (at.Step (at.PutTimestamp base l.known.timestamp))
+  leads-put_timestamp = leads-turn (at.Step (at.PutTimestamp base l.known.timestamp)) snapshot_wanted (got.Step (Ok (tt {0}))) (λ e. cc) (λ x h. h)
       (ap (λ o. settled (want_snapshot s.limits base l.known.timestamp o)) able.listed) leads-fetch_snapshot
 
-  leads-fetch_timestamp : Leads (at.FetchTimestamp base (timestamp_request s.limits))
-  leads-fetch_timestamp = leads-turn (at.FetchTimestamp base (timestamp_request s.limits)) (at.PutTimestamp base l.known.timestamp) (got.Bytes able.timestamp.bytes) (λ e. cc)
+  leads-fetch_timestamp : Leads (at.Fetch (at.Timestamp base) (timestamp_request s.limits))
+  leads-fetch_timestamp = leads-turn (at.Fetch (at.Timestamp base) (timestamp_request s.limits)) (at.Step (at.PutTimestamp base l.known.timestamp)) (got.Bytes able.timestamp.bytes) (λ e. cc)
       (gets-bytes _ able.timestamp.bytes able.timestamp.served)
-      (ap (λ o. settled (if_read (ParseMetadata role.Timestamp) o (λ d. Ok (at.PutTimestamp base d)))) able.timestamp.reading)
+      (ap (λ o. settled (if_read (ParseMetadata role.Timestamp) o (λ d. Ok (at.Step (at.PutTimestamp base d))))) able.timestamp.reading)
       leads-put_timestamp
 
-  leads-put_last : Leads (at.PutLast walk)
-  leads-put_last = leads-turn (at.PutLast walk) (at.FetchTimestamp base (timestamp_request s.limits)) (got.Step (Ok (tt {0}))) (λ e. cc) (λ x h. h)
-      (let cleared : Result StageDoc Failure = Ok (at.Clear base) in
-      let kept : Result StageDoc Failure = Ok (at.FetchTimestamp base (timestamp_request s.limits)) in
+  leads-put_last : Leads (at.Step (at.PutLast walk))
+  leads-put_last = leads-turn (at.Step (at.PutLast walk)) (at.Fetch (at.Timestamp base) (timestamp_request s.limits)) (got.Step (Ok (tt {0}))) (λ e. cc) (λ x h. h)
+      (let cleared : Result StageDoc Failure = Ok (at.Step (at.Clear base)) in
+      let kept : Result StageDoc Failure = Ok (at.Fetch (at.Timestamp base) (timestamp_request s.limits)) in
       ap settled
       (ap (λ b. unless (Checked (ExpiredMetadata role.Root)) (not b) (if is_rotated l.known.root.role l.known.root.role then cleared else kept)) able.root_in_time
       ∙ ap (λ b. if b then cleared else kept) (not-rotated l.known.root.role)))
       leads-fetch_timestamp
 
   abbrev root_wanted : StageDoc
-  root_wanted = at.FetchRoot walk (root_request s.limits (l.known.root.role.head.version + 1))
+  root_wanted = at.Fetch (at.Root walk) (root_request s.limits (l.known.root.role.head.version + 1))
 
   leads-fetch_root : Leads root_wanted
-  leads-fetch_root = leads-turn root_wanted (at.PutLast walk) (got.NotStarted NotFound) (λ e. cc) (gets-none _ able.no_next) refl leads-put_last
+  leads-fetch_root = leads-turn root_wanted (at.Step (at.PutLast walk)) (got.NotStarted NotFound) (λ e. cc) (gets-none _ able.no_next) refl leads-put_last
 
   first : first_root v s.trusted ≡ Ok l.known.root
   first =
@@ -149,17 +149,17 @@ module _ (v : Verifies) (files : Files) (s : SettingDoc) (l : LoadedDoc) (able :
 
   begins : walked s.limits walk ≡ Ok root_wanted
   begins =
-      let ended : Result StageDoc Failure = Ok (at.PutLast walk) in
+      let ended : Result StageDoc Failure = Ok (at.Step (at.PutLast walk)) in
       let more : Result StageDoc Failure = Ok root_wanted in
       ap (λ b. unless (MaxUpdatesExceeded s.limits.max_root_updates) b (if l.known.root.role.head.version == 2 ^ 64 - 1 then ended else more)) (none-first l.known.root.role.head.version s.limits.max_root_updates able.one_update)
       ∙ ap (λ b. if b then ended else more) (not-equal l.known.root.role.head.version (2 ^ 64 - 1) able.root_low)
 
-  leads-note_time : Leads (at.NoteTime l.known.start)
-  leads-note_time = leads-turn (at.NoteTime l.known.start) root_wanted (got.Step (Ok (tt {0}))) (λ e. cc) (λ x h. h)
+  leads-note_time : Leads (at.Step (at.NoteTime l.known.start))
+  leads-note_time = leads-turn (at.Step (at.NoteTime l.known.start)) root_wanted (got.Step (Ok (tt {0}))) (λ e. cc) (λ x h. h)
       (ap settled (ap (λ r. and_then r (λ root. walked s.limits (record { start = l.known.start; first = root; last = root }))) first ∙ begins)) leads-fetch_root
 
   pub leads-moment : Leads at.Moment
-  leads-moment = leads-turn at.Moment (at.NoteTime l.known.start) (got.Moment l.known.start) (λ e. cc) (λ x h. h) refl leads-note_time
+  leads-moment = leads-turn at.Moment (at.Step (at.NoteTime l.known.start)) (got.Moment l.known.start) (λ e. cc) (λ x h. h) refl leads-note_time
 
 pub loads : (v : Verifies) (c : CoreDoc) (files : Files) (l : LoadedDoc) (answers : List AnswerDoc) → IsFresh c → Loadable v files c.setting l → AllHonest v files l.known.start c answers
     → question (run v c answers) ≡ ask.Ready → (run v c answers).stage ≡ at.Done (Ok l)

@@ -21,19 +21,20 @@ use Rattle.tough_vault.specs.Files.{snapshot_file, targets_file}
 use Rattle.tough_update.specs.declared.limits.Limits.{Limits}
 use Rattle.tough_update.specs.Failure.{Failure, ParseTrustedMetadata, VerifyTrustedMetadata, ParseMetadata, MaxUpdatesExceeded, Checked}
 use Rattle.tough_update.specs.Walk.{first_root, next_root, root_in, root_verdict, if_read, if_verified, if_next}
-use Rattle.tough_update.specs.Requests.{RequestDoc, bound, stated_digest, has_digest, fits_request, root_request, timestamp_request, snapshot_request, targets_request}
+use Rattle.tough_update.specs.Requests.{RequestDoc, bound, stated_digest, has_digest, fits_request, root_request, timestamp_request}
 use Rattle.tough_schema.specs.Targets.{TargetsDoc, targets_json}
 use Rattle.tough_update.specs.Outcomes.{unless, and_then}
 use Rattle.tough_update.specs.Rotation.{is_rotated}
 use Rattle.tough_update.specs.Listed.{targets_in, targets_verdict, lists_roles, bare_targets}
-use Rattle.tough_update.specs.Stages.{WalkDoc, BaseDoc, KnownDoc, StageDoc, SettingDoc}
+use Rattle.tough_update.specs.Stages.{WalkDoc, BaseDoc, KnownDoc, WantedDoc, PendingDoc, StageDoc, SettingDoc}
 use Rattle.tough_update.specs.Stages as at
-use Rattle.tough_update.specs.Answered.{FaultDoc, Unjoined, NotFound, Faulty, NoMemory, AnswerDoc}
+use Rattle.tough_update.specs.Answered.{AnswerDoc}
 use Rattle.tough_update.specs.Answered as got
-use Rattle.tough_update.specs.Machine.{walked, began, new_root, base_of, walk_ended, new_timestamp, want_snapshot, known_of, new_snapshot, want_targets, targets_checked, accepted_targets, new_targets, settled, stage_after, question_at}
+use Rattle.tough_update.specs.Machine.{walked, began, new_root, base_of, walk_ended, new_timestamp, want_snapshot, known_of, want_targets, targets_checked, accepted_targets, new_targets, read_wanted, after, stage_after, question_at}
 use Rattle.tough_update.specs.Trusted.{Chain, handed_in, followed, Named, Lists}
 use Rattle.tough_update.specs.Runs.{Keeps, EndsWalk}
 use Rattle.tough_update.proofs.Walking.{under, follows}
+use Rattle.tough_update.proofs.Turning.{Fine, unless-fine, if-fine, and_then-fine, keeps-answer}
 
 -- ---- checks that passed
 
@@ -156,24 +157,6 @@ snapshot-passes verifies root listed d h =
     let v = is_verified role.Snapshot (snapshot_verdict verifies root d) (or_first _ _ later) in
     (ok-reaches verifies root role.Snapshot snapshot_json d (Ok (tt {0})) v, eqb-true _ _ (not_refused (d.role.head.version == listed) (VersionMismatch role.Snapshot d.role.head.version listed) (or_first _ _ h)))
 
--- ---- results
-
-module _ (P : StageDoc → Type 0) (bad : (f : Failure) → P (at.Done (Err f))) where
-  abbrev pub Fine : Result StageDoc Failure → Type 0
-  Fine r = P (settled r)
-
-  pub unless-fine : (f : Failure) (b : Bool) (r : Result StageDoc Failure) → (IsTrue b → Fine r) → Fine (unless f b r)
-  unless-fine f true r good = good refl
-  unless-fine f false r good = bad f
-
-  pub if-fine : (b : Bool) (r s : Result StageDoc Failure) → (IsTrue b → Fine r) → Fine s → Fine (if b then r else s)
-  if-fine true r s one two = one refl
-  if-fine false r s one two = two
-
-  pub and_then-fine : {A : Type 0} (r : Result A Failure) (f : A → Result StageDoc Failure) → ((a : A) → r ≡ Ok a → Fine (f a)) → Fine (and_then r f)
-  and_then-fine (Ok a) f good = good a refl
-  and_then-fine (Err e) f good = bad e
-
 module _ (verifies : Verifies) (s : SettingDoc) (N : ℤ → Type 0) (E : SignedDoc RootDoc → Type 0) where
   -- whether a moment is within an expiry, where that counts
   abbrev pub InTime : ℤ → ℤ → Type 0
@@ -185,16 +168,6 @@ module _ (verifies : Verifies) (s : SettingDoc) (N : ℤ → Type 0) (E : Signed
   abbrev pub TimestampFine : ℤ → SignedDoc RootDoc → SignedDoc TimestampDoc → Type 0
   TimestampFine start root t = ReachesUnder verifies root.role role.Timestamp timestamp_json t × (length t.role.meta ≡ 1) × InTime start t.role.head.expires
 
-  -- what the fetched snapshot is, before it is accepted
-  pub record Fetched (t : SignedDoc TimestampDoc) (d : SignedDoc SnapshotDoc) (listed : ℕ) : Type 0 where
-    pub entry : MetafileDoc
-    pub there : metafile_in t.role.meta snapshot_file ≡ Some entry
-    pub version : listed ≡ entry.version
-    pub bytes : List ℕ
-    pub reading : snapshot_in bytes ≡ Some d
-    pub digest : IfSome (stated_digest entry.hashes) (λ x. sha256 bytes ≡ x)
-    pub size : IfSome entry.length (λ n. length bytes ≤ n)
-
   pub record KnownFine (k : KnownDoc) : Type 0 where
     pub root : BaseFine k.start k.root
     pub timestamp : TimestampFine k.start k.root k.timestamp
@@ -202,30 +175,42 @@ module _ (verifies : Verifies) (s : SettingDoc) (N : ℤ → Type 0) (E : Signed
     pub in_time : InTime k.start k.snapshot.role.head.expires
     pub named : Lists snapshot_in k.timestamp.role.meta snapshot_file k.snapshot.role.head.version k.snapshot
 
-  -- the entry that the snapshot is fetched by
-  abbrev pub Asked : BaseDoc → SignedDoc TimestampDoc → ℕ → RequestDoc → Type 0
-  Asked b t listed r = (m : MetafileDoc) × (metafile_in t.role.meta snapshot_file ≡ Some m) × (listed ≡ m.version) × (r ≡ snapshot_request s.limits b.root.role.consistent_snapshot m)
-
-  -- the entry that the targets are fetched by
-  abbrev pub AskedTargets : KnownDoc → ℕ → RequestDoc → Type 0
-  AskedTargets k listed r = (m : MetafileDoc) × (metafile_in k.snapshot.role.meta targets_file ≡ Some m) × (listed ≡ m.version) × (r ≡ targets_request s.limits k.root.role.consistent_snapshot m)
+  -- the entry, of those listed, that a file is fetched by
+  abbrev pub AskedBy : List (List ℕ × MetafileDoc) → List ℕ → ℕ → ℕ → RequestDoc → Type 0
+  AskedBy entries name limit listed r = (m : MetafileDoc) × (metafile_in entries name ≡ Some m) × (listed ≡ m.version) × (r.max_size ≡ bound m.length limit) × (r.sha256 ≡ stated_digest m.hashes)
 
   abbrev pub TargetsFine : KnownDoc → SignedDoc TargetsDoc → Type 0
   TargetsFine k d = ReachesUnder verifies k.root.role role.Targets targets_json d × Lists targets_in k.snapshot.role.meta targets_file d.role.head.version d × InTime k.start d.role.head.expires
 
+  abbrev pub HoldsWanted : WantedDoc → RequestDoc → Type 0
+  HoldsWanted (at.Root w) r = N w.start × Chain verifies s.trusted w.last × (r ≡ root_request s.limits (w.last.role.head.version + 1))
+  HoldsWanted (at.Timestamp b) r = BaseFine b.start b.root
+  HoldsWanted (at.Snapshot b t listed) r = BaseFine b.start b.root × TimestampFine b.start b.root t × AskedBy t.role.meta snapshot_file s.limits.max_snapshot_size listed r
+  HoldsWanted (at.Targets k listed) r = KnownFine k × AskedBy k.snapshot.role.meta targets_file s.limits.max_targets_size listed r
+
+  abbrev pub HoldsPending : PendingDoc → Type 0
+  HoldsPending (at.NoteTime now) = ⊤
+  HoldsPending (at.PutRoot w) = N w.start × Chain verifies s.trusted w.last
+  HoldsPending (at.PutLast w) = N w.start × Chain verifies s.trusted w.last × E w.last
+  HoldsPending (at.Clear b) = BaseFine b.start b.root
+  HoldsPending (at.PutTimestamp b t) = BaseFine b.start b.root
+  HoldsPending (at.PutSnapshot k listed) = BaseFine k.start k.root × TimestampFine k.start k.root k.timestamp × Lists snapshot_in k.timestamp.role.meta snapshot_file listed k.snapshot
+  HoldsPending (at.PutTargets k d) = KnownFine k × TargetsFine k d
+
   abbrev pub Holds : StageDoc → Type 0
-  Holds (at.FetchRoot w r) = N w.start × Chain verifies s.trusted w.last × (r ≡ root_request s.limits (w.last.role.head.version + 1))
-  Holds (at.PutRoot w) = N w.start × Chain verifies s.trusted w.last
-  Holds (at.PutLast w) = N w.start × Chain verifies s.trusted w.last × E w.last
-  Holds (at.Clear b) = BaseFine b.start b.root
-  Holds (at.FetchTimestamp b r) = BaseFine b.start b.root
-  Holds (at.PutTimestamp b t) = BaseFine b.start b.root
-  Holds (at.FetchSnapshot b t listed r) = BaseFine b.start b.root × TimestampFine b.start b.root t × Asked b t listed r
-  Holds (at.PutSnapshot k listed) = BaseFine k.start k.root × TimestampFine k.start k.root k.timestamp × Fetched k.timestamp k.snapshot listed
-  Holds (at.FetchTargets k listed r) = KnownFine k × AskedTargets k listed r
-  Holds (at.PutTargets k d) = KnownFine k × TargetsFine k d
+  Holds (at.Fetch w r) = HoldsWanted w r
+  Holds (at.Step p) = HoldsPending p
   Holds (at.Done (Ok l)) = KnownFine l.known × TargetsFine l.known l.targets
   Holds _ = ⊤
+
+  -- what the history says of an answer
+  abbrev pub Told : StageDoc → AnswerDoc → Type 0
+  Told (at.Fetch (at.Root w) r) a = r ≡ root_request s.limits (w.last.role.head.version + 1) → EndsWalk a → E w.last
+  Told (at.Step (at.NoteTime now)) a = a ≡ got.Step (Ok (tt {0})) → N now
+  Told _ a = ⊤
+
+  abbrev pub Heard : StageDoc → AnswerDoc → Type 0
+  Heard stage a = Keeps verifies (question_at s.enforced stage) a × Told stage a
 
   pub bad : (f : Failure) → Holds (at.Done (Err f))
   bad f = tt
@@ -233,8 +218,8 @@ module _ (verifies : Verifies) (s : SettingDoc) (N : ℤ → Type 0) (E : Signed
   module _ (at_end : (r : SignedDoc RootDoc) → r.role.head.version ≡ 2 ^ 64 - 1 → E r) where
     walked-fine : (w : WalkDoc) → N w.start → Chain verifies s.trusted w.last → Fine Holds bad (walked s.limits w)
     walked-fine w n c = unless-fine Holds bad (MaxUpdatesExceeded s.limits.max_root_updates) (nat_lt (w.last.role.head.version - w.first.role.head.version) s.limits.max_root_updates)
-        (if w.last.role.head.version == 2 ^ 64 - 1 then Ok (at.PutLast w) else Ok (at.FetchRoot w (root_request s.limits (w.last.role.head.version + 1)))) (λ _.
-        if-fine Holds bad (w.last.role.head.version == 2 ^ 64 - 1) (Ok (at.PutLast w)) (Ok (at.FetchRoot w (root_request s.limits (w.last.role.head.version + 1))))
+        (if w.last.role.head.version == 2 ^ 64 - 1 then Ok (at.Step (at.PutLast w)) else Ok (at.Fetch (at.Root w) (root_request s.limits (w.last.role.head.version + 1)))) (λ _.
+        if-fine Holds bad (w.last.role.head.version == 2 ^ 64 - 1) (Ok (at.Step (at.PutLast w))) (Ok (at.Fetch (at.Root w) (root_request s.limits (w.last.role.head.version + 1))))
         (λ e. (n, c, at_end w.last (eqb-true _ _ e))) (n, c, refl))
 
     began-fine : (start : ℤ) → N start → Fine Holds bad (began verifies s.limits s.trusted start)
@@ -242,132 +227,87 @@ module _ (verifies : Verifies) (s : SettingDoc) (N : ℤ → Type 0) (E : Signed
         walked-fine (record { start = start; first = root; last = root }) n (first-fine verifies s.trusted root is))
 
     new_root-fine : (w : WalkDoc) (bytes : List ℕ) → N w.start → Chain verifies s.trusted w.last → Fine Holds bad (new_root verifies w bytes)
-    new_root-fine w bytes n c = and_then-fine Holds bad (next_root verifies w.last.role bytes) (λ root. Ok (at.PutRoot (record { start = w.start; first = w.first; last = root }))) (λ root is.
+    new_root-fine w bytes n c = and_then-fine Holds bad (next_root verifies w.last.role bytes) (λ root. Ok (at.Step (at.PutRoot (record { start = w.start; first = w.first; last = root })))) (λ root is.
         (n, followed w.last root c (next-fine verifies w.last bytes root is)))
 
     walk_ended-fine : (w : WalkDoc) → N w.start → Chain verifies s.trusted w.last → E w.last → Fine Holds bad (walk_ended s.limits s.enforced w)
     walk_ended-fine w n c e = unless-fine Holds bad (Checked (ExpiredMetadata role.Root)) (not (is_expired s.enforced w.start w.last.role.head.expires))
-        (if is_rotated w.first.role w.last.role then Ok (at.Clear (base_of w)) else Ok (at.FetchTimestamp (base_of w) (timestamp_request s.limits))) (λ t.
-        if-fine Holds bad (is_rotated w.first.role w.last.role) (Ok (at.Clear (base_of w))) (Ok (at.FetchTimestamp (base_of w) (timestamp_request s.limits)))
+        (if is_rotated w.first.role w.last.role then Ok (at.Step (at.Clear (base_of w))) else Ok (at.Fetch (at.Timestamp (base_of w)) (timestamp_request s.limits))) (λ t.
+        if-fine Holds bad (is_rotated w.first.role w.last.role) (Ok (at.Step (at.Clear (base_of w)))) (Ok (at.Fetch (at.Timestamp (base_of w)) (timestamp_request s.limits)))
         (λ _. (n, c, e, not-true _ t)) (n, c, e, not-true _ t))
 
-    new_timestamp-fine : (b : BaseDoc) (o : Option (SignedDoc TimestampDoc)) → BaseFine b.start b.root → Fine Holds bad (if_read (ParseMetadata role.Timestamp) o (λ t. Ok (at.PutTimestamp b t)))
+    new_timestamp-fine : (b : BaseDoc) (o : Option (SignedDoc TimestampDoc)) → BaseFine b.start b.root → Fine Holds bad (if_read (ParseMetadata role.Timestamp) o (λ t. Ok (at.Step (at.PutTimestamp b t))))
     new_timestamp-fine b None h = tt
     new_timestamp-fine b (Some t) h = h
 
     want_snapshot-fine : (b : BaseDoc) (t : SignedDoc TimestampDoc) (o : Option MetafileDoc) → metafile_in t.role.meta snapshot_file ≡ o
         → BaseFine b.start b.root → TimestampFine b.start b.root t → Fine Holds bad (want_snapshot s.limits b t o)
     want_snapshot-fine b t None is h k = tt
-    want_snapshot-fine b t (Some m) is h k = (h, k, (m, is, refl, refl))
+    want_snapshot-fine b t (Some m) is h k = (h, k, (m, is, refl, refl, refl))
 
-    new_snapshot-fine : (b : BaseDoc) (t : SignedDoc TimestampDoc) (listed : ℕ) (r : RequestDoc) (bytes : List ℕ) (o : Option (SignedDoc SnapshotDoc)) → snapshot_in bytes ≡ o
-        → IsTrue (fits_request r bytes) → BaseFine b.start b.root → TimestampFine b.start b.root t → Asked b t listed r
-        → Fine Holds bad (if_read (ParseMetadata role.Snapshot) o (λ d. Ok (at.PutSnapshot (known_of b t d) listed)))
-    new_snapshot-fine b t listed r bytes None is fit h k a = tt
-    new_snapshot-fine b t listed r bytes (Some d) is fit h k a =
-        let fit1 : IsTrue (fits_request (snapshot_request s.limits b.root.role.consistent_snapshot a.0) bytes) = subst (λ q. IsTrue (fits_request q bytes)) a.3 fit in
-        let both : IsTrue (nat_le (length bytes) (bound a.0.length s.limits.max_snapshot_size)) × IsTrue (has_digest (stated_digest a.0.hashes) bytes) = has-true _ _ fit1 in (
-          h,
-          k,
+    -- a document that was read from bytes that fit is what the entry names
+    named-by : {D : Type 0} (reads : List ℕ → Option D) (entries : List (List ℕ × MetafileDoc)) (name : List ℕ) (limit listed : ℕ) (r : RequestDoc) (bytes : List ℕ) (d : D)
+        → reads bytes ≡ Some d → IsTrue (fits_request r bytes) → AskedBy entries name limit listed r → Lists reads entries name listed d
+    named-by reads entries name limit listed r bytes d is fit a =
+        let both : IsTrue (nat_le (length bytes) r.max_size) × IsTrue (has_digest r.sha256 bytes) = has-true _ _ fit in (
+          a.0,
+          a.1,
           record {
-            entry = a.0;
-            there = a.1;
-            version = a.2;
             bytes = bytes;
             reading = is;
-            digest = digest-stated (stated_digest a.0.hashes) bytes both.1;
-            size = size-stated a.0.length s.limits.max_snapshot_size (length bytes) (leb-true _ _ both.0);
+            digest = digest-stated (stated_digest a.0.hashes) bytes (subst (λ o. IsTrue (has_digest o bytes)) a.4 both.1);
+            size = size-stated a.0.length limit (length bytes) (subst (λ n. length bytes ≤ n) a.3 (leb-true _ _ both.0));
+            listed = a.2;
           },
         )
 
+    new_snapshot-fine : (b : BaseDoc) (t : SignedDoc TimestampDoc) (listed : ℕ) (r : RequestDoc) (bytes : List ℕ) (o : Option (SignedDoc SnapshotDoc)) → snapshot_in bytes ≡ o
+        → IsTrue (fits_request r bytes) → HoldsWanted (at.Snapshot b t listed) r → Fine Holds bad (if_read (ParseMetadata role.Snapshot) o (λ d. Ok (at.Step (at.PutSnapshot (known_of b t d) listed))))
+    new_snapshot-fine b t listed r bytes None is fit h = tt
+    new_snapshot-fine b t listed r bytes (Some d) is fit h = (h.0, h.1, named-by snapshot_in t.role.meta snapshot_file s.limits.max_snapshot_size listed r bytes d is fit h.2)
+
     -- the snapshot was accepted
-    known-fine : (k : KnownDoc) (listed : ℕ) → BaseFine k.start k.root → TimestampFine k.start k.root k.timestamp → Fetched k.timestamp k.snapshot listed
+    known-fine : (k : KnownDoc) (listed : ℕ) → HoldsPending (at.PutSnapshot k listed)
         → (snapshot_first listed (snapshot_verdict verifies k.root.role k.snapshot) k.snapshot.role ≡ None) × (expiry role.Snapshot s.enforced k.start k.snapshot.role.head.expires ≡ None) → KnownFine k
-    known-fine k listed b t f p = record {
-      root = b;
-      timestamp = t;
-      snapshot = (snapshot-passes verifies k.root.role listed k.snapshot p.0).0;
-      in_time = not-expired role.Snapshot s.enforced k.start k.snapshot.role.head.expires p.1;
-      named = (f.entry, f.there, record { bytes = f.bytes; reading = f.reading; digest = f.digest; size = f.size; listed = (snapshot-passes verifies k.root.role listed k.snapshot p.0).1 ∙ f.version });
-    }
+    known-fine k listed h p =
+        let passed = snapshot-passes verifies k.root.role listed k.snapshot p.0 in
+        record {
+          root = h.0;
+          timestamp = h.1;
+          snapshot = passed.0;
+          in_time = not-expired role.Snapshot s.enforced k.start k.snapshot.role.head.expires p.1;
+          named = subst (λ n. Lists snapshot_in k.timestamp.role.meta snapshot_file n k.snapshot) (sym passed.1) h.2;
+        }
 
     want_targets-fine : (k : KnownDoc) (o : Option MetafileDoc) → metafile_in k.snapshot.role.meta targets_file ≡ o → KnownFine k → Fine Holds bad (want_targets s.limits k o)
     want_targets-fine k None is h = tt
-    want_targets-fine k (Some m) is h = (h, (m, is, refl, refl))
+    want_targets-fine k (Some m) is h = (h, (m, is, refl, refl, refl))
 
-    accepted_targets-fine : (k : KnownDoc) (listed : ℕ) (r : RequestDoc) (bytes : List ℕ) (d : SignedDoc TargetsDoc) → targets_in bytes ≡ Some d
-        → IsTrue (fits_request r bytes) → KnownFine k → AskedTargets k listed r → Fine Holds bad (accepted_targets verifies s.enforced k listed d)
-    accepted_targets-fine k listed r bytes d is fit h a =
-        let fit1 : IsTrue (fits_request (targets_request s.limits k.root.role.consistent_snapshot a.0) bytes) = subst (λ q. IsTrue (fits_request q bytes)) a.3 fit in
-        let both : IsTrue (nat_le (length bytes) (bound a.0.length s.limits.max_targets_size)) × IsTrue (has_digest (stated_digest a.0.hashes) bytes) = has-true _ _ fit1 in
-        and_then-fine Holds bad (targets_checked verifies s.enforced k listed d) (λ u. Ok (at.PutTargets k d)) (λ u passed.
-        let c = checked-ok verifies s.enforced k listed d u passed in (
-          h,
-          (
-            ok-reaches verifies k.root.role role.Targets targets_json d (Ok (tt {0})) c.0,
-            (
-              a.0,
-              a.1,
-              record {
-                bytes = bytes;
-                reading = is;
-                digest = digest-stated (stated_digest a.0.hashes) bytes both.1;
-                size = size-stated a.0.length s.limits.max_targets_size (length bytes) (leb-true _ _ both.0);
-                listed = c.1 ∙ a.2;
-              },
-            ),
-            c.2,
-          ),
-        ))
-
-    new_targets-fine : (k : KnownDoc) (listed : ℕ) (r : RequestDoc) (bytes : List ℕ) → IsTrue (fits_request r bytes) → KnownFine k → AskedTargets k listed r
+    new_targets-fine : (k : KnownDoc) (listed : ℕ) (r : RequestDoc) (bytes : List ℕ) → IsTrue (fits_request r bytes) → HoldsWanted (at.Targets k listed) r
         → Fine Holds bad (new_targets verifies s.enforced k listed bytes)
-    new_targets-fine k listed r bytes fit h a = and_then-fine Holds bad (bare_targets bytes) (accepted_targets verifies s.enforced k listed) (λ d is.
-        accepted_targets-fine k listed r bytes d (bare-read bytes d is) fit h a)
+    new_targets-fine k listed r bytes fit h = and_then-fine Holds bad (bare_targets bytes) (accepted_targets verifies s.enforced k listed) (λ d is.
+        and_then-fine Holds bad (targets_checked verifies s.enforced k listed d) (λ u. Ok (at.Step (at.PutTargets k d))) (λ u passed.
+        let c = checked-ok verifies s.enforced k listed d u passed in
+        let named = named-by targets_in k.snapshot.role.meta targets_file s.limits.max_targets_size listed r bytes d (bare-read bytes d is) fit h.1 in
+        (h.0, (ok-reaches verifies k.root.role role.Targets targets_json d (Ok (tt {0})) c.0, subst (λ n. Lists targets_in k.snapshot.role.meta targets_file n d) (sym c.1) named, c.2))))
 
-    pub answer-fine : (stage : StageDoc) (a : AnswerDoc) → Keeps verifies (question_at s.enforced stage) a
-        → ((w : WalkDoc) (r : RequestDoc) → stage ≡ at.FetchRoot w r → r ≡ root_request s.limits (w.last.role.head.version + 1) → EndsWalk a → E w.last)
-        → ((now : ℤ) → stage ≡ at.NoteTime now → a ≡ got.Step (Ok (tt {0})) → N now)
-        → Holds stage → Fine Holds bad (stage_after verifies s stage a)
-    answer-fine (at.Moment) (got.Moment now) keeps asked noted h = tt
-    answer-fine (at.FetchRoot w r) (got.Bytes bytes) keeps asked noted h = new_root-fine w bytes h.0 h.1
-    answer-fine (at.FetchTimestamp b r) (got.Bytes bytes) keeps asked noted h = new_timestamp-fine b (timestamp_in bytes) h
-    answer-fine (at.FetchSnapshot b t listed r) (got.Bytes bytes) keeps asked noted h = new_snapshot-fine b t listed r bytes (snapshot_in bytes) refl keeps h.0 h.1 h.2
-    answer-fine (at.FetchTargets k listed r) (got.Bytes bytes) keeps asked noted h = new_targets-fine k listed r bytes keeps h.0 h.1
-    answer-fine (at.FetchRoot w r) (got.NotStarted Unjoined) keeps asked noted h = tt
-    answer-fine (at.FetchRoot w r) (got.NotStarted NotFound) keeps asked noted h = (h.0, h.1, asked w r refl h.2 tt)
-    answer-fine (at.FetchRoot w r) (got.NotStarted Faulty) keeps asked noted h = (h.0, h.1, asked w r refl h.2 tt)
-    answer-fine (at.FetchRoot w r) (got.NotStarted NoMemory) keeps asked noted h = tt
-    answer-fine (at.FetchTimestamp b r) (got.NotStarted f) keeps asked noted h = tt
-    answer-fine (at.FetchSnapshot b t listed r) (got.NotStarted f) keeps asked noted h = tt
-    answer-fine (at.FetchTargets k listed r) (got.NotStarted f) keeps asked noted h = tt
-    answer-fine (at.FetchRoot w r) (got.Cut Unjoined) keeps asked noted h = tt
-    answer-fine (at.FetchRoot w r) (got.Cut NotFound) keeps asked noted h = (h.0, h.1, asked w r refl h.2 tt)
-    answer-fine (at.FetchRoot w r) (got.Cut Faulty) keeps asked noted h = tt
-    answer-fine (at.FetchRoot w r) (got.Cut NoMemory) keeps asked noted h = tt
-    answer-fine (at.FetchTimestamp b r) (got.Cut f) keeps asked noted h = tt
-    answer-fine (at.FetchSnapshot b t listed r) (got.Cut f) keeps asked noted h = tt
-    answer-fine (at.FetchTargets k listed r) (got.Cut f) keeps asked noted h = tt
-    answer-fine (at.NoteTime now) (got.Step (Ok u)) keeps asked noted h = began-fine now (noted now refl refl)
-    answer-fine (at.PutRoot w) (got.Step (Ok u)) keeps asked noted h = walked-fine w h.0 h.1
-    answer-fine (at.PutLast w) (got.Step (Ok u)) keeps asked noted h = walk_ended-fine w h.0 h.1 h.2
-    answer-fine (at.Clear b) (got.Step (Ok u)) keeps asked noted h = h
-    answer-fine (at.PutTimestamp b t) (got.Step (Ok u)) keeps asked noted h =
-        let p = timestamp-passes verifies b.root.role t keeps.0 in
-        want_snapshot-fine b t (metafile_in t.role.meta snapshot_file) refl h (p.0, p.1, not-expired role.Timestamp s.enforced b.start t.role.head.expires keeps.1)
-    answer-fine (at.PutSnapshot k listed) (got.Step (Ok u)) keeps asked noted h =
-        want_targets-fine k (metafile_in k.snapshot.role.meta targets_file) refl (known-fine k listed h.0 h.1 h.2 keeps)
-    answer-fine (at.PutTargets k d) (got.Step (Ok u)) keeps asked noted h = h
-    answer-fine (at.NoteTime now) (got.Step (Err f)) keeps asked noted h = tt
-    answer-fine (at.PutRoot w) (got.Step (Err f)) keeps asked noted h = tt
-    answer-fine (at.PutLast w) (got.Step (Err f)) keeps asked noted h = tt
-    answer-fine (at.Clear b) (got.Step (Err f)) keeps asked noted h = tt
-    answer-fine (at.PutTimestamp b t) (got.Step (Err f)) keeps asked noted h = tt
-    answer-fine (at.PutSnapshot k listed) (got.Step (Err f)) keeps asked noted h = tt
-    answer-fine (at.PutTargets k d) (got.Step (Err f)) keeps asked noted h = tt
-    answer-fine stage (got.Moment now) keeps asked noted h = h
-    answer-fine stage (got.Bytes bytes) keeps asked noted h = h
-    answer-fine stage (got.NotStarted f) keeps asked noted h = h
-    answer-fine stage (got.Cut f) keeps asked noted h = h
-    answer-fine stage (got.Step (Ok u)) keeps asked noted h = h
-    answer-fine stage (got.Step (Err f)) keeps asked noted h = h
+    read-fine : (w : WantedDoc) (r : RequestDoc) (bytes : List ℕ) → Holds (at.Fetch w r) → Heard (at.Fetch w r) (got.Bytes bytes) → Fine Holds bad (read_wanted verifies s.enforced w bytes)
+    read-fine (at.Root w) r bytes h l = new_root-fine w bytes h.0 h.1
+    read-fine (at.Timestamp b) r bytes h l = new_timestamp-fine b (timestamp_in bytes) h
+    read-fine (at.Snapshot b t listed) r bytes h l = new_snapshot-fine b t listed r bytes (snapshot_in bytes) refl l.0 h
+    read-fine (at.Targets k listed) r bytes h l = new_targets-fine k listed r bytes l.0 h
+
+    step-fine : (p : PendingDoc) → Holds (at.Step p) → Heard (at.Step p) (got.Step (Ok (tt {0}))) → Fine Holds bad (after verifies s p)
+    step-fine (at.NoteTime now) h l = began-fine now (l.1 refl)
+    step-fine (at.PutRoot w) h l = walked-fine w h.0 h.1
+    step-fine (at.PutLast w) h l = walk_ended-fine w h.0 h.1 h.2
+    step-fine (at.Clear b) h l = h
+    step-fine (at.PutTimestamp b t) h l =
+        let p = timestamp-passes verifies b.root.role t l.0.0 in
+        want_snapshot-fine b t (metafile_in t.role.meta snapshot_file) refl h (p.0, p.1, not-expired role.Timestamp s.enforced b.start t.role.head.expires l.0.1)
+    step-fine (at.PutSnapshot k listed) h l = want_targets-fine k (metafile_in k.snapshot.role.meta targets_file) refl (known-fine k listed h l.0)
+    step-fine (at.PutTargets k d) h l = h
+
+    -- each answer keeps what holds of a stage
+    pub answer-fine : (stage : StageDoc) (a : AnswerDoc) → Holds stage → Heard stage a → Fine Holds bad (stage_after verifies s stage a)
+    answer-fine = keeps-answer verifies s Holds bad Heard (record { moment = λ now. tt; read = read-fine; ends = λ w r a e h l. (h.0, h.1, l.1 h.2 e); step = step-fine })

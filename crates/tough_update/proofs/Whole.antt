@@ -4,15 +4,14 @@ use Rattle.std.proofs.Common.{refl, sym, ◌∙◌, ap, subst, inl, inr}
 use Rattle.tough_keys.specs.Same.{Verifies}
 use Rattle.tough_roles.specs.Signature.{SignedDoc}
 use Rattle.tough_roles.specs.Root.{RootDoc}
-use Rattle.tough_update.specs.Requests.{RequestDoc, root_request}
-use Rattle.tough_update.specs.Stages.{WalkDoc, LoadedDoc, StageDoc, CoreDoc}
+use Rattle.tough_update.specs.Stages.{LoadedDoc, StageDoc, CoreDoc}
 use Rattle.tough_update.specs.Stages as at
 use Rattle.tough_update.specs.Questions as ask
 use Rattle.tough_update.specs.Answered.{AnswerDoc}
 use Rattle.tough_update.specs.Answered as got
-use Rattle.tough_update.specs.Machine.{question, question_at, answered, settled, stage_after}
-use Rattle.tough_update.specs.Runs.{run, Along, EndsWalk, HasNoted, IsLast, IsFresh, Loaded}
-use Rattle.tough_update.proofs.Sound.{Holds, KnownFine, answer-fine, in-time}
+use Rattle.tough_update.specs.Machine.{question, answered, settled, stage_after}
+use Rattle.tough_update.specs.Runs.{run, Along, HasNoted, IsLast, IsFresh, Loaded}
+use Rattle.tough_update.proofs.Sound.{Holds, Told, KnownFine, answer-fine, in-time}
 
 run-last : (v : Verifies) (h : List AnswerDoc) (c : CoreDoc) (a : AnswerDoc) → run v c (h ++ a ∷ []) ≡ answered v (run v c h) a
 run-last v [] c a = refl
@@ -29,28 +28,14 @@ module _ (v : Verifies) (c : CoreDoc) (all : List AnswerDoc) where
   abbrev in_stage : StageDoc → CoreDoc
   in_stage st = record { setting = c.setting; stage = st }
 
-  asked : (h rest : List AnswerDoc) (a : AnswerDoc) (st : StageDoc) → all ≡ h ++ a ∷ rest → run v c h ≡ in_stage st
-      → (w : WalkDoc) (r : RequestDoc) → st ≡ at.FetchRoot w r → r ≡ root_request c.setting.limits (w.last.role.head.version + 1) → EndsWalk a → Last w.last
-  asked h rest a st is stands w r e f ends = inl (record {
-    before = h;
-    answer = a;
-    after = rest;
-    all = is;
-    asked = ap question stands ∙ (ap (question_at c.setting.enforced) e ∙ ap ask.Fetch f);
-    ends = ends;
-  })
-
   abbrev Noted : ℤ → Type 0
   Noted = HasNoted v c all
 
-  noted : (h rest : List AnswerDoc) (a : AnswerDoc) (st : StageDoc) → all ≡ h ++ a ∷ rest → run v c h ≡ in_stage st
-      → (now : ℤ) → st ≡ at.NoteTime now → a ≡ got.Step (Ok (tt {0})) → Noted now
-  noted h rest a st is stands now e f = record {
-    before = h;
-    after = rest;
-    all = is ∙ ap (λ x. h ++ x ∷ rest) f;
-    asked = ap question stands ∙ ap (question_at c.setting.enforced) e;
-  }
+  -- the first root that wasn't there ends the walk, and the moment that was noted is the start
+  told : (h rest : List AnswerDoc) (a : AnswerDoc) (st : StageDoc) → all ≡ h ++ a ∷ rest → run v c h ≡ in_stage st → Told v c.setting Noted Last st a
+  told h rest a (at.Fetch (at.Root w) r) is stands = λ f ends. inl (record { before = h; answer = a; after = rest; all = is; asked = ap question stands ∙ ap ask.Fetch f; ends = ends })
+  told h rest a (at.Step (at.NoteTime now)) is stands = λ f. record { before = h; after = rest; all = is ∙ ap (λ x. h ++ x ∷ rest) f; asked = ap question stands }
+  told h rest a _ is stands = tt
 
   along-holds : (rest h : List AnswerDoc) (st : StageDoc) → all ≡ h ++ rest → run v c h ≡ in_stage st → Along v (in_stage st) rest
       → Holds v c.setting Noted Last st → Holds v c.setting Noted Last (run v (in_stage st) rest).stage
@@ -60,7 +45,7 @@ module _ (v : Verifies) (c : CoreDoc) (all : List AnswerDoc) where
       (is ∙ over-append h a rest)
       (run-last v h c a ∙ ap (λ s. answered v s a) stands)
       keeps.1
-      (answer-fine v c.setting Noted Last (λ r e. inr e) st a keeps.0 (asked h rest a st is stands) (noted h rest a st is stands) holds)
+      (answer-fine v c.setting Noted Last (λ r e. inr e) st a holds (keeps.0, told h rest a st is stands))
 
 pub loaded : (v : Verifies) (c : CoreDoc) (answers : List AnswerDoc) (l : LoadedDoc) → IsFresh c → Along v c answers → (run v c answers).stage ≡ at.Done (Ok l) → Loaded v c answers l
 loaded v c answers l fresh keeps is =

@@ -2,7 +2,7 @@
 use Rattle.std.specs.Prelude.{ℕ, List, length, Option, Some, None, Bool, false, not, nat_lt, option_and_then, Result, Ok}
 use Rattle.tough_json.specs.Results.{json_of}
 use Rattle.tough_keys.specs.Same.{Verifies}
-use Rattle.tough_roles.specs.Signature.{SignedDoc, signed_at}
+use Rattle.tough_roles.specs.Signature.{SignedDoc, signed_at, signed_json}
 use Rattle.tough_roles.specs.Root.{RootDoc}
 use Rattle.tough_roles.specs.Policy.{policy}
 use Rattle.tough_roles.specs.Verdict.{Refused, verdict}
@@ -10,6 +10,7 @@ use Rattle.tough_roles.specs.Chain.{text_by}
 use Rattle.tough_roles.specs.declared.role_type.RoleType.TheVariants as role
 use Rattle.tough_schema.specs.Delegations.{DelegationsDoc}
 use Rattle.tough_schema.specs.Targets.{TargetsDoc, targets_at, targets_json}
+use Rattle.tough_vault.specs.Documents.{stored_text}
 use Rattle.tough_update.specs.Failure.{Failure, ParseMetadata}
 use Rattle.tough_update.specs.Walk.{if_read}
 use Rattle.tough_update.specs.Outcomes.{unless}
@@ -17,6 +18,10 @@ use Rattle.tough_update.specs.Outcomes.{unless}
 -- the signed targets that bytes are
 abbrev pub targets_in : List ℕ → Option (SignedDoc TargetsDoc)
 targets_in bytes = option_and_then (signed_at targets_at) (json_of bytes)
+
+-- the text of signed targets in a store, where they can be written
+abbrev pub targets_text : SignedDoc TargetsDoc → Option (List ℕ)
+targets_text d = option_and_then stored_text (signed_json targets_json d)
 
 -- what a root's verification of signed targets answers
 abbrev pub targets_verdict : Verifies → RootDoc → SignedDoc TargetsDoc → Result Unit Refused

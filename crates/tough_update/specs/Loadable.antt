@@ -32,8 +32,8 @@ Gets (Some bytes) a = a ≡ got.Bytes bytes
 abbrev pub Honest : Files → ℤ → Question → AnswerDoc → Type 0
 Honest files now ask.Moment a = a ≡ got.Moment now
 Honest files now (ask.Fetch r) a = Gets (files r.name) a
+Honest files now (ask.Step act) a = a ≡ got.Step (Ok (tt {0}))
 Honest files now ask.Ready a = ⊥
-Honest files now _ a = a ≡ got.Step (Ok (tt {0}))
 
 -- each answer is an honest one
 abbrev pub AllHonest : Verifies → Files → ℤ → CoreDoc → List AnswerDoc → Type 0

@@ -3,9 +3,7 @@ use Rattle.std.specs.Prelude.{◌≡◌, ◌⊎◌, ℕ, ℤ, ◌+◌, ◌-◌, 
 use Rattle.tough_keys.specs.Same.{Verifies}
 use Rattle.tough_roles.specs.Signature.{SignedDoc}
 use Rattle.tough_roles.specs.Root.{RootDoc}
-use Rattle.tough_roles.specs.declared.role_type.RoleType.TheVariants as role
-use Rattle.tough_vault.specs.Checks.{timestamp_first, snapshot_first, expiry}
-use Rattle.tough_vault.specs.Documents.{timestamp_verdict, snapshot_verdict}
+use Rattle.tough_vault.specs.Act.{NoteTime, HasChecked}
 use Rattle.tough_update.specs.Requests.{fits_request, root_request}
 use Rattle.tough_update.specs.Stages.{LoadedDoc, CoreDoc, Moment}
 use Rattle.tough_update.specs.Questions.{Question}
@@ -20,10 +18,7 @@ use Rattle.tough_update.specs.Trusted.{Chain, Trusted, Unexpired}
 -- What an answer promises, by what was asked: bytes fit, and a step that succeeds has made its checks on what it was given.
 abbrev pub Keeps : Verifies → Question → AnswerDoc → Type 0
 Keeps verifies (ask.Fetch r) (got.Bytes bytes) = IsTrue (fits_request r bytes)
-Keeps verifies (ask.AdvanceTimestamp root t start enforced) (got.Step (Ok u)) =
-    (timestamp_first (timestamp_verdict verifies root t) t.role ≡ None) × (expiry role.Timestamp enforced start t.role.head.expires ≡ None)
-Keeps verifies (ask.AdvanceSnapshot root listed s start enforced) (got.Step (Ok u)) =
-    (snapshot_first listed (snapshot_verdict verifies root s) s.role ≡ None) × (expiry role.Snapshot enforced start s.role.head.expires ≡ None)
+Keeps verifies (ask.Step act) (got.Step (Ok u)) = HasChecked verifies act
 Keeps verifies _ _ = ⊤
 
 -- the machine after these answers
@@ -61,7 +56,7 @@ pub record HasNoted (verifies : Verifies) (c : CoreDoc) (answers : List AnswerDo
   pub before : List AnswerDoc
   pub after : List AnswerDoc
   pub all : answers ≡ before ++ got.Step (Ok (tt {0})) ∷ after
-  pub asked : question (run verifies c before) ≡ ask.NoteTime start
+  pub asked : question (run verifies c before) ≡ ask.Step (NoteTime start)
 
 -- what an update that succeeds promises
 pub record Loaded (verifies : Verifies) (c : CoreDoc) (answers : List AnswerDoc) (l : LoadedDoc) : Type 0 where

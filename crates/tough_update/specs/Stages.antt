@@ -35,22 +35,32 @@ pub record LoadedDoc : Type 0 where
 
 -- ---- the stages; each waits for one answer
 
+-- what a file is fetched for
+pub data WantedDoc : Type 0 where
+  -- the root after the walk's last one
+  Root : WalkDoc → WantedDoc
+  Timestamp : BaseDoc → WantedDoc
+  -- the version that the timestamp lists
+  Snapshot : BaseDoc → SignedDoc TimestampDoc → ℕ → WantedDoc
+  -- the version that the snapshot lists
+  Targets : KnownDoc → ℕ → WantedDoc
+
+-- a step on the store that is to be taken
+pub data PendingDoc : Type 0 where
+  NoteTime : ℤ → PendingDoc
+  PutRoot : WalkDoc → PendingDoc
+  -- the walk is at its end
+  PutLast : WalkDoc → PendingDoc
+  Clear : BaseDoc → PendingDoc
+  PutTimestamp : BaseDoc → SignedDoc TimestampDoc → PendingDoc
+  -- the version that the timestamp lists
+  PutSnapshot : KnownDoc → ℕ → PendingDoc
+  PutTargets : KnownDoc → SignedDoc TargetsDoc → PendingDoc
+
 pub data StageDoc : Type 0 where
   Moment : StageDoc
-  NoteTime : ℤ → StageDoc
-  FetchRoot : WalkDoc → RequestDoc → StageDoc
-  PutRoot : WalkDoc → StageDoc
-  -- the walk is at its end
-  PutLast : WalkDoc → StageDoc
-  Clear : BaseDoc → StageDoc
-  FetchTimestamp : BaseDoc → RequestDoc → StageDoc
-  PutTimestamp : BaseDoc → SignedDoc TimestampDoc → StageDoc
-  -- the version that the timestamp lists
-  FetchSnapshot : BaseDoc → SignedDoc TimestampDoc → ℕ → RequestDoc → StageDoc
-  PutSnapshot : KnownDoc → ℕ → StageDoc
-  -- the version that the snapshot lists
-  FetchTargets : KnownDoc → ℕ → RequestDoc → StageDoc
-  PutTargets : KnownDoc → SignedDoc TargetsDoc → StageDoc
+  Fetch : WantedDoc → RequestDoc → StageDoc
+  Step : PendingDoc → StageDoc
   Done : Result LoadedDoc Failure → StageDoc
   -- the outcome was handed out
   Taken : StageDoc

@@ -14,25 +14,35 @@ use Rattle.tough_roles.specs.Snapshot.{snapshot_doc}
 use Rattle.tough_schema.specs.Targets.{targets_doc}
 use Rattle.tough_vault.specs.Checks.{enforces}
 use Rattle.tough_vault.specs.declared.checks.StepError.{StepError}
+use Rattle.tough_vault.specs.Act.{Act as ActDoc}
+use Rattle.tough_vault.specs.Act as act
+use Rattle.tough_vault.specs.Files.{targets_file}
+use Rattle.tough_update.specs.Listed.{targets_text}
 use Rattle.tough_update.specs.Failure.{Failure, failure_of, step_failure}
 use Rattle.tough_update.specs.declared.error.Error.{Error}
 use Rattle.tough_update.specs.declared.request.Request.{Request}
 use Rattle.tough_update.specs.declared.request.Fault.{Fault}
 use Rattle.tough_update.specs.declared.request.Fault.TheVariants as fault
+use Rattle.tough_update.specs.declared.request.Act.{Act}
+use Rattle.tough_update.specs.declared.request.Act.TheVariants as to
 use Rattle.tough_update.specs.declared.request.Ask.{Ask}
-use Rattle.tough_update.specs.declared.request.Ask.TheVariants as to
+use Rattle.tough_update.specs.declared.request.Ask.TheVariants as wants
 use Rattle.tough_update.specs.declared.request.Answer.{Answer}
 use Rattle.tough_update.specs.declared.request.Answer.TheVariants as by
 use Rattle.tough_update.specs.declared.stage.Walk.{Walk}
 use Rattle.tough_update.specs.declared.stage.Base.{Base}
 use Rattle.tough_update.specs.declared.stage.Known.{Known}
 use Rattle.tough_update.specs.declared.stage.Loaded.{Loaded}
+use Rattle.tough_update.specs.declared.stage.Wanted.{Wanted}
+use Rattle.tough_update.specs.declared.stage.Wanted.TheVariants as wanted
+use Rattle.tough_update.specs.declared.stage.Pending.{Pending}
+use Rattle.tough_update.specs.declared.stage.Pending.TheVariants as pending
 use Rattle.tough_update.specs.declared.stage.Stage.{Stage}
 use Rattle.tough_update.specs.declared.stage.Stage.TheVariants as in_stage
 use Rattle.tough_update.specs.declared.turns.Setting.{Setting}
 use Rattle.tough_update.specs.declared.machine.Core.{Core}
 use Rattle.tough_update.specs.Requests.{RequestDoc}
-use Rattle.tough_update.specs.Stages.{WalkDoc, BaseDoc, KnownDoc, LoadedDoc, StageDoc, SettingDoc, CoreDoc}
+use Rattle.tough_update.specs.Stages.{WalkDoc, BaseDoc, KnownDoc, LoadedDoc, WantedDoc, PendingDoc, StageDoc, SettingDoc, CoreDoc}
 use Rattle.tough_update.specs.Stages as at
 use Rattle.tough_update.specs.Questions.{Question}
 use Rattle.tough_update.specs.Questions as ask
@@ -44,16 +54,19 @@ request_doc r = record { name = string_bytes r.name; max_size = r.max_size; spec
 
 -- ---- questions and answers
 
+abbrev pub act_of : Act → ActDoc
+act_of (to.NoteTime now) = act.NoteTime now.nanosecond
+act_of (to.PutRoot r) = act.PutRoot (signed_doc root_doc r.now)
+act_of to.ClearRotated = act.ClearRotated
+act_of (to.AdvanceTimestamp root new start enforcement) = act.AdvanceTimestamp (root_doc root.now) (signed_doc timestamp_doc new.now) start.nanosecond (enforces enforcement)
+act_of (to.AdvanceSnapshot root listed new start enforcement) = act.AdvanceSnapshot (root_doc root.now) listed (signed_doc snapshot_doc new.now) start.nanosecond (enforces enforcement)
+act_of (to.PutTargets d) = act.PutDocument targets_file (targets_text (signed_doc targets_doc d.now))
+
 abbrev pub question_of : Ask → Question
-question_of to.Moment = ask.Moment
-question_of (to.Fetch r) = ask.Fetch (request_doc r.now)
-question_of (to.NoteTime now) = ask.NoteTime now.nanosecond
-question_of (to.PutRoot r) = ask.PutRoot (signed_doc root_doc r.now)
-question_of to.ClearRotated = ask.ClearRotated
-question_of (to.AdvanceTimestamp root new start enforcement) = ask.AdvanceTimestamp (root_doc root.now) (signed_doc timestamp_doc new.now) start.nanosecond (enforces enforcement)
-question_of (to.AdvanceSnapshot root listed new start enforcement) = ask.AdvanceSnapshot (root_doc root.now) listed (signed_doc snapshot_doc new.now) start.nanosecond (enforces enforcement)
-question_of (to.PutTargets d) = ask.PutTargets (signed_doc targets_doc d.now)
-question_of to.Ready = ask.Ready
+question_of wants.Moment = ask.Moment
+question_of (wants.Fetch r) = ask.Fetch (request_doc r.now)
+question_of (wants.Step a) = ask.Step (act_of a)
+question_of wants.Ready = ask.Ready
 
 abbrev pub fault_of_kind : TransportErrorKind → FaultDoc
 fault_of_kind kind.UnsupportedUrlScheme = Faulty
@@ -103,19 +116,25 @@ abbrev pub outcome_doc : Result Loaded Error → Result LoadedDoc Failure
 outcome_doc (Ok l) = Ok (loaded_doc l)
 outcome_doc (Err e) = Err (failure_of e)
 
+abbrev pub wanted_doc : Wanted → WantedDoc
+wanted_doc (wanted.Root w) = at.Root (walk_doc w)
+wanted_doc (wanted.Timestamp b) = at.Timestamp (base_doc b)
+wanted_doc (wanted.Snapshot b t listed) = at.Snapshot (base_doc b) (signed_doc timestamp_doc t) listed
+wanted_doc (wanted.Targets k listed) = at.Targets (known_doc k) listed
+
+abbrev pub pending_doc : Pending → PendingDoc
+pending_doc (pending.NoteTime now) = at.NoteTime now.nanosecond
+pending_doc (pending.PutRoot w) = at.PutRoot (walk_doc w)
+pending_doc (pending.PutLast w) = at.PutLast (walk_doc w)
+pending_doc (pending.Clear b) = at.Clear (base_doc b)
+pending_doc (pending.PutTimestamp b t) = at.PutTimestamp (base_doc b) (signed_doc timestamp_doc t)
+pending_doc (pending.PutSnapshot k listed) = at.PutSnapshot (known_doc k) listed
+pending_doc (pending.PutTargets k d) = at.PutTargets (known_doc k) (signed_doc targets_doc d)
+
 abbrev pub stage_doc : Stage → StageDoc
 stage_doc in_stage.Moment = at.Moment
-stage_doc (in_stage.NoteTime now) = at.NoteTime now.nanosecond
-stage_doc (in_stage.FetchRoot w r) = at.FetchRoot (walk_doc w) (request_doc r)
-stage_doc (in_stage.PutRoot w) = at.PutRoot (walk_doc w)
-stage_doc (in_stage.PutLast w) = at.PutLast (walk_doc w)
-stage_doc (in_stage.Clear b) = at.Clear (base_doc b)
-stage_doc (in_stage.FetchTimestamp b r) = at.FetchTimestamp (base_doc b) (request_doc r)
-stage_doc (in_stage.PutTimestamp b t) = at.PutTimestamp (base_doc b) (signed_doc timestamp_doc t)
-stage_doc (in_stage.FetchSnapshot b t listed r) = at.FetchSnapshot (base_doc b) (signed_doc timestamp_doc t) listed (request_doc r)
-stage_doc (in_stage.PutSnapshot k listed) = at.PutSnapshot (known_doc k) listed
-stage_doc (in_stage.FetchTargets k listed r) = at.FetchTargets (known_doc k) listed (request_doc r)
-stage_doc (in_stage.PutTargets k d) = at.PutTargets (known_doc k) (signed_doc targets_doc d)
+stage_doc (in_stage.Fetch w r) = at.Fetch (wanted_doc w) (request_doc r)
+stage_doc (in_stage.Step p) = at.Step (pending_doc p)
 stage_doc (in_stage.Done r) = at.Done (outcome_doc r)
 stage_doc in_stage.Taken = at.Taken
 

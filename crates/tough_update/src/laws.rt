@@ -4,7 +4,8 @@ ghost use Rattle.std.specs.Prelude.{◌≡◌, List, Ok};
 ghost use Rattle.tough_keys.specs.Same.{Verifies};
 ghost use Rattle.tough_update.specs.Stages.{LoadedDoc, CoreDoc, Done};
 ghost use Rattle.tough_update.specs.Answered.{AnswerDoc};
-ghost use Rattle.tough_update.specs.Questions.{ClearRotated, Ready};
+ghost use Rattle.tough_vault.specs.Act.{ClearRotated};
+ghost use Rattle.tough_update.specs.Questions.{Step, Ready};
 ghost use Rattle.tough_update.specs.Machine.{question};
 ghost use Rattle.tough_update.specs.Loadable.{Files, AllHonest, Loadable};
 ghost use Rattle.tough_update.specs.Runs.{run, Along, IsFresh, Loaded, WasRotated};
@@ -22,7 +23,7 @@ pub fn loads()
 
 /// Timestamp and snapshot are forgotten only where the last root has other keys for them than the one that was handed in.
 pub fn clears()
-    ensures { (verifies : Verifies) (c : CoreDoc) (answers : List AnswerDoc) → IsFresh c → question (run verifies c answers) ≡ ClearRotated → WasRotated verifies c.setting.trusted }
+    ensures { (verifies : Verifies) (c : CoreDoc) (answers : List AnswerDoc) → IsFresh c → question (run verifies c answers) ≡ Step ClearRotated → WasRotated verifies c.setting.trusted }
 {}
 
 /// How many laws this file states.

@@ -14,7 +14,7 @@ mod walk;
 pub use error::Error;
 pub use limits::Limits;
 pub use machine::Core;
-pub use request::{Answer, Ask, Fault, Request};
+pub use request::{Act, Answer, Ask, Fault, Request};
 pub use stage::{Known, Loaded};
 pub use tough_vault::{
     Entry, ExpirationEnforcement, ListedVersion, MemoryStore, Receipt, Refusal, SnapshotVersions,

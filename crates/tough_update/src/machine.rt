@@ -11,8 +11,8 @@ ghost use Rattle.tough_update.specs.Promises.{Settles, Goes, fits, ended};
 use crate::error::Error;
 use crate::limits::Limits;
 use crate::request::{Answer, Ask};
-use crate::stage::{Loaded, Stage};
-use crate::turns::{Setting, take_bytes, take_cut, take_moment, take_not_started, take_step};
+use crate::stage::{Loaded, Pending, Stage};
+use crate::turns::{Setting, end_cut, end_unstarted, read_wanted, take_step};
 use std::alloc::Global;
 use std::mem;
 use tough_roles::Verify;
@@ -38,11 +38,26 @@ fn turn<V: Verify>(
     ensures { Gives stage_doc (stage_after (V.verifies verifier.now) (setting_doc setting.now) (stage_doc stage) (answer_doc answer)) result }
 {
     match answer {
-        Answer::Moment(now) => take_moment(stage, now),
-        Answer::Bytes(bytes) => take_bytes(setting, stage, bytes.as_slice(), verifier),
-        Answer::NotStarted(fault) => take_not_started(stage, fault),
-        Answer::Cut(fault) => take_cut(stage, fault),
-        Answer::Step(taken) => take_step(setting, stage, taken, verifier),
+        Answer::Moment(now) => match stage {
+            Stage::Moment => Ok(Stage::Step(Pending::NoteTime(now))),
+            stage => Ok(stage),
+        },
+        Answer::Bytes(bytes) => match stage {
+            Stage::Fetch(wanted, _) => read_wanted(setting, wanted, bytes.as_slice(), verifier),
+            stage => Ok(stage),
+        },
+        Answer::NotStarted(fault) => match stage {
+            Stage::Fetch(wanted, request) => end_unstarted(wanted, request, fault),
+            stage => Ok(stage),
+        },
+        Answer::Cut(fault) => match stage {
+            Stage::Fetch(wanted, request) => end_cut(wanted, request, fault),
+            stage => Ok(stage),
+        },
+        Answer::Step(taken) => match stage {
+            Stage::Step(pending) => take_step(setting, pending, taken, verifier),
+            stage => Ok(stage),
+        },
     }
 }
 
@@ -75,30 +90,9 @@ impl Core {
     {
         match &self.stage {
             Stage::Moment => Ask::Moment,
-            Stage::NoteTime(now) => Ask::NoteTime(*now),
-            Stage::FetchRoot(_, request) => Ask::Fetch(request),
-            Stage::PutRoot(walk) => Ask::PutRoot(walk.last()),
-            Stage::PutLast(walk) => Ask::PutRoot(walk.last()),
-            Stage::Clear(_) => Ask::ClearRotated,
-            Stage::FetchTimestamp(_, request) => Ask::Fetch(request),
-            Stage::PutTimestamp(base, timestamp) => Ask::AdvanceTimestamp {
-                root: &base.root.signed,
-                new: timestamp,
-                start: base.start,
-                enforcement: self.enforcement,
-            },
-            Stage::FetchSnapshot(_, _, _, request) => Ask::Fetch(request),
-            Stage::PutSnapshot(known, listed) => Ask::AdvanceSnapshot {
-                root: &known.root.signed,
-                listed: *listed,
-                new: &known.snapshot,
-                start: known.start,
-                enforcement: self.enforcement,
-            },
-            Stage::FetchTargets(_, _, request) => Ask::Fetch(request),
-            Stage::PutTargets(_, targets) => Ask::PutTargets(targets),
-            Stage::Done(_) => Ask::Ready,
-            Stage::Taken => Ask::Ready,
+            Stage::Fetch(_, request) => Ask::Fetch(request),
+            Stage::Step(pending) => Ask::Step(pending.act(self.enforcement)),
+            Stage::Done(_) | Stage::Taken => Ask::Ready,
         }
     }
 

@@ -28,13 +28,9 @@ pub struct Request {
     pub sha256: Option<Vec<u8>>,
 }
 
-/// What an update wants next.
+/// A step on the store.
 #[derive(Drop)]
-pub enum Ask<'a> {
-    /// The time.
-    Moment,
-    /// A file.
-    Fetch(&'a Request),
+pub enum Act<'a> {
     /// To note the time.
     NoteTime(Instant),
     /// To store a root.
@@ -67,6 +63,17 @@ pub enum Ask<'a> {
     },
     /// To store the targets.
     PutTargets(&'a Signed<Targets>),
+}
+
+/// What an update wants next.
+#[derive(Drop)]
+pub enum Ask<'a> {
+    /// The time.
+    Moment,
+    /// A file.
+    Fetch(&'a Request),
+    /// A step on the store.
+    Step(Act<'a>),
     /// Nothing more.
     Ready,
 }

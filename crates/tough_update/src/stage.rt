@@ -3,14 +3,16 @@
 ghost use Rattle.std.specs.Prelude.{◌≡◌};
 ghost use Rattle.tough_roles.specs.Signature.{signed_doc};
 ghost use Rattle.tough_roles.specs.Root.{root_doc};
-ghost use Rattle.tough_update.specs.Machine.{base_of};
-ghost use Rattle.tough_update.specs.View.{last_of, walk_doc, base_doc};
+ghost use Rattle.tough_vault.specs.Checks.{enforces};
+ghost use Rattle.tough_update.specs.Machine.{base_of, act_at};
+ghost use Rattle.tough_update.specs.View.{last_of, walk_doc, base_doc, pending_doc, act_of};
 
 use crate::error::Error;
-use crate::request::Request;
+use crate::request::{Act, Request};
 use jiff::Timestamp as Instant;
 use tough_roles::{Root, Signed, Snapshot, Timestamp};
 use tough_schema::Targets;
+use tough_vault::ExpirationEnforcement;
 
 /// A walk from root to root.
 #[derive(Drop)]
@@ -51,21 +53,35 @@ pub struct Loaded {
     pub targets: Signed<Targets>,
 }
 
+/// What a file is fetched for.
+#[derive(Drop)]
+pub(crate) enum Wanted {
+    Root(Walk),
+    Timestamp(Base),
+    /// The version that the timestamp lists.
+    Snapshot(Base, Signed<Timestamp>, u64),
+    /// The version that the snapshot lists.
+    Targets(Known, u64),
+}
+
+/// A step on the store that is to be taken.
+#[derive(Drop)]
+pub(crate) enum Pending {
+    NoteTime(Instant),
+    PutRoot(Walk),
+    PutLast(Walk),
+    Clear(Base),
+    PutTimestamp(Base, Signed<Timestamp>),
+    PutSnapshot(Known, u64),
+    PutTargets(Known, Signed<Targets>),
+}
+
 /// What an update waits for, with what is known by then.
 #[derive(Drop)]
 pub(crate) enum Stage {
     Moment,
-    NoteTime(Instant),
-    FetchRoot(Walk, Request),
-    PutRoot(Walk),
-    PutLast(Walk),
-    Clear(Base),
-    FetchTimestamp(Base, Request),
-    PutTimestamp(Base, Signed<Timestamp>),
-    FetchSnapshot(Base, Signed<Timestamp>, u64, Request),
-    PutSnapshot(Known, u64),
-    FetchTargets(Known, u64, Request),
-    PutTargets(Known, Signed<Targets>),
+    Fetch(Wanted, Request),
+    Step(Pending),
     Done(Result<Loaded, Error>),
     Taken,
 }
@@ -93,6 +109,34 @@ impl Walk {
         match later {
             None => Base { start, root: first },
             Some(root) => Base { start, root },
+        }
+    }
+}
+
+impl Pending {
+    /// The step.
+    pub(crate) fn act(&self, enforcement: ExpirationEnforcement) -> Act<'_>
+        ensures { act_of result ≡ act_at (enforces enforcement) (pending_doc self.now) }
+    {
+        match self {
+            Pending::NoteTime(now) => Act::NoteTime(*now),
+            Pending::PutRoot(walk) => Act::PutRoot(walk.last()),
+            Pending::PutLast(walk) => Act::PutRoot(walk.last()),
+            Pending::Clear(_) => Act::ClearRotated,
+            Pending::PutTimestamp(base, timestamp) => Act::AdvanceTimestamp {
+                root: &base.root.signed,
+                new: timestamp,
+                start: base.start,
+                enforcement,
+            },
+            Pending::PutSnapshot(known, listed) => Act::AdvanceSnapshot {
+                root: &known.root.signed,
+                listed: *listed,
+                new: &known.snapshot,
+                start: known.start,
+                enforcement,
+            },
+            Pending::PutTargets(_, targets) => Act::PutTargets(targets),
         }
     }
 }

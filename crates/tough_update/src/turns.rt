@@ -9,14 +9,15 @@ ghost use Rattle.tough_roles.specs.Snapshot.{snapshot_doc};
 ghost use Rattle.tough_vault.specs.Checks.{enforces, is_expired};
 ghost use Rattle.tough_vault.specs.Documents.{metafile_in, timestamp_in, snapshot_in};
 ghost use Rattle.tough_vault.specs.Files.{snapshot_file, targets_file};
-ghost use Rattle.tough_update.specs.Failure.{Gives, failure_of, step_failure};
+ghost use Rattle.tough_update.specs.Failure.{Gives, failure_of};
 ghost use Rattle.tough_update.specs.Walk.{if_read, IsUnverified};
-ghost use Rattle.tough_update.specs.Machine.{walked, began, new_root, walk_ended, new_timestamp, want_snapshot, new_snapshot, want_targets, targets_checked, new_targets, fault_failure, root_not_started, root_cut, timed, fetched, not_started, cut, stepped, awaits_step, refused, stage_after};
+ghost use Rattle.tough_update.specs.Machine.{walked, began, new_root, walk_ended, new_timestamp, want_snapshot, new_snapshot, want_targets, targets_checked, new_targets, fault_failure, ends_start, ends_stream, unfetched, read_wanted, after, stage_after};
+ghost use Rattle.tough_update.specs.Stages.{Step};
 ghost use Rattle.tough_update.specs.Answered as got;
 ghost use Rattle.tough_update.specs.Listed.{lists_roles, bare_targets, targets_verdict};
 ghost use Rattle.tough_schema.specs.Targets.{targets_doc};
 ghost use Rattle.tough_roles.specs.declared.role_type.RoleType.TheVariants as types;
-ghost use Rattle.tough_update.specs.View.{walk_doc, base_doc, known_doc, stage_doc, request_doc, fault_doc, setting_doc, step_doc};
+ghost use Rattle.tough_update.specs.View.{walk_doc, base_doc, known_doc, wanted_doc, pending_doc, stage_doc, fault_doc, setting_doc, step_doc};
 
 use crate::error::Error;
 use crate::limits::Limits;
@@ -24,7 +25,7 @@ use crate::request::{
     Fault, Request, root_request, snapshot_request, targets_request, timestamp_request,
 };
 use crate::rotation::is_rotated;
-use crate::stage::{Base, Known, Loaded, Stage, Walk};
+use crate::stage::{Base, Known, Loaded, Pending, Stage, Walk, Wanted};
 use crate::walk::{first_root, next_root};
 use jiff::Timestamp as Instant;
 use std::alloc::Global;
@@ -59,10 +60,10 @@ fn go_on(alloc: Global, limits: &Limits, walk: Walk) -> Result<Stage, Error>
         });
     }
     if version == u64::MAX {
-        return Ok(Stage::PutLast(walk));
+        return Ok(Stage::Step(Pending::PutLast(walk)));
     }
     let request = root_request(alloc, limits, version + 1)?;
-    Ok(Stage::FetchRoot(walk, request))
+    Ok(Stage::Fetch(Wanted::Root(walk), request))
 }
 
 /// The walk begins.
@@ -104,11 +105,11 @@ fn take_root<V: Verify>(
         first,
         later: _,
     } = walk;
-    Ok(Stage::PutRoot(Walk {
+    Ok(Stage::Step(Pending::PutRoot(Walk {
         start,
         first,
         later: Some(root),
-    }))
+    })))
 }
 
 // Whether the update began after this moment, where that counts.
@@ -137,17 +138,17 @@ fn end_walk(
         });
     }
     if is_rotated(&walk.first.signed, last) {
-        return Ok(Stage::Clear(walk.into_base()));
+        return Ok(Stage::Step(Pending::Clear(walk.into_base())));
     }
     let request = timestamp_request(alloc, limits)?;
-    Ok(Stage::FetchTimestamp(walk.into_base(), request))
+    Ok(Stage::Fetch(Wanted::Timestamp(walk.into_base()), request))
 }
 
 fn take_timestamp(alloc: Global, base: Base, bytes: &[u8]) -> Result<Stage, Error>
     ensures { Gives stage_doc (new_timestamp (base_doc base) bytes.now) result }
 {
     match Signed::<Timestamp>::read(alloc, bytes) {
-        Ok(timestamp) => Ok(Stage::PutTimestamp(base, timestamp)),
+        Ok(timestamp) => Ok(Stage::Step(Pending::PutTimestamp(base, timestamp))),
         Err(ReadError::Memory) => Err(Error::Memory),
         Err(source) => Err(Error::ParseMetadata {
             role: RoleType::Timestamp,
@@ -180,7 +181,7 @@ fn go_to_snapshot(
     let consistent = base.root.signed.consistent_snapshot;
     let request = snapshot_request(alloc, limits, consistent, meta)?;
     let version = meta.version.get();
-    Ok(Stage::FetchSnapshot(base, timestamp, version, request))
+    Ok(Stage::Fetch(Wanted::Snapshot(base, timestamp, version), request))
 }
 
 fn take_snapshot(
@@ -201,7 +202,7 @@ fn take_snapshot(
                 timestamp,
                 snapshot,
             };
-            Ok(Stage::PutSnapshot(known, listed))
+            Ok(Stage::Step(Pending::PutSnapshot(known, listed)))
         }
         Err(ReadError::Memory) => Err(Error::Memory),
         Err(source) => Err(Error::ParseMetadata {
@@ -223,7 +224,7 @@ fn go_to_targets(alloc: Global, limits: &Limits, known: Known) -> Result<Stage, 
     let consistent = known.root.signed.consistent_snapshot;
     let request = targets_request(alloc, limits, consistent, meta)?;
     let version = meta.version.get();
-    Ok(Stage::FetchTargets(known, version, request))
+    Ok(Stage::Fetch(Wanted::Targets(known, version), request))
 }
 
 // Whether the targets delegate to a role.
@@ -325,7 +326,7 @@ fn take_targets<V: Verify>(
         Err(error) => return Err(error),
     };
     match check_targets(setting, &known, listed, &targets, verifier) {
-        Ok(()) => Ok(Stage::PutTargets(known, targets)),
+        Ok(()) => Ok(Stage::Step(Pending::PutTargets(known, targets))),
         Err(error) => Err(error),
     }
 }
@@ -344,154 +345,120 @@ fn fault_error(path: String, fault: Fault) -> Error
     }
 }
 
-// The fetch of a root didn't start.
-fn end_unstarted(walk: Walk, request: Request, fault: Fault) -> Result<Stage, Error>
-    ensures { Gives stage_doc (root_not_started (walk_doc walk) (fault_doc fault)) result }
+// Whether the walk ends where the fetch of a root starts with this fault.
+fn ends_start(fault: &Fault) -> bool
+    ensures { result ≡ ends_start (fault_doc fault.now) }
 {
     match fault {
-        Fault::JoinUrl(source) => Err(fault_error(request.name, Fault::JoinUrl(source))),
-        Fault::Transport(source) => match source.kind() {
-            TransportErrorKind::Memory => Err(Error::Memory),
-            _ => Ok(Stage::PutLast(walk)),
-        },
+        Fault::JoinUrl(_) => false,
+        Fault::Transport(source) => !matches!(source.kind(), TransportErrorKind::Memory),
     }
 }
 
-// The stream of a root failed.
-fn end_cut(walk: Walk, request: Request, fault: Fault) -> Result<Stage, Error>
-    ensures { Gives stage_doc (root_cut (walk_doc walk) (fault_doc fault)) result }
+// Whether the walk ends where the stream of a root fails with this fault.
+fn ends_stream(fault: &Fault) -> bool
+    ensures { result ≡ ends_stream (fault_doc fault.now) }
 {
     match fault {
-        Fault::JoinUrl(source) => Err(fault_error(request.name, Fault::JoinUrl(source))),
-        Fault::Transport(source) => match source.kind() {
-            TransportErrorKind::FileNotFound => Ok(Stage::PutLast(walk)),
-            _ => Err(fault_error(request.name, Fault::Transport(source))),
-        },
+        Fault::JoinUrl(_) => false,
+        Fault::Transport(source) => matches!(source.kind(), TransportErrorKind::FileNotFound),
     }
 }
 
-/// A moment.
-pub(crate) fn take_moment(stage: Stage, now: Instant) -> Result<Stage, Error>
-    ensures { Gives stage_doc (timed (stage_doc stage) now.nanosecond) result }
-{
-    match stage {
-        Stage::Moment => Ok(Stage::NoteTime(now)),
-        stage => Ok(stage),
-    }
-}
-
-/// The bytes of a file.
-pub(crate) fn take_bytes<V: Verify>(
-    setting: &Setting<'_>,
-    stage: Stage,
-    bytes: &[u8],
-    verifier: &V,
+// A fetch that gave no bytes: where it is a root's, it may end the walk.
+fn end_fetch(
+    wanted: Wanted,
+    request: Request,
+    ends_walk: bool,
+    fault: Fault,
 ) -> Result<Stage, Error>
-    ensures { Gives stage_doc (fetched (V.verifies verifier.now) (enforces setting.now.enforcement) (stage_doc stage) bytes.now) result }
+    ensures { Gives stage_doc (unfetched (wanted_doc wanted) ends_walk (fault_doc fault)) result }
 {
-    let alloc = setting.alloc;
-    match stage {
-        Stage::FetchRoot(walk, _) => take_root(alloc, walk, bytes, verifier),
-        Stage::FetchTimestamp(base, _) => take_timestamp(alloc, base, bytes),
-        Stage::FetchSnapshot(base, timestamp, listed, _) => {
-            take_snapshot(alloc, base, timestamp, listed, bytes)
+    match wanted {
+        Wanted::Root(walk) => {
+            if ends_walk {
+                Ok(Stage::Step(Pending::PutLast(walk)))
+            } else {
+                Err(fault_error(request.name, fault))
+            }
         }
-        Stage::FetchTargets(known, listed, _) => {
-            take_targets(setting, known, listed, bytes, verifier)
-        }
-        stage => Ok(stage),
+        Wanted::Timestamp(_) => Err(fault_error(request.name, fault)),
+        Wanted::Snapshot(_, _, _) => Err(fault_error(request.name, fault)),
+        Wanted::Targets(_, _) => Err(fault_error(request.name, fault)),
     }
 }
 
 /// A fetch that didn't start.
-pub(crate) fn take_not_started(stage: Stage, fault: Fault) -> Result<Stage, Error>
-    ensures { Gives stage_doc (not_started (stage_doc stage) (fault_doc fault)) result }
+pub(crate) fn end_unstarted(wanted: Wanted, request: Request, fault: Fault) -> Result<Stage, Error>
+    ensures { Gives stage_doc (unfetched (wanted_doc wanted) (ends_start (fault_doc fault)) (fault_doc fault)) result }
 {
-    match stage {
-        Stage::FetchRoot(walk, request) => end_unstarted(walk, request, fault),
-        Stage::FetchTimestamp(_, request) => Err(fault_error(request.name, fault)),
-        Stage::FetchSnapshot(_, _, _, request) => Err(fault_error(request.name, fault)),
-        Stage::FetchTargets(_, _, request) => Err(fault_error(request.name, fault)),
-        stage => Ok(stage),
-    }
+    let ends = ends_start(&fault);
+    end_fetch(wanted, request, ends, fault)
 }
 
 /// A stream that failed.
-pub(crate) fn take_cut(stage: Stage, fault: Fault) -> Result<Stage, Error>
-    ensures { Gives stage_doc (cut (stage_doc stage) (fault_doc fault)) result }
+pub(crate) fn end_cut(wanted: Wanted, request: Request, fault: Fault) -> Result<Stage, Error>
+    ensures { Gives stage_doc (unfetched (wanted_doc wanted) (ends_stream (fault_doc fault)) (fault_doc fault)) result }
 {
-    match stage {
-        Stage::FetchRoot(walk, request) => end_cut(walk, request, fault),
-        Stage::FetchTimestamp(_, request) => Err(fault_error(request.name, fault)),
-        Stage::FetchSnapshot(_, _, _, request) => Err(fault_error(request.name, fault)),
-        Stage::FetchTargets(_, _, request) => Err(fault_error(request.name, fault)),
-        stage => Ok(stage),
+    let ends = ends_stream(&fault);
+    end_fetch(wanted, request, ends, fault)
+}
+
+/// The bytes of a file.
+pub(crate) fn read_wanted<V: Verify>(
+    setting: &Setting<'_>,
+    wanted: Wanted,
+    bytes: &[u8],
+    verifier: &V,
+) -> Result<Stage, Error>
+    ensures { Gives stage_doc (read_wanted (V.verifies verifier.now) (enforces setting.now.enforcement) (wanted_doc wanted) bytes.now) result }
+{
+    let alloc = setting.alloc;
+    match wanted {
+        Wanted::Root(walk) => take_root(alloc, walk, bytes, verifier),
+        Wanted::Timestamp(base) => take_timestamp(alloc, base, bytes),
+        Wanted::Snapshot(base, timestamp, listed) => {
+            take_snapshot(alloc, base, timestamp, listed, bytes)
+        }
+        Wanted::Targets(known, listed) => take_targets(setting, known, listed, bytes, verifier),
     }
 }
 
-/// A step that succeeded.
-fn take_success<V: Verify>(
+// A step that was taken.
+fn after<V: Verify>(
     setting: &Setting<'_>,
-    stage: Stage,
+    pending: Pending,
     verifier: &V,
 ) -> Result<Stage, Error>
-    ensures { Gives stage_doc (stepped (V.verifies verifier.now) (setting_doc setting.now) (stage_doc stage)) result }
+    ensures { Gives stage_doc (after (V.verifies verifier.now) (setting_doc setting.now) (pending_doc pending)) result }
 {
     let alloc = setting.alloc;
     let limits = &setting.limits;
-    match stage {
-        Stage::NoteTime(now) => begin(alloc, limits, setting.trusted, now, verifier),
-        Stage::PutRoot(walk) => go_on(alloc, limits, walk),
-        Stage::PutLast(walk) => end_walk(alloc, limits, setting.enforcement, walk),
-        Stage::Clear(base) => {
+    match pending {
+        Pending::NoteTime(now) => begin(alloc, limits, setting.trusted, now, verifier),
+        Pending::PutRoot(walk) => go_on(alloc, limits, walk),
+        Pending::PutLast(walk) => end_walk(alloc, limits, setting.enforcement, walk),
+        Pending::Clear(base) => {
             let request = timestamp_request(alloc, limits)?;
-            Ok(Stage::FetchTimestamp(base, request))
+            Ok(Stage::Fetch(Wanted::Timestamp(base), request))
         }
-        Stage::PutTimestamp(base, timestamp) => go_to_snapshot(alloc, limits, base, timestamp),
-        Stage::PutSnapshot(known, _) => go_to_targets(alloc, limits, known),
-        Stage::PutTargets(known, targets) => Ok(Stage::Done(Ok(Loaded { known, targets }))),
-        stage => Ok(stage),
-    }
-}
-
-// Whether a step was asked for.
-fn awaits_step(stage: &Stage) -> bool
-    ensures { result ≡ awaits_step (stage_doc stage.now) }
-{
-    match stage {
-        Stage::NoteTime(_) => true,
-        Stage::PutRoot(_) => true,
-        Stage::PutLast(_) => true,
-        Stage::Clear(_) => true,
-        Stage::PutTimestamp(_, _) => true,
-        Stage::PutSnapshot(_, _) => true,
-        Stage::PutTargets(_, _) => true,
-        _ => false,
-    }
-}
-
-/// A step that was refused.
-fn take_refusal(stage: Stage, error: StepError) -> Result<Stage, Error>
-    ensures { Gives stage_doc (refused (stage_doc stage) (step_failure error)) result }
-{
-    if awaits_step(&stage) {
-        Err(Error::from(error))
-    } else {
-        Ok(stage)
+        Pending::PutTimestamp(base, timestamp) => go_to_snapshot(alloc, limits, base, timestamp),
+        Pending::PutSnapshot(known, _) => go_to_targets(alloc, limits, known),
+        Pending::PutTargets(known, targets) => Ok(Stage::Done(Ok(Loaded { known, targets }))),
     }
 }
 
 /// The answer of a step.
 pub(crate) fn take_step<V: Verify>(
     setting: &Setting<'_>,
-    stage: Stage,
+    pending: Pending,
     taken: Result<(), StepError>,
     verifier: &V,
 ) -> Result<Stage, Error>
-    ensures { Gives stage_doc (stage_after (V.verifies verifier.now) (setting_doc setting.now) (stage_doc stage) (got.Step (step_doc taken))) result }
+    ensures { Gives stage_doc (stage_after (V.verifies verifier.now) (setting_doc setting.now) (Step (pending_doc pending)) (got.Step (step_doc taken))) result }
 {
     match taken {
-        Ok(()) => take_success(setting, stage, verifier),
-        Err(error) => take_refusal(stage, error),
+        Ok(()) => after(setting, pending, verifier),
+        Err(error) => Err(Error::from(error)),
     }
 }

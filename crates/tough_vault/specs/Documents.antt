@@ -4,7 +4,7 @@ use Rattle.std.specs.Str.{bytes_eq}
 use Rattle.std.specs.Map.{lookup}
 use Rattle.serde_json.specs.Data.{Data}
 use Rattle.serde_json.specs.Written.{has_float, compact_text}
-use Rattle.tough_base.specs.CanonicalText.{canonical_of}
+use Rattle.tough_json.specs.CanonicalText.{canonical_of}
 use Rattle.tough_json.specs.Results.{json_of}
 use Rattle.tough_roles.specs.Signature.{SignedDoc, signed_at, signed_json}
 use Rattle.tough_roles.specs.declared.signed.Signed.{Signed}

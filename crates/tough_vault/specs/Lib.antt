@@ -10,3 +10,7 @@ pub mod Parts
 pub mod Props
 pub mod Vault
 pub mod DocumentName
+pub mod Act
+pub mod Checking
+pub mod Folder
+pub mod SystemClock

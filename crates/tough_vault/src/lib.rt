@@ -2,9 +2,13 @@
 #![tactic(auto)]
 
 mod checks;
+mod clock;
 mod document;
 mod document_name;
 mod entry;
+mod folder;
+#[cfg(test)]
+mod folder_tests;
 mod memory;
 mod parts;
 mod prepare;
@@ -15,8 +19,10 @@ mod store;
 mod vault;
 
 pub use checks::{ExpirationEnforcement, Refusal, StepError};
+pub use clock::{Clock, FixedClock, SystemClock};
 pub use document_name::DocumentName;
 pub use entry::{Entry, ListedVersion, Receipt, SnapshotVersions, TimestampVersions, Tip};
+pub use folder::DirStore;
 pub use memory::MemoryStore;
 pub use store::{Store, StoreError};
 pub use vault::Vault;

@@ -2,7 +2,7 @@ use crate::machine::documents::{
     BARE_TIMESTAMP, CONSISTENT, DELEGATING, EMPTY_LIST, EXACT_SNAPSHOT, EXPIRED, EXPIRED_TARGETS,
     ROOT_1, ROOT_2, ROOT_3, ROTATED, SNAPSHOT, TARGETS, TARGETS_3, TIMESTAMP, UNSIGNED_TARGETS,
 };
-use crate::{Answer, Ask, Core, Error, ExpirationEnforcement, Fault, Limits, StepError};
+use crate::{Act, Answer, Ask, Core, Error, ExpirationEnforcement, Fault, Limits, StepError};
 use jiff::Timestamp as Instant;
 use std::alloc::Global;
 use std::test::Fail;
@@ -115,7 +115,7 @@ fn two_updates_are_the_most(rt: HostRuntime) -> Result<(), Fail> {
     let mut core = begun(rt.alloc(), ROOT_1, few(2), ExpirationEnforcement::Safe)?;
     assert_eq!(rt; wanted(&core), "2.root.json");
     serve(rt.alloc(), &mut core, ROOT_2)?;
-    assert!(rt; matches!(core.ask(), Ask::PutRoot(_)));
+    assert!(rt; matches!(core.ask(), Ask::Step(Act::PutRoot(_))));
     accept(rt.alloc(), &mut core);
     assert_eq!(rt; wanted(&core), "3.root.json");
     serve(rt.alloc(), &mut core, ROOT_3)?;
@@ -139,7 +139,7 @@ fn a_missing_root_ends_the_walk(rt: HostRuntime) -> Result<(), Fail> {
     accept(rt.alloc(), &mut core);
     miss(rt.alloc(), &mut core)?;
     match core.ask() {
-        Ask::PutRoot(root) => assert_eq!(rt; root.signed.version.get(), 2),
+        Ask::Step(Act::PutRoot(root)) => assert_eq!(rt; root.signed.version.get(), 2),
         _ => assert!(rt; false),
     }
     accept(rt.alloc(), &mut core);
@@ -188,7 +188,7 @@ fn rotated_keys_clear_the_store(rt: HostRuntime) -> Result<(), Fail> {
     accept(rt.alloc(), &mut core);
     miss(rt.alloc(), &mut core)?;
     accept(rt.alloc(), &mut core);
-    assert!(rt; matches!(core.ask(), Ask::ClearRotated));
+    assert!(rt; matches!(core.ask(), Ask::Step(Act::ClearRotated)));
     accept(rt.alloc(), &mut core);
     assert_eq!(rt; wanted(&core), "timestamp.json");
     Ok(())
@@ -217,7 +217,7 @@ fn an_unreadable_timestamp_is_no_metadata(rt: HostRuntime) -> Result<(), Fail> {
 fn the_timestamp_says_what_fits(rt: HostRuntime) -> Result<(), Fail> {
     let mut core = walked(rt.alloc(), ROOT_1)?;
     serve(rt.alloc(), &mut core, TIMESTAMP)?;
-    assert!(rt; matches!(core.ask(), Ask::AdvanceTimestamp { .. }));
+    assert!(rt; matches!(core.ask(), Ask::Step(Act::AdvanceTimestamp { .. })));
     assert!(rt; !core.fits(SNAPSHOT.as_bytes()));
     accept(rt.alloc(), &mut core);
     assert_eq!(rt; wanted(&core), "snapshot.json");
@@ -289,7 +289,7 @@ fn targets_end_an_update(rt: HostRuntime) -> Result<(), Fail> {
         assert_eq!(rt; wanted(&core), "targets.json");
         serve(rt.alloc(), &mut core, targets)?;
         match core.ask() {
-            Ask::PutTargets(targets) => assert_eq!(rt; targets.signed.version.get(), 2),
+            Ask::Step(Act::PutTargets(targets)) => assert_eq!(rt; targets.signed.version.get(), 2),
             _ => assert!(rt; false),
         }
         accept(rt.alloc(), &mut core);

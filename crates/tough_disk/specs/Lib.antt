@@ -1,2 +1,0 @@
-pub mod Folder
-pub mod SystemClock

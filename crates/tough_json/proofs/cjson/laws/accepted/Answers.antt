@@ -1,0 +1,5 @@
+use Rattle.tough_json.proofs.Exactness as laws
+use Rattle.tough_json.proofs.cjson.laws.accepted.Goals as goal
+
+pub returns : goal.returns
+returns c = laws.accepted

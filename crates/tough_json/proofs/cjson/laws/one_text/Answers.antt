@@ -1,0 +1,5 @@
+use Rattle.tough_json.proofs.Exactness.{one}
+use Rattle.tough_json.proofs.cjson.laws.one_text.Goals as goal
+
+pub returns : goal.returns
+returns c = one

@@ -1,0 +1,36 @@
+//! Canonical JSON.
+
+ghost use Rattle.std.specs.Prelude.{◌≡◌, ◌≢◌, ℕ, List, Some, None, IfOk, IfErr, true};
+ghost use Rattle.serde_json.specs.View.{view};
+ghost use Rattle.serde_json.specs.Written.{has_float};
+ghost use Rattle.tough_json.specs.Canon.{Canon, IsRefused, IsTextOrMemory};
+ghost use Rattle.tough_json.specs.CanonicalText.{canonical_of};
+
+mod error;
+mod float;
+pub mod laws;
+mod text;
+mod write;
+
+use crate::cjson::write::write;
+pub use error::CjsonError;
+pub use float::holds_float;
+use serde_json::Value;
+use std::alloc::Global;
+
+/// The value's canonical text.
+pub fn canonical(alloc: Global, value: &Value) -> Result<Vec<u8>, CjsonError>
+    ensures ok { IfOk result (λ t. Canon (view value.now) t.items) }
+    ensures err { IfErr result (λ e. IsRefused (view value.now) e) }
+    ensures only { (t : List ℕ) → Canon (view value.now) t → IsTextOrMemory t result }
+    ensures text { IfOk result (λ t. canonical_of (view value.now) ≡ Some t.items) }
+    ensures none { IfErr result (λ e. e ≢ CjsonError.Memory → canonical_of (view value.now) ≡ None) }
+    ensures float { has_float (view value.now) ≡ true → result ≡ Err CjsonError.Float }
+{
+    if holds_float(value) {
+        return Err(CjsonError::Float);
+    }
+    let mut out = Vec::new(alloc);
+    write(alloc, &mut out, value)?;
+    Ok(out)
+}

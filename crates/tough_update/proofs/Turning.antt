@@ -1,0 +1,60 @@
+-- A fact of stages is kept by each answer where it is kept by each file that is read, by a root's fetch that ends the walk, and by each step.
+use Rattle.std.specs.Prelude.{◌≡◌, ℤ, List, Bool, true, false, IsTrue, Result, Ok, Err, ℕ, if◌then◌else◌}
+use Rattle.std.proofs.Common.{refl}
+use Rattle.tough_keys.specs.Same.{Verifies}
+use Rattle.tough_update.specs.Failure.{Failure}
+use Rattle.tough_update.specs.Outcomes.{unless, and_then}
+use Rattle.tough_update.specs.Requests.{RequestDoc}
+use Rattle.tough_update.specs.Stages.{WalkDoc, WantedDoc, PendingDoc, StageDoc, SettingDoc}
+use Rattle.tough_update.specs.Stages as at
+use Rattle.tough_update.specs.Answered.{FaultDoc, Unjoined, NotFound, Faulty, NoMemory, AnswerDoc}
+use Rattle.tough_update.specs.Answered as got
+use Rattle.tough_update.specs.Machine.{fault_failure, ends_start, ends_stream, read_wanted, after, settled, stage_after}
+use Rattle.tough_update.specs.Runs.{EndsWalk}
+
+module _ (P : StageDoc → Type 0) (bad : (f : Failure) → P (at.Done (Err f))) where
+  abbrev pub Fine : Result StageDoc Failure → Type 0
+  Fine r = P (settled r)
+
+  pub unless-fine : (f : Failure) (b : Bool) (r : Result StageDoc Failure) → (IsTrue b → Fine r) → Fine (unless f b r)
+  unless-fine f true r good = good refl
+  unless-fine f false r good = bad f
+
+  pub if-fine : (b : Bool) (r s : Result StageDoc Failure) → (IsTrue b → Fine r) → Fine s → Fine (if b then r else s)
+  if-fine true r s one two = one refl
+  if-fine false r s one two = two
+
+  pub and_then-fine : {A : Type 0} (r : Result A Failure) (f : A → Result StageDoc Failure) → ((a : A) → r ≡ Ok a → Fine (f a)) → Fine (and_then r f)
+  and_then-fine (Ok a) f good = good a refl
+  and_then-fine (Err e) f good = bad e
+
+start-ends : (f : FaultDoc) → IsTrue (ends_start f) → EndsWalk (got.NotStarted f)
+start-ends Unjoined h = cc
+start-ends NotFound h = tt
+start-ends Faulty h = tt
+start-ends NoMemory h = cc
+
+stream-ends : (f : FaultDoc) → IsTrue (ends_stream f) → EndsWalk (got.Cut f)
+stream-ends Unjoined h = cc
+stream-ends NotFound h = tt
+stream-ends Faulty h = cc
+stream-ends NoMemory h = cc
+
+module _ (verifies : Verifies) (s : SettingDoc) (P : StageDoc → Type 0) (bad : (f : Failure) → P (at.Done (Err f))) (Heard : StageDoc → AnswerDoc → Type 0) where
+  -- what is to be shown of a fact, with what is heard of each answer
+  pub record Kept : Type 0 where
+    pub moment : (now : ℤ) → P (at.Step (at.NoteTime now))
+    pub read : (w : WantedDoc) (r : RequestDoc) (bytes : List ℕ) → P (at.Fetch w r) → Heard (at.Fetch w r) (got.Bytes bytes) → Fine P bad (read_wanted verifies s.enforced w bytes)
+    pub ends : (w : WalkDoc) (r : RequestDoc) (a : AnswerDoc) → EndsWalk a → P (at.Fetch (at.Root w) r) → Heard (at.Fetch (at.Root w) r) a → P (at.Step (at.PutLast w))
+    pub step : (p : PendingDoc) → P (at.Step p) → Heard (at.Step p) (got.Step (Ok (tt {0}))) → Fine P bad (after verifies s p)
+
+  pub keeps-answer : Kept → (stage : StageDoc) (a : AnswerDoc) → P stage → Heard stage a → Fine P bad (stage_after verifies s stage a)
+  keeps-answer k at.Moment (got.Moment now) h l = k.moment now
+  keeps-answer k (at.Fetch w r) (got.Bytes bytes) h l = k.read w r bytes h l
+  keeps-answer k (at.Fetch (at.Root w) r) (got.NotStarted f) h l = if-fine P bad (ends_start f) (Ok (at.Step (at.PutLast w))) (Err (fault_failure f)) (λ e. k.ends w r (got.NotStarted f) (start-ends f e) h l) (bad (fault_failure f))
+  keeps-answer k (at.Fetch (at.Root w) r) (got.Cut f) h l = if-fine P bad (ends_stream f) (Ok (at.Step (at.PutLast w))) (Err (fault_failure f)) (λ e. k.ends w r (got.Cut f) (stream-ends f e) h l) (bad (fault_failure f))
+  keeps-answer k (at.Fetch w r) (got.NotStarted f) h l = bad (fault_failure f)
+  keeps-answer k (at.Fetch w r) (got.Cut f) h l = bad (fault_failure f)
+  keeps-answer k (at.Step p) (got.Step (Ok u)) h l = k.step p h l
+  keeps-answer k (at.Step p) (got.Step (Err f)) h l = bad f
+  keeps-answer k stage a h l = h

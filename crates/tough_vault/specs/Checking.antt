@@ -1,0 +1,27 @@
+-- A step that succeeded has made its checks.
+use Rattle.std.proofs.Common.{◌≡◌, ℕ, Option, None, Some, Bool, Result, Ok, Err, refl}
+use Rattle.tough_keys.specs.Same.{Verifies}
+use Rattle.tough_vault.specs.declared.entry.Receipt.{Receipt}
+use Rattle.tough_vault.specs.declared.checks.StepError.{StepError}
+use Rattle.tough_vault.specs.Checks.{Reason, or_else}
+use Rattle.tough_vault.specs.Stored.{Files}
+use Rattle.tough_vault.specs.Step.{Parts}
+use Rattle.tough_vault.specs.Act.{Act, NoteTime, PutRoot, ClearRotated, AdvanceTimestamp, AdvanceSnapshot, PutDocument, CheckedIfOk, Acts}
+
+none_behind : (a b : Option Reason) → or_else a b ≡ None → b ≡ None
+none_behind None b h = h
+none_behind (Some r) b h = absurd (cc (h))
+
+third_passes : (a b c : Option Reason) → or_else a (or_else b (or_else c None)) ≡ None → c ≡ None
+third_passes a b None h = refl
+third_passes a b (Some r) h = none_behind b (Some r) (none_behind a (or_else b (Some r)) h)
+
+module _ {S : Type 0} (tells : Bool) (files : S → Files) (count : S → ℕ) where
+  pub checked : (verifies : Verifies) (act : Act) (old new : Parts S) (result : Result Receipt StepError) → Acts tells files count verifies act old new result → CheckedIfOk verifies act result
+  checked verifies act old new (Err e) h = tt
+  checked verifies (NoteTime now) old new (Ok r) h = tt
+  checked verifies (PutRoot root) old new (Ok r) h = tt
+  checked verifies ClearRotated old new (Ok r) h = tt
+  checked verifies (AdvanceTimestamp root t start enforced) old new (Ok r) h = (h.done.1.passes.before, third_passes _ _ _ h.done.1.passes.after)
+  checked verifies (AdvanceSnapshot root listed s start enforced) old new (Ok r) h = (h.done.1.passes.before, third_passes _ _ _ h.done.1.passes.after)
+  checked verifies (PutDocument name text) old new (Ok r) h = tt

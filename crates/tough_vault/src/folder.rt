@@ -1,0 +1,171 @@
+//! A store over a folder.
+ghost use Rattle.std.specs.Prelude.{◌≡◌, ℕ, ◌+◌, ◌%◌, ◌^◌, ◌↔◌, IsTrue, string_bytes};
+ghost use Rattle.tough_vault.specs.Stored.{HasCause};
+ghost use Rattle.tough_vault.specs.Folder.{folder_of, runtime_of, store_failures, IsFileName};
+
+use crate::store::{Store, StoreError};
+use std::alloc::{AllocError, AllocGlobal, Global};
+use std::fs::OpenFile;
+use std::io::{ErrorKind, Read, Write};
+use std::path::Path;
+use std::{fs, io, rt};
+
+// The file that `write` fills before it takes another's place.
+const TEMPORARY: &str = "+new";
+
+/// A store whose files stand in a folder, which must be there. It tells nothing, since others may write there.
+///
+/// A file is replaced so that a process that dies leaves the old content or the new one: the bytes are written to the
+/// file `+new` of the folder and synced, then that is renamed, and the folder synced.
+///
+/// No file has an empty name, the name `.`, `..` or `+new`, or a name with a slash: `read` gives none, `remove`
+/// succeeds, and `write` fails.
+#[derive(Drop)]
+pub struct DirStore<R> {
+    rt: R,
+    folder: String,
+    failures: u64,
+}
+
+impl<R: rt::Files + AllocGlobal + Drop> DirStore<R> {
+    /// The store over this folder, which the runtime reaches. No failure is counted yet.
+    pub fn new(rt: R, folder: String) -> DirStore<R>
+        ensures runtime { runtime_of result ≡ rt }
+        ensures folder { folder_of result ≡ string_bytes folder }
+        ensures failures { store_failures result ≡ 0 }
+    {
+        DirStore {
+            rt,
+            folder,
+            failures: 0,
+        }
+    }
+
+    // Counts a failure.
+    fn fail(&mut self) -> StoreError
+        ensures result { result ≡ StoreError.Failed }
+        ensures count { store_failures self.new ≡ (store_failures self.old + 1) % 2 ^ 64 }
+    {
+        self.failures = self.failures.wrapping_add(1);
+        StoreError::Failed
+    }
+
+    // The path of a file of the folder.
+    fn path_of(&self, name: &str) -> Result<String, AllocError> {
+        let path = Path::new(self.folder.as_str()).join(self.rt.alloc(), name)?;
+        Ok(path.into_string())
+    }
+}
+
+// Whether a file of the store may have this name.
+fn is_plain(name: &str) -> bool
+    ensures { IsTrue result ↔ IsFileName name.now }
+{
+    !name.is_empty()
+        && name != "."
+        && name != ".."
+        && name != TEMPORARY
+        && !name.as_bytes().contains(&b'/')
+}
+
+fn read_all(files: &impl rt::Files, alloc: Global, path: &str) -> io::Result<Vec<u8>> {
+    let mut file = fs::open(files, path)?;
+    let mut bytes = Vec::new(alloc);
+    file.read_to_end(&mut bytes)?;
+    Ok(bytes)
+}
+
+// Writes the bytes to the one path, whose file then takes the place of the other's.
+fn replace(
+    files: &impl rt::Files,
+    folder: &str,
+    fresh: &str,
+    path: &str,
+    bytes: &[u8],
+) -> io::Result<()> {
+    let mut file = fs::create(files, fresh)?;
+    file.write_all(bytes)?;
+    file.sync_all()?;
+    fs::rename(files, fresh, path)?;
+    sync(files, folder)
+}
+
+// Removes the file. One that is missing is removed already.
+fn remove(files: &impl rt::Files, folder: &str, path: &str) -> io::Result<()> {
+    match fs::remove_file(files, path) {
+        Ok(()) => sync(files, folder),
+        Err(e) if e.kind() == ErrorKind::NotFound => Ok(()),
+        Err(e) => Err(e),
+    }
+}
+
+// Waits until what the folder lists is on the device.
+fn sync(files: &impl rt::Files, folder: &str) -> io::Result<()> {
+    fs::open(files, folder)?.sync_all()
+}
+
+impl<R: rt::Files + AllocGlobal + Drop> Store for DirStore<R> {
+    ghost use Rattle.std.specs.Prelude.{false, None};
+
+    ghost tells = { false };
+
+    ghost files = { λ _ _. None };
+
+    ghost count = { store_failures };
+
+    fn read(&mut self, alloc: Global, name: &str) -> Result<Option<Vec<u8>>, StoreError>
+        ensures none { (IsFileName name.now → ⊥) → result ≡ Ok None }
+        ensures cause { HasCause (store_failures self.old) (store_failures self.new) result }
+    {
+        if !is_plain(name) {
+            return Ok(None);
+        }
+        let Ok(path) = self.path_of(name) else {
+            return Err(StoreError::Memory);
+        };
+        match read_all(&self.rt, alloc, path.as_str()) {
+            Ok(bytes) => Ok(Some(bytes)),
+            Err(e) => match e.kind() {
+                ErrorKind::NotFound => Ok(None),
+                ErrorKind::OutOfMemory => Err(StoreError::Memory),
+                _ => Err(self.fail()),
+            },
+        }
+    }
+
+    fn write(&mut self, name: &str, bytes: &[u8]) -> Result<(), StoreError>
+        ensures refused { (IsFileName name.now → ⊥) → result ≡ Err StoreError.Failed }
+        ensures cause { HasCause (store_failures self.old) (store_failures self.new) result }
+    {
+        if !is_plain(name) {
+            return Err(self.fail());
+        }
+        let (Ok(fresh), Ok(path)) = (self.path_of(TEMPORARY), self.path_of(name)) else {
+            return Err(StoreError::Memory);
+        };
+        match replace(&self.rt, self.folder.as_str(), &fresh, &path, bytes) {
+            Ok(()) => Ok(()),
+            Err(_) => Err(self.fail()),
+        }
+    }
+
+    fn remove(&mut self, name: &str) -> Result<(), StoreError>
+        ensures absent { (IsFileName name.now → ⊥) → result ≡ Ok tt }
+        ensures cause { HasCause (store_failures self.old) (store_failures self.new) result }
+    {
+        if !is_plain(name) {
+            return Ok(());
+        }
+        let Ok(path) = self.path_of(name) else {
+            return Err(StoreError::Memory);
+        };
+        match remove(&self.rt, self.folder.as_str(), path.as_str()) {
+            Ok(()) => Ok(()),
+            Err(_) => Err(self.fail()),
+        }
+    }
+
+    fn failures(&self) -> u64 {
+        self.failures
+    }
+}
