@@ -15,7 +15,7 @@ pub use tough_base::{
     encode_filename,
 };
 pub use tough_client::{
-    Answer, Ask, Clock, Core, DirStore, DocumentName, Entry, ExpirationEnforcement, Fault,
+    Act, Answer, Ask, Clock, Core, DirStore, DocumentName, Entry, ExpirationEnforcement, Fault,
     FixedClock, Keeper, Limits, ListedVersion, Load, MemoryStore, Receipt, Refusal, Repository,
     RepositoryLoader, Request, SnapshotVersions, StepError, Store, StoreError, SystemClock,
     TimestampVersions, Tip, Vault, drive,

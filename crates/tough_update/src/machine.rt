@@ -156,8 +156,3 @@ impl Core {
         }
     }
 }
-
-#[cfg(test)]
-mod documents;
-#[cfg(test)]
-mod tests;

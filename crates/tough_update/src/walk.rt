@@ -92,8 +92,3 @@ pub(crate) fn next_root<V: Verify>(
     }
     Ok(new)
 }
-
-#[cfg(test)]
-mod documents;
-#[cfg(test)]
-mod tests;

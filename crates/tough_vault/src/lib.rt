@@ -7,8 +7,6 @@ mod document;
 mod document_name;
 mod entry;
 mod folder;
-#[cfg(test)]
-mod folder_tests;
 mod memory;
 mod parts;
 mod prepare;

@@ -224,14 +224,3 @@ impl<S: Store> Vault<S> {
         store
     }
 }
-
-#[cfg(test)]
-mod documents;
-#[cfg(test)]
-mod faulty;
-#[cfg(test)]
-mod snapshot_documents;
-#[cfg(test)]
-mod snapshot_tests;
-#[cfg(test)]
-mod tests;

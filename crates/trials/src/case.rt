@@ -7,6 +7,14 @@ pub(crate) fn text<'a>(case: &'a Value, name: &str) -> &'a str {
     case.get(name).and_then(Value::as_str).unwrap_or("")
 }
 
+/// The text of a member, or where it has none, of the same member of another object.
+pub(crate) fn text_of_either<'a>(case: &'a Value, other: &'a Value, name: &str) -> &'a str {
+    match case.get(name).and_then(Value::as_str) {
+        Some(text) => text,
+        None => text(other, name),
+    }
+}
+
 /// Whether a member is `true`.
 pub(crate) fn flag(case: &Value, name: &str) -> bool {
     case.get(name).and_then(Value::as_bool).unwrap_or(false)
@@ -15,4 +23,12 @@ pub(crate) fn flag(case: &Value, name: &str) -> bool {
 /// The number of a member, if there is one.
 pub(crate) fn number(case: &Value, name: &str) -> Option<u64> {
     case.get(name).and_then(Value::as_u64)
+}
+
+/// The items of a member, none where there is no list.
+pub(crate) fn items<'a>(case: &'a Value, name: &str) -> &'a [Value] {
+    match case.get(name).and_then(Value::as_array) {
+        Some(items) => items.as_slice(),
+        None => &[],
+    }
 }

@@ -1,0 +1,105 @@
+//! Loads of whole repositories over memory.
+
+use crate::case::{flag, items, number, text, text_of_either};
+use crate::outcome::tell;
+use crate::shelf::Shelf;
+use bytes::Bytes;
+use serde_json::Value;
+use std::alloc::Global;
+use tough::schema::DemoVerify;
+use tough::{
+    Error, ExpirationEnforcement, FixedClock, Limits, MemoryTransport, Repository,
+    RepositoryLoader, Vault, drive,
+};
+use url::Url;
+
+// Adds the files of an object, below the base URL.
+fn serve(alloc: Global, object: &Value, transport: &mut MemoryTransport) -> anyhow::Result<()> {
+    if let Some(files) = object.get("files").and_then(Value::as_object) {
+        for (name, value) in files {
+            let url = format!(in alloc; "http://h/m/{name}")?;
+            let bytes = value.as_str().unwrap_or("").as_bytes();
+            transport.insert(url.as_str(), Bytes::copy_from_slice(alloc, bytes)?)?;
+        }
+    }
+    Ok(())
+}
+
+/// The default limits, but for those that the case states.
+pub(crate) fn limits(case: &Value) -> Limits {
+    let mut limits = Limits::default();
+    if let Some(updates) = number(case, "max_root_updates") {
+        limits.max_root_updates = updates;
+    }
+    if let Some(size) = number(case, "max_timestamp_size") {
+        limits.max_timestamp_size = size;
+    }
+    limits
+}
+
+/// Whether what has expired is refused.
+pub(crate) fn enforcement(case: &Value) -> ExpirationEnforcement {
+    if flag(case, "unsafe") {
+        ExpirationEnforcement::Unsafe
+    } else {
+        ExpirationEnforcement::Safe
+    }
+}
+
+// Loads the repository that is served, on the vault.
+fn run(
+    rt: &HostRuntime,
+    case: &Value,
+    load: &Value,
+    vault: &mut Vault<Shelf>,
+) -> anyhow::Result<Result<Repository, Error>> {
+    let alloc = rt.alloc();
+    let mut transport = MemoryTransport::in_pieces(alloc, 100);
+    serve(alloc, case, &mut transport)?;
+    serve(alloc, load, &mut transport)?;
+    let loader = RepositoryLoader::new(
+        alloc,
+        text_of_either(load, case, "root").as_bytes(),
+        Url::parse(alloc, text_of_either(load, case, "base"))?,
+        Url::parse(alloc, "http://h/t/")?,
+    )
+    .transport(transport)
+    .verifier(DemoVerify)
+    .clock(FixedClock(text_of_either(load, case, "now").parse()?))
+    .keeper(vault)
+    .limits(limits(load))
+    .expiration_enforcement(enforcement(load));
+    let mut load = loader.load()?;
+    Ok(drive(rt, &mut load)?)
+}
+
+// Adds to what is told what the store holds, and opens a vault on it anew.
+fn reopen(alloc: Global, vault: Vault<Shelf>, told: &mut String) -> anyhow::Result<Vault<Shelf>> {
+    let mut store = vault.into_store();
+    let held = store.tell(alloc)?;
+    told.push_str(format!(in alloc; "\n  store:{held}")?.as_str())?;
+    Ok(Vault::new(alloc, store))
+}
+
+/// Runs the loads of a case on one store, one after another, and tells of each what it came to and what the store then holds. Each has a
+/// vault of its own, as in a process of its own, but for those after which the case keeps the vault. A load says after how many calls its
+/// store fails, if it does.
+pub(crate) fn loads(rt: &HostRuntime, case: &Value) -> anyhow::Result<String> {
+    let alloc = rt.alloc();
+    let mut told = String::new(alloc);
+    let mut vault = Vault::new(alloc, Shelf::new(alloc, case)?);
+    let mut is_kept = false;
+    for load in items(case, "loads") {
+        if !is_kept {
+            vault = Vault::new(alloc, vault.into_store().restarted(load));
+        }
+        let outcome = run(rt, case, load, &mut vault)?;
+        let line = tell(alloc, &outcome)?;
+        told.push_str(format!(in alloc; "\n  {line}")?.as_str())?;
+        is_kept = flag(load, "keeps the vault");
+        if !is_kept {
+            vault = reopen(alloc, vault, &mut told)?;
+        }
+    }
+    Ok(told)
+}

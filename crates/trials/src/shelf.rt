@@ -1,0 +1,183 @@
+//! A store in memory that fails as a case asks.
+ghost use Rattle.tough_vault.specs.Stored.{HasCause};
+
+use crate::case::{number, text};
+use anyhow::{Result, anyhow};
+use serde_json::Value;
+use std::alloc::Global;
+use tough::{MemoryStore, Store, StoreError};
+
+// The files that are told, in this order.
+const NAMES: [&str; 5] = [
+    "latest_known_time.json",
+    "root.json",
+    "timestamp.json",
+    "snapshot.json",
+    "targets.json",
+];
+
+// The file that may be stuck.
+const STUCK: &str = "timestamp.json";
+
+/// What happens to the call on which the calls of a store end.
+#[derive(Clone, Copy, PartialEq, Eq, Drop)]
+pub(crate) enum Fault {
+    /// It fails, and the calls after it don't.
+    Fails,
+    /// It finds no memory, and the calls after it do.
+    LacksMemory,
+    /// It fails, and so do all after it, as where the process has ended.
+    Ends,
+}
+
+/// Files in memory. Where the timestamp is stuck, reading it gives the same bytes whatever was written.
+#[derive(Drop)]
+pub(crate) struct Shelf {
+    files: MemoryStore,
+    stuck: Option<Vec<u8>>,
+    fault: Fault,
+    left: u64,
+    failures: u64,
+}
+
+// What goes wrong, and after how many calls.
+fn fault(case: &Value) -> (Fault, u64) {
+    if let Some(left) = number(case, "ends after") {
+        return (Fault::Ends, left);
+    }
+    if let Some(left) = number(case, "lacks memory after") {
+        return (Fault::LacksMemory, left);
+    }
+    (Fault::Fails, number(case, "fails after").unwrap_or(u64::MAX))
+}
+
+// Files in memory with what the case's member `store` holds.
+fn stored(alloc: Global, case: &Value) -> Result<MemoryStore> {
+    let mut files = MemoryStore::new(alloc);
+    if let Some(given) = case.get("store").and_then(Value::as_object) {
+        for (name, value) in given {
+            let bytes = value.as_str().unwrap_or("").as_bytes();
+            if files.write(name.as_str(), bytes).is_err() {
+                return Err(anyhow!("no memory for {name}"));
+            }
+        }
+    }
+    Ok(files)
+}
+
+impl Shelf {
+    /// The store that a case begins with.
+    pub(crate) fn new(alloc: Global, case: &Value) -> Result<Shelf> {
+        let stuck = match text(case, "stuck") {
+            "" => None,
+            text => Some(text.as_bytes().to_vec(alloc)?),
+        };
+        let files = stored(alloc, case)?;
+        let (fault, left) = fault(case);
+        Ok(Shelf { files, stuck, fault, left, failures: 0 })
+    }
+
+    /// The store of the next process, whose calls fail as the case says.
+    pub(crate) fn restarted(self, case: &Value) -> Shelf {
+        let (fault, left) = fault(case);
+        Shelf { files: self.files, stuck: self.stuck, fault, left, failures: 0 }
+    }
+
+    /// What the store holds: the name of each file and the version of its document, or the moment that it notes.
+    pub(crate) fn tell(&mut self, alloc: Global) -> Result<String> {
+        let mut told = String::new(alloc);
+        for name in NAMES {
+            if let Ok(Some(bytes)) = self.files.read(alloc, name) {
+                let held = held(alloc, bytes.as_slice())?;
+                told.push_str(format!(in alloc; " {name} {held}")?.as_str())?;
+            }
+        }
+        Ok(told)
+    }
+
+    // The fault of this call, if it has one.
+    fn fail(&mut self) -> Result<(), StoreError>
+        ensures { HasCause self.old.failures self.new.failures result }
+    {
+        if self.left > 0 {
+            if self.left < u64::MAX {
+                self.left -= 1;
+            }
+            return Ok(());
+        }
+        if self.fault != Fault::Ends {
+            self.left = u64::MAX;
+        }
+        if self.fault == Fault::LacksMemory {
+            return Err(StoreError::Memory);
+        }
+        self.failures = self.failures.wrapping_add(1);
+        Err(StoreError::Failed)
+    }
+}
+
+/// The version of a document, or the moment that a file notes.
+pub(crate) fn held(alloc: Global, bytes: &[u8]) -> Result<String> {
+    let Ok(value) = Value::from_slice(alloc, bytes) else {
+        return Ok(String::from_str(alloc, "no JSON")?);
+    };
+    if let Some(moment) = value.as_str() {
+        return Ok(String::from_str(alloc, moment)?);
+    }
+    match value.pointer("/signed/version").and_then(Value::as_u64) {
+        Some(version) => Ok(format!(in alloc; "{version}")?),
+        None => Ok(String::from_str(alloc, "no version")?),
+    }
+}
+
+impl Store for Shelf {
+    ghost use Rattle.std.specs.Prelude.{false, None};
+
+    ghost tells = { false };
+
+    ghost files = { λ _ _. None };
+
+    ghost count = { λ s. s.failures };
+
+    fn read(&mut self, alloc: Global, name: &str) -> Result<Option<Vec<u8>>, StoreError> {
+        if let Err(error) = self.fail() {
+            return Err(error);
+        }
+        if let Some(bytes) = &self.stuck
+            && name == STUCK
+        {
+            return match bytes.to_vec(alloc) {
+                Ok(copy) => Ok(Some(copy)),
+                Err(_) => Err(StoreError::Memory),
+            };
+        }
+        match self.files.read(alloc, name) {
+            Ok(found) => Ok(found),
+            Err(_) => Err(StoreError::Memory),
+        }
+    }
+
+    fn write(&mut self, name: &str, bytes: &[u8]) -> Result<(), StoreError> {
+        if let Err(error) = self.fail() {
+            return Err(error);
+        }
+        match self.files.write(name, bytes) {
+            Ok(()) => Ok(()),
+            Err(_) => Err(StoreError::Memory),
+        }
+    }
+
+    fn remove(&mut self, name: &str) -> Result<(), StoreError> {
+        if let Err(error) = self.fail() {
+            return Err(error);
+        }
+        match self.files.remove(name) {
+            Ok(()) => Ok(()),
+            Err(_) => Err(StoreError::Memory),
+        }
+    }
+
+    fn failures(&self) -> u64 {
+        self.failures
+    }
+}

@@ -1,0 +1,101 @@
+//! Updates as a machine: what each asks, and what an answer makes of it.
+
+use crate::case::{items, text};
+use crate::load::{enforcement, limits};
+use crate::outcome::tell;
+use anyhow::Result;
+use jiff::Timestamp as Instant;
+use serde_json::Value;
+use std::alloc::{AllocError, Global};
+use tough::schema::DemoVerify;
+use tough::{Act, Answer, Ask, Core, Fault, Limits, StepError, TransportError, TransportErrorKind};
+
+// A step on the store.
+fn act(alloc: Global, act: &Act<'_>) -> Result<String, AllocError> {
+    match act {
+        Act::NoteTime(now) => format!(in alloc; "NoteTime {now}"),
+        Act::PutRoot(root) => format!(in alloc; "PutRoot {}", root.signed.version),
+        Act::ClearRotated => format!(in alloc; "ClearRotated"),
+        Act::AdvanceTimestamp { new, .. } => {
+            format!(in alloc; "AdvanceTimestamp {}", new.signed.version)
+        }
+        Act::AdvanceSnapshot { new, listed, .. } => {
+            format!(in alloc; "AdvanceSnapshot {} {listed}", new.signed.version)
+        }
+        Act::PutTargets(targets) => format!(in alloc; "PutTargets {}", targets.signed.version),
+    }
+}
+
+// What the update asks.
+fn asked(alloc: Global, core: &Core) -> Result<String, AllocError> {
+    match core.ask() {
+        Ask::Moment => format!(in alloc; "Moment"),
+        Ask::Fetch(request) => {
+            format!(in alloc;
+                "Fetch {} {} {}",
+                request.name, request.max_size, request.specifier
+            )
+        }
+        Ask::Step(step) => act(alloc, &step),
+        Ask::Ready => format!(in alloc; "Ready"),
+    }
+}
+
+// How the update ended, if it did.
+fn ended(alloc: Global, core: Core) -> Result<String, AllocError> {
+    match core.into_outcome() {
+        None => format!(in alloc; "not ended"),
+        Some(outcome) => tell(alloc, &outcome),
+    }
+}
+
+// A fetch that failed.
+fn fault(alloc: Global, kind: TransportErrorKind) -> Result<Fault> {
+    Ok(Fault::Transport(TransportError::new(alloc, kind, "http://h/a")?))
+}
+
+// An answer of the case: its kind, and its text.
+fn answer(alloc: Global, given: &Value) -> Result<Answer> {
+    let said = text(given, "text");
+    Ok(match text(given, "kind") {
+        "moment" => Answer::Moment(said.parse::<Instant>()?),
+        "bytes" => Answer::Bytes(Vec::from_slice(alloc, said.as_bytes())?),
+        "missing" => Answer::NotStarted(fault(alloc, TransportErrorKind::FileNotFound)?),
+        "cut" => Answer::Cut(fault(alloc, TransportErrorKind::Other)?),
+        "refused" => Answer::Step(Err(StepError::DatastoreOpen)),
+        _ => Answer::Step(Ok(())),
+    })
+}
+
+// Gives the update an answer, and tells whether its text fitted and what is asked then; where it is only to be seen whether a text fits,
+// nothing is answered.
+fn give(alloc: Global, core: &mut Core, given: &Value) -> Result<String> {
+    let kind = text(given, "kind");
+    let fits = core.fits(text(given, "text").as_bytes());
+    if kind == "fits" {
+        return Ok(format!(in alloc; "\n  fits {fits}")?);
+    }
+    core.answer(alloc, &DemoVerify, answer(alloc, given)?);
+    Ok(format!(in alloc; "\n  {kind}: {}", asked(alloc, core)?)?)
+}
+
+/// Plays an update: tells what it asks at first and after each answer of the case, and how it ended.
+pub(crate) fn play(alloc: Global, case: &Value) -> Result<String> {
+    let trusted = Vec::from_slice(alloc, text(case, "trusted").as_bytes())?;
+    let mut core = Core::new(trusted, limits(case), enforcement(case));
+    let mut told = asked(alloc, &core)?;
+    for given in items(case, "answers") {
+        told.push_str(give(alloc, &mut core, given)?.as_str())?;
+    }
+    told.push_str(format!(in alloc; "\n  {}", ended(alloc, core)?)?.as_str())?;
+    Ok(told)
+}
+
+/// The limits that a load has where none are set.
+pub(crate) fn limits_by_default(alloc: Global) -> Result<String, AllocError> {
+    let limits = Limits::default();
+    format!(in alloc;
+        "{} {} {} {} {}",
+        limits.max_root_size, limits.max_targets_size, limits.max_timestamp_size, limits.max_snapshot_size, limits.max_root_updates
+    )
+}

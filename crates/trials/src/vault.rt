@@ -1,0 +1,114 @@
+//! Steps on a vault.
+
+use crate::case::{flag, items, number, text};
+use crate::load::enforcement;
+use crate::shelf::{Shelf, held};
+use anyhow::anyhow;
+use serde_json::Value;
+use std::alloc::Global;
+use tough::schema::{DemoVerify, Root, Signed, Snapshot, Timestamp};
+use tough::{DocumentName, Receipt, StepError, Store, Vault};
+
+// What a step came to.
+fn came_to(alloc: Global, taken: Result<Receipt, StepError>) -> anyhow::Result<String> {
+    Ok(match taken {
+        Ok(receipt) => format!(in alloc; "{} {:?}", receipt.number(), receipt.entry())?,
+        Err(error) => format!(in alloc; "{error:?}")?,
+    })
+}
+
+// Puts a timestamp on the vault.
+fn advance_timestamp(
+    alloc: Global,
+    vault: &mut Vault<Shelf>,
+    root: &Root,
+    step: &Value,
+) -> anyhow::Result<String> {
+    let now = text(step, "now").parse()?;
+    let timestamp = Signed::<Timestamp>::read(alloc, text(step, "text").as_bytes())?;
+    came_to(alloc, vault.advance_timestamp(root, &timestamp, now, enforcement(step), &DemoVerify))
+}
+
+// Puts a snapshot on the vault.
+fn advance_snapshot(
+    alloc: Global,
+    vault: &mut Vault<Shelf>,
+    root: &Root,
+    step: &Value,
+) -> anyhow::Result<String> {
+    let now = text(step, "now").parse()?;
+    let listed = number(step, "listed").unwrap_or(0);
+    let snapshot = Signed::<Snapshot>::read(alloc, text(step, "text").as_bytes())?;
+    came_to(alloc, vault.advance_snapshot(root, listed, &snapshot, now, enforcement(step), &DemoVerify))
+}
+
+// Stores a timestamp in the place of the targets, or of a delegated document where the step names one.
+fn put_document(
+    alloc: Global,
+    vault: &mut Vault<Shelf>,
+    step: &Value,
+) -> anyhow::Result<String> {
+    let name = match text(step, "name") {
+        "" => Some(DocumentName::targets(alloc)?),
+        name => DocumentName::delegated(String::from_str(alloc, name)?),
+    };
+    let Some(name) = name else {
+        return Ok(String::from_str(alloc, "no name")?);
+    };
+    let timestamp = Signed::<Timestamp>::read(alloc, text(step, "text").as_bytes())?;
+    came_to(alloc, vault.put_document(&name, &timestamp))
+}
+
+// Takes a step on the vault, and tells what it came to.
+fn take(
+    alloc: Global,
+    vault: &mut Vault<Shelf>,
+    root: &Signed<Root>,
+    step: &Value,
+) -> anyhow::Result<String> {
+    match text(step, "step") {
+        "time" => {
+            let now = text(step, "now").parse()?;
+            came_to(alloc, vault.note_time(now))
+        }
+        "root" => came_to(alloc, vault.put_root(root)),
+        "timestamp" => advance_timestamp(alloc, vault, &root.signed, step),
+        "snapshot" => advance_snapshot(alloc, vault, &root.signed, step),
+        "document" => put_document(alloc, vault, step),
+        "clear" => came_to(alloc, vault.clear_rotated()),
+        "journal" => Ok(format!(in alloc; "{:?}", vault.journal())?),
+        "tip" => Ok(format!(in alloc; "{:?}", vault.tip())?),
+        other => Err(anyhow!("no step {other}")),
+    }
+}
+
+// What the store holds in the files that the case names.
+fn read_back(alloc: Global, store: &mut Shelf, case: &Value) -> anyhow::Result<String> {
+    let mut told = String::new(alloc);
+    for name in items(case, "read") {
+        let name = name.as_str().unwrap_or("");
+        let held = match store.read(alloc, name) {
+            Ok(Some(bytes)) => held(alloc, bytes.as_slice())?,
+            _ => String::from_str(alloc, "nothing")?,
+        };
+        told.push_str(format!(in alloc; "\n  {name}: {held}")?.as_str())?;
+    }
+    Ok(told)
+}
+
+/// Takes the steps of a case on a vault over memory, and tells what each came to, and then what the files hold that the case names.
+pub(crate) fn steps(alloc: Global, case: &Value) -> anyhow::Result<String> {
+    let root = Signed::<Root>::read(alloc, text(case, "root").as_bytes())?;
+    let mut told = String::new(alloc);
+    let mut vault = Vault::new(alloc, Shelf::new(alloc, case)?);
+    for step in items(case, "steps") {
+        if flag(step, "reopened") {
+            vault = Vault::new(alloc, vault.into_store());
+        }
+        let line = take(alloc, &mut vault, &root, step)?;
+        told.push_str(format!(in alloc; "\n  {line}")?.as_str())?;
+    }
+    let mut store = vault.into_store();
+    told.push_str(read_back(alloc, &mut store, case)?.as_str())?;
+    Ok(told)
+}
