@@ -11,7 +11,10 @@ mod judge;
 mod load;
 mod names;
 mod outcome;
+mod program;
+mod retries;
 mod shelf;
+mod streams;
 mod update;
 mod vault;
 
@@ -40,6 +43,13 @@ fn answer(rt: &HostRuntime, case: &Value) -> Result<String> {
         "vault" => vault::steps(alloc, case),
         "DirStore" => folder::play(rt, case),
         "SystemClock::now" => folder::clock(rt, case),
+        "tough" => program::play(rt, case),
+        "RetryCore" => Ok(retries::play(alloc, case)?),
+        "MemoryTransport" | "fetch_max_size" | "fetch_sha256" | "fetch_whole" => {
+            streams::fetch(rt, case)
+        }
+        "TransportError" => streams::made(alloc, case),
+        "FilesystemTransport" => streams::fetch_file(rt, case),
         "Limits::default" => Ok(update::limits_by_default(alloc)?),
         _ => of_values(alloc, case),
     }

@@ -48,7 +48,10 @@ fn fault(case: &Value) -> (Fault, u64) {
     if let Some(left) = number(case, "lacks memory after") {
         return (Fault::LacksMemory, left);
     }
-    (Fault::Fails, number(case, "fails after").unwrap_or(u64::MAX))
+    (
+        Fault::Fails,
+        number(case, "fails after").unwrap_or(u64::MAX),
+    )
 }
 
 // Files in memory with what the case's member `store` holds.
@@ -74,13 +77,25 @@ impl Shelf {
         };
         let files = stored(alloc, case)?;
         let (fault, left) = fault(case);
-        Ok(Shelf { files, stuck, fault, left, failures: 0 })
+        Ok(Shelf {
+            files,
+            stuck,
+            fault,
+            left,
+            failures: 0,
+        })
     }
 
     /// The store of the next process, whose calls fail as the case says.
     pub(crate) fn restarted(self, case: &Value) -> Shelf {
         let (fault, left) = fault(case);
-        Shelf { files: self.files, stuck: self.stuck, fault, left, failures: 0 }
+        Shelf {
+            files: self.files,
+            stuck: self.stuck,
+            fault,
+            left,
+            failures: 0,
+        }
     }
 
     /// What the store holds: the name of each file and the version of its document, or the moment that it notes.

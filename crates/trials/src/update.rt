@@ -96,6 +96,10 @@ pub(crate) fn limits_by_default(alloc: Global) -> Result<String, AllocError> {
     let limits = Limits::default();
     format!(in alloc;
         "{} {} {} {} {}",
-        limits.max_root_size, limits.max_targets_size, limits.max_timestamp_size, limits.max_snapshot_size, limits.max_root_updates
+        limits.max_root_size,
+        limits.max_targets_size,
+        limits.max_timestamp_size,
+        limits.max_snapshot_size,
+        limits.max_root_updates
     )
 }

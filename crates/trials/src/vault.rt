@@ -26,7 +26,10 @@ fn advance_timestamp(
 ) -> anyhow::Result<String> {
     let now = text(step, "now").parse()?;
     let timestamp = Signed::<Timestamp>::read(alloc, text(step, "text").as_bytes())?;
-    came_to(alloc, vault.advance_timestamp(root, &timestamp, now, enforcement(step), &DemoVerify))
+    came_to(
+        alloc,
+        vault.advance_timestamp(root, &timestamp, now, enforcement(step), &DemoVerify),
+    )
 }
 
 // Puts a snapshot on the vault.
@@ -39,15 +42,14 @@ fn advance_snapshot(
     let now = text(step, "now").parse()?;
     let listed = number(step, "listed").unwrap_or(0);
     let snapshot = Signed::<Snapshot>::read(alloc, text(step, "text").as_bytes())?;
-    came_to(alloc, vault.advance_snapshot(root, listed, &snapshot, now, enforcement(step), &DemoVerify))
+    came_to(
+        alloc,
+        vault.advance_snapshot(root, listed, &snapshot, now, enforcement(step), &DemoVerify),
+    )
 }
 
 // Stores a timestamp in the place of the targets, or of a delegated document where the step names one.
-fn put_document(
-    alloc: Global,
-    vault: &mut Vault<Shelf>,
-    step: &Value,
-) -> anyhow::Result<String> {
+fn put_document(alloc: Global, vault: &mut Vault<Shelf>, step: &Value) -> anyhow::Result<String> {
     let name = match text(step, "name") {
         "" => Some(DocumentName::targets(alloc)?),
         name => DocumentName::delegated(String::from_str(alloc, name)?),

@@ -1,0 +1,90 @@
+//! Runs of the program over files in a folder of its own, which the case calls `DIR`.
+
+use crate::case::{items, number, text};
+use crate::shelf::held;
+use anyhow::Result;
+use serde_json::Value;
+use std::{env, fs, process};
+
+// Writes a file: the text of the step, or as many blanks as it says.
+fn put(rt: &HostRuntime, at: &str, step: &Value) -> Result<()> {
+    let blanks = number(step, "blanks")
+        .and_then(|n| usize::try_from(n).ok())
+        .unwrap_or(0);
+    let mut bytes = Vec::from_elem(rt.alloc(), b' ', blanks)?;
+    bytes.extend_from_slice(text(step, "text").as_bytes())?;
+    fs::write(rt, at, bytes.as_slice())?;
+    Ok(())
+}
+
+// Runs the program on the words of the step, and tells its status and what it wrote on its output and beside it.
+fn run(rt: &HostRuntime, folder: &str, step: &Value) -> Result<String> {
+    let alloc = rt.alloc();
+    let (mut words, mut out, mut err) = (Vec::new(alloc), Vec::new(alloc), Vec::new(alloc));
+    for word in items(step, "words") {
+        words.push(word.as_str().unwrap_or("").replace(alloc, "DIR", folder)?)?;
+    }
+    let status = tough::run(rt, words.as_slice(), &mut out, &mut err);
+    let out = String::from_utf8(out)?;
+    let err = String::from_utf8(err)?.replace(alloc, folder, "DIR")?;
+    Ok(format!(in alloc; "{status}\n{out}{err}")?)
+}
+
+// The names in a folder, in order, each with a blank before it.
+fn names(rt: &HostRuntime, at: &str) -> Result<String> {
+    let alloc = rt.alloc();
+    let mut names = Vec::new(alloc);
+    for entry in fs::read_dir(rt, at)? {
+        names.push(format!(in alloc; " {}", entry?.file_name())?)?;
+    }
+    names.sort()?;
+    Ok(names.concat(alloc)?)
+}
+
+// Takes a step below the folder, and tells what it came to.
+fn take(rt: &HostRuntime, folder: &str, step: &Value) -> Result<String> {
+    let alloc = rt.alloc();
+    let at = format!(in alloc; "{folder}/{}", text(step, "path"))?;
+    match text(step, "step") {
+        "run" => run(rt, folder, step),
+        "names" => names(rt, at.as_str()),
+        "held" => held(alloc, fs::read(rt, at.as_str())?.as_slice()),
+        "make folder" => {
+            fs::create_dir_all(rt, at.as_str())?;
+            Ok(String::from_str(alloc, "made")?)
+        }
+        _ => {
+            put(rt, at.as_str(), step)?;
+            Ok(String::from_str(alloc, "put")?)
+        }
+    }
+}
+
+// Makes the folder, with folders for metadata, targets and a store, and the case's files.
+fn prepare(rt: &HostRuntime, folder: &str, case: &Value) -> Result<()> {
+    for below in ["metadata", "targets", "store"] {
+        fs::create_dir_all(rt, format!(in rt.alloc(); "{folder}/{below}")?.as_str())?;
+    }
+    if let Some(files) = case.get("files").and_then(Value::as_object) {
+        for (name, value) in files {
+            let at = format!(in rt.alloc(); "{folder}/{name}")?;
+            fs::write(rt, at.as_str(), value.as_str().unwrap_or("").as_bytes())?;
+        }
+    }
+    Ok(())
+}
+
+/// Takes the steps of a case in a new folder with the case's files, and tells what each came to.
+pub(crate) fn play(rt: &HostRuntime, case: &Value) -> Result<String> {
+    let alloc = rt.alloc();
+    let number = process::id(rt.process());
+    let folder = format!(in alloc; "{}/tough_trials_{number}", env::temp_dir(rt)?.display())?;
+    let mut told = String::new(alloc);
+    prepare(rt, folder.as_str(), case)?;
+    for step in items(case, "steps") {
+        let line = take(rt, folder.as_str(), step)?;
+        told.push_str(format!(in alloc; "\n  {line}")?.as_str())?;
+    }
+    fs::remove_dir_all(rt, folder.as_str())?;
+    Ok(told)
+}

@@ -1,0 +1,172 @@
+//! Bytes that come in: over memory and from files, bounded and checked.
+
+use crate::case::{number, text};
+use anyhow::{Result, anyhow};
+use bytes::Bytes;
+use futures::{FutureExt, Stream, StreamExt};
+use serde_json::Value;
+use std::alloc::{AllocError, Global};
+use std::{env, fs, process, str};
+use tough::{
+    Cause, FilesystemTransport, HttpError, IntoVec, MemoryTransport, Transport, TransportError,
+    TransportErrorKind, fetch_max_size, fetch_sha256, fetch_whole,
+};
+use url::Url;
+
+// Files in memory: those of the case, in pieces of as many bytes as it says.
+fn memory(alloc: Global, case: &Value) -> Result<MemoryTransport> {
+    let pieces = number(case, "piece")
+        .and_then(|n| usize::try_from(n).ok())
+        .unwrap_or(100);
+    let mut transport = MemoryTransport::in_pieces(alloc, pieces);
+    if let Some(files) = case.get("files").and_then(Value::as_object) {
+        for (url, value) in files {
+            let bytes = value.as_str().unwrap_or("").as_bytes();
+            transport.insert(url.as_str(), Bytes::copy_from_slice(alloc, bytes)?)?;
+        }
+    }
+    Ok(transport)
+}
+
+// The digest that the case states.
+fn digest(case: &Value) -> [u8; 32] {
+    let mut bytes = [0u8; 32];
+    let _ = hex::decode_to_slice(text(case, "sha256"), &mut bytes);
+    bytes
+}
+
+// A fault, with its kind and its place.
+fn fault(alloc: Global, error: &TransportError) -> Result<String> {
+    Ok(format!(in alloc; "{:?} {} {error}", error.kind(), error.url())?)
+}
+
+/// A fault as a transport makes it: with a cause of HTTP, for want of memory, or with no cause.
+pub(crate) fn made(alloc: Global, case: &Value) -> Result<String> {
+    let (kind, url) = (TransportErrorKind::FileNotFound, text(case, "url"));
+    let error = match text(case, "cause") {
+        "http" => {
+            let cause = Cause::Http(HttpError::FetchFileNotFound);
+            TransportError::new_with_cause(alloc, kind, url, cause)?
+        }
+        "memory" => TransportError::from(AllocError),
+        _ => TransportError::new(alloc, kind, url)?,
+    };
+    Ok(format!(in alloc; "{} {}", fault(alloc, &error)?, error.cause().is_some())?)
+}
+
+// The first items of a stream, each with a stroke behind it.
+fn shown<S>(rt: &HostRuntime, stream: S, most: usize) -> Result<String>
+where
+    S: Stream<Item = Result<Bytes, TransportError>>,
+    requires { S.can_poll stream }
+{
+    let alloc = rt.alloc();
+    let collected = stream.take(most).collect(alloc).now_or_never(rt)?;
+    let items = collected.ok_or_else(|| anyhow!("the stream waits"))??;
+    let mut told = String::new(alloc);
+    for item in &items {
+        match item {
+            Ok(bytes) => told.push_str(str::from_utf8(bytes.as_slice())?)?,
+            Err(error) => told.push_str(fault(alloc, error)?.as_str())?,
+        }
+        told.push('|')?;
+    }
+    Ok(told)
+}
+
+// All bytes of a file, or why they didn't come.
+fn whole(alloc: Global, outcome: Option<Result<Vec<u8>, TransportError>>) -> Result<String> {
+    match outcome {
+        Some(Ok(bytes)) => Ok(String::from_utf8(bytes)?),
+        Some(Err(error)) => fault(alloc, &error),
+        None => Err(anyhow!("the stream waits")),
+    }
+}
+
+// The digest that the case states, if it states one.
+fn stated(alloc: Global, case: &Value) -> Result<Option<Vec<u8>>> {
+    if text(case, "sha256").is_empty() {
+        return Ok(None);
+    }
+    Ok(Some(Vec::from_slice(alloc, digest(case).as_slice())?))
+}
+
+// The greatest number of bytes that the case allows.
+fn limit(case: &Value) -> u64 {
+    number(case, "limit").unwrap_or(u64::MAX)
+}
+
+// The first items of a bounded stream.
+fn bounded(rt: &HostRuntime, transport: &MemoryTransport, case: &Value) -> Result<String> {
+    let alloc = rt.alloc();
+    let url = Url::parse(alloc, text(case, "url"))?;
+    match fetch_max_size(alloc, transport, &url, limit(case), "a limit") {
+        Ok(stream) => shown(rt, stream, 9),
+        Err(error) => fault(alloc, &error),
+    }
+}
+
+// The first items of a stream whose digest is checked.
+fn checked(rt: &HostRuntime, transport: &MemoryTransport, case: &Value) -> Result<String> {
+    let alloc = rt.alloc();
+    let url = Url::parse(alloc, text(case, "url"))?;
+    match fetch_sha256(alloc, transport, &url, limit(case), "a limit", digest(case)) {
+        Ok(stream) => shown(rt, stream, 5),
+        Err(error) => fault(alloc, &error),
+    }
+}
+
+// All bytes, if they fit.
+fn collected(rt: &HostRuntime, transport: &MemoryTransport, case: &Value) -> Result<String> {
+    let alloc = rt.alloc();
+    let url = Url::parse(alloc, text(case, "url"))?;
+    let sha256 = stated(alloc, case)?;
+    match fetch_whole(alloc, transport, &url, limit(case), "a limit", sha256) {
+        Ok(future) => whole(alloc, future.now_or_never(rt)?),
+        Err(error) => fault(alloc, &error),
+    }
+}
+
+// All bytes of a file of the transport.
+fn fetched<T: Transport>(rt: &HostRuntime, transport: &T, url: &str) -> Result<String> {
+    let alloc = rt.alloc();
+    let url = Url::parse(alloc, url)?;
+    match transport.fetch(&url) {
+        Ok(stream) => whole(alloc, stream.into_vec(alloc).now_or_never(rt)?),
+        Err(error) => fault(alloc, &error),
+    }
+}
+
+/// What a fetch over memory gives.
+pub(crate) fn fetch(rt: &HostRuntime, case: &Value) -> Result<String> {
+    let transport = memory(rt.alloc(), case)?;
+    match text(case, "call") {
+        "fetch_max_size" => bounded(rt, &transport, case),
+        "fetch_sha256" => checked(rt, &transport, case),
+        "fetch_whole" => collected(rt, &transport, case),
+        _ => fetched(rt, &transport, text(case, "url")),
+    }
+}
+
+/// What a fetch from a new folder, which the case calls `DIR`, gives: it holds a file `a b` and one of 20,000 letters, of which the number is told.
+pub(crate) fn fetch_file(rt: &HostRuntime, case: &Value) -> Result<String> {
+    let alloc = rt.alloc();
+    let number = process::id(rt.process());
+    let folder = format!(in alloc; "{}/tough_trials_{number}", env::temp_dir(rt)?.display())?;
+    let url = text(case, "url").replace(alloc, "DIR", folder.as_str())?;
+    let long = Vec::from_elem(alloc, b'x', 20_000)?;
+    fs::create_dir(rt, folder.as_str())?;
+    fs::write(rt, format!(in alloc; "{folder}/a b")?.as_str(), b"x")?;
+    fs::write(
+        rt,
+        format!(in alloc; "{folder}/long")?.as_str(),
+        long.as_slice(),
+    )?;
+    let transport = FilesystemTransport::new(rt.clone()?);
+    let told = fetched(rt, &transport, url.as_str())?;
+    fs::remove_dir_all(rt, folder.as_str())?;
+    if told.len() == long.len() {
+        return Ok(format!(in alloc; "{} bytes", told.len())?);
+    }
+    Ok(told.replace(alloc, folder.as_str(), "DIR")?)
+}
