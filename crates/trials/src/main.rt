@@ -6,20 +6,41 @@
 #![tactic(auto)]
 
 mod case;
+mod compare;
+mod decoded;
+mod files;
+mod json;
 mod judge;
+mod keys;
 mod names;
+mod patterns;
 
 use crate::case::text;
 use crate::judge::misses;
 use anyhow::{Result, anyhow};
 use serde_json::Value;
-use std::alloc::Global;
 use std::{env, fs};
 
 // What the call of a case answers.
-fn answer(alloc: Global, case: &Value) -> Result<String> {
+fn answer(rt: &HostRuntime, case: &Value) -> Result<String> {
+    let alloc = rt.alloc();
     let call = text(case, "call");
     if let Some(told) = names::answer(alloc, call, case)? {
+        return Ok(told);
+    }
+    if let Some(told) = patterns::answer(alloc, call, case)? {
+        return Ok(told);
+    }
+    if let Some(told) = decoded::answer(alloc, call, case)? {
+        return Ok(told);
+    }
+    if let Some(told) = json::answer(alloc, call, case)? {
+        return Ok(told);
+    }
+    if let Some(told) = keys::answer(alloc, call, case)? {
+        return Ok(told);
+    }
+    if let Some(told) = files::answer(rt, call, case)? {
         return Ok(told);
     }
     Err(anyhow!("no call {call}"))
@@ -27,7 +48,7 @@ fn answer(alloc: Global, case: &Value) -> Result<String> {
 
 // Answers a case, and tells whether that is what is wanted.
 fn is_answered(rt: &HostRuntime, case: &Value) -> Result<bool> {
-    let told = answer(rt.alloc(), case)?;
+    let told = answer(rt, case)?;
     println!(rt; "{} {}: {told}", text(case, "call"), text(case, "name"))?;
     match misses(case, told.as_str()) {
         Some(wanted) => {
