@@ -12,16 +12,17 @@ use tough_base::{Files, FilesError, MemoryFiles, OsFiles};
 // The base folder on the system, below the folder that the program runs in.
 const FOLDER: &str = "steps";
 
-// The path of a step: below the base, or that of the temporary file of a number.
+// The path of a step: below the base, or that of a temporary file that was made.
 fn path_of(alloc: Global, base: &str, temporary: &[String], step: &Value) -> Result<String> {
-    let made = match number(step, "temp") {
-        Some(0) => temporary.first(),
-        Some(_) => temporary.last(),
-        None => None,
+    let path = text(step, "path");
+    let made = match path {
+        "first temporary" => temporary.first(),
+        "last temporary" => temporary.last(),
+        _ => None,
     };
     match made {
         Some(path) => Ok(path.clone()?),
-        None => Ok(format!(in alloc; "{base}{}", text(step, "path"))?),
+        None => Ok(format!(in alloc; "{base}{path}")?),
     }
 }
 
@@ -136,9 +137,10 @@ fn play_step<F: Files>(
 // A line for a step, which tells also what was wanted where that isn't what was answered.
 fn line(alloc: Global, step: &Value, told: &str, missed: Option<&str>) -> Result<String> {
     let (op, path, to) = (text(step, "op"), text(step, "path"), text(step, "to"));
+    let space = if to.is_empty() { "" } else { " " };
     Ok(match missed {
-        Some(wanted) => format!(in alloc; "\n  {op} {path} {to}: {told} WANTED {wanted}")?,
-        None => format!(in alloc; "\n  {op} {path} {to}: {told}")?,
+        Some(wanted) => format!(in alloc; "\n  {op} {path}{space}{to}: {told} WANTED {wanted}")?,
+        None => format!(in alloc; "\n  {op} {path}{space}{to}: {told}")?,
     })
 }
 
