@@ -16,3 +16,11 @@ pub(crate) fn flag(case: &Value, name: &str) -> bool {
 pub(crate) fn number(case: &Value, name: &str) -> Option<u64> {
     case.get(name).and_then(Value::as_u64)
 }
+
+/// The members of an array, none where there is no array.
+pub(crate) fn list<'a>(case: &'a Value, name: &str) -> &'a [Value] {
+    match case.get(name).and_then(Value::as_array) {
+        Some(members) => members.as_slice(),
+        None => &[],
+    }
+}

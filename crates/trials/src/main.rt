@@ -6,8 +6,12 @@
 #![tactic(auto)]
 
 mod case;
+mod documents;
+mod growth;
 mod judge;
+mod made;
 mod names;
+mod trees;
 
 use crate::case::text;
 use crate::judge::misses;
@@ -20,6 +24,18 @@ use std::{env, fs};
 fn answer(alloc: Global, case: &Value) -> Result<String> {
     let call = text(case, "call");
     if let Some(told) = names::answer(alloc, call, case)? {
+        return Ok(told);
+    }
+    if let Some(told) = documents::answer(alloc, call, case)? {
+        return Ok(told);
+    }
+    if let Some(told) = trees::answer(alloc, call, case)? {
+        return Ok(told);
+    }
+    if let Some(told) = growth::answer(alloc, call, case)? {
+        return Ok(told);
+    }
+    if let Some(told) = made::answer(alloc, call, case)? {
         return Ok(told);
     }
     Err(anyhow!("no call {call}"))
