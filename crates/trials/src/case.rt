@@ -26,7 +26,7 @@ pub(crate) fn number(case: &Value, name: &str) -> Option<u64> {
 }
 
 /// The items of a member, none where there is no list.
-pub(crate) fn items<'a>(case: &'a Value, name: &str) -> &'a [Value] {
+pub(crate) fn list<'a>(case: &'a Value, name: &str) -> &'a [Value] {
     match case.get(name).and_then(Value::as_array) {
         Some(items) => items.as_slice(),
         None => &[],

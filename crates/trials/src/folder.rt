@@ -1,6 +1,6 @@
 //! A store over a folder, and the clock of the system.
 
-use crate::case::{items, text};
+use crate::case::{list, text};
 use anyhow::{Result, anyhow};
 use jiff::Timestamp;
 use serde_json::Value;
@@ -83,7 +83,7 @@ pub(crate) fn play(rt: &HostRuntime, case: &Value) -> Result<String> {
     let mut told = String::new(alloc);
     fs::create_dir(rt, new.as_str())?;
     let mut store = DirStore::new(rt.clone()?, folder.clone()?);
-    for step in items(case, "steps") {
+    for step in list(case, "steps") {
         let line = take(rt, folder.as_str(), &mut store, step)?;
         told.push_str(format!(in alloc; "\n  {line}")?.as_str())?;
     }

@@ -1,6 +1,6 @@
 //! Loads of whole repositories over memory.
 
-use crate::case::{flag, items, number, text, text_of_either};
+use crate::case::{flag, list, number, text, text_of_either};
 use crate::outcome::tell;
 use crate::shelf::Shelf;
 use bytes::Bytes;
@@ -89,7 +89,7 @@ pub(crate) fn loads(rt: &HostRuntime, case: &Value) -> anyhow::Result<String> {
     let mut told = String::new(alloc);
     let mut vault = Vault::new(alloc, Shelf::new(alloc, case)?);
     let mut is_kept = false;
-    for load in items(case, "loads") {
+    for load in list(case, "loads") {
         if !is_kept {
             vault = Vault::new(alloc, vault.into_store().restarted(load));
         }

@@ -6,15 +6,25 @@
 #![tactic(auto)]
 
 mod case;
+mod compare;
+mod decoded;
+mod documents;
+mod files;
 mod folder;
+mod growth;
+mod json;
 mod judge;
+mod keys;
 mod load;
+mod made;
 mod names;
 mod outcome;
+mod patterns;
 mod program;
 mod retries;
 mod shelf;
 mod streams;
+mod trees;
 mod update;
 mod vault;
 
@@ -25,34 +35,68 @@ use serde_json::Value;
 use std::alloc::Global;
 use std::{env, fs};
 
-// What a call on names and documents answers.
-fn of_values(alloc: Global, case: &Value) -> Result<String> {
-    let call = text(case, "call");
+// What a call on names, decoded values, JSON or keys answers.
+fn of_values(alloc: Global, call: &str, case: &Value) -> Result<Option<String>> {
     if let Some(told) = names::answer(alloc, call, case)? {
-        return Ok(told);
+        return Ok(Some(told));
     }
-    Err(anyhow!("no call {call}"))
+    if let Some(told) = patterns::answer(alloc, call, case)? {
+        return Ok(Some(told));
+    }
+    if let Some(told) = decoded::answer(alloc, call, case)? {
+        return Ok(Some(told));
+    }
+    if let Some(told) = json::answer(alloc, call, case)? {
+        return Ok(Some(told));
+    }
+    keys::answer(alloc, call, case)
+}
+
+// What a call on documents or trees of targets answers.
+fn of_documents(alloc: Global, call: &str, case: &Value) -> Result<Option<String>> {
+    if let Some(told) = documents::answer(alloc, call, case)? {
+        return Ok(Some(told));
+    }
+    if let Some(told) = trees::answer(alloc, call, case)? {
+        return Ok(Some(told));
+    }
+    if let Some(told) = growth::answer(alloc, call, case)? {
+        return Ok(Some(told));
+    }
+    made::answer(alloc, call, case)
+}
+
+// What a call on streams, stores, updates or files answers.
+fn of_devices(rt: &HostRuntime, call: &str, case: &Value) -> Result<Option<String>> {
+    let alloc = rt.alloc();
+    Ok(Some(match call {
+        "load" => load::loads(rt, case)?,
+        "update" => update::play(alloc, case)?,
+        "vault" => vault::steps(alloc, case)?,
+        "DirStore" => folder::play(rt, case)?,
+        "SystemClock::now" => folder::clock(rt, case)?,
+        "tough" => program::play(rt, case)?,
+        "RetryCore" => retries::play(alloc, case)?,
+        "TransportError" => streams::made(alloc, case)?,
+        "FilesystemTransport" => streams::fetch_file(rt, case)?,
+        "Limits::default" => update::limits_by_default(alloc)?,
+        "MemoryTransport" | "fetch_max_size" | "fetch_sha256" | "fetch_whole" => {
+            streams::fetch(rt, case)?
+        }
+        _ => return files::answer(rt, call, case),
+    }))
 }
 
 // What the call of a case answers.
 fn answer(rt: &HostRuntime, case: &Value) -> Result<String> {
-    let alloc = rt.alloc();
-    match text(case, "call") {
-        "load" => load::loads(rt, case),
-        "update" => update::play(alloc, case),
-        "vault" => vault::steps(alloc, case),
-        "DirStore" => folder::play(rt, case),
-        "SystemClock::now" => folder::clock(rt, case),
-        "tough" => program::play(rt, case),
-        "RetryCore" => Ok(retries::play(alloc, case)?),
-        "MemoryTransport" | "fetch_max_size" | "fetch_sha256" | "fetch_whole" => {
-            streams::fetch(rt, case)
-        }
-        "TransportError" => streams::made(alloc, case),
-        "FilesystemTransport" => streams::fetch_file(rt, case),
-        "Limits::default" => Ok(update::limits_by_default(alloc)?),
-        _ => of_values(alloc, case),
+    let (alloc, call) = (rt.alloc(), text(case, "call"));
+    if let Some(told) = of_values(alloc, call, case)? {
+        return Ok(told);
     }
+    if let Some(told) = of_documents(alloc, call, case)? {
+        return Ok(told);
+    }
+    of_devices(rt, call, case)?.ok_or_else(|| anyhow!("no call {call}"))
 }
 
 // Answers a case, and tells whether that is what is wanted.

@@ -1,6 +1,6 @@
 //! Runs of the program over files in a folder of its own, which the case calls `DIR`.
 
-use crate::case::{items, number, text};
+use crate::case::{list, number, text};
 use crate::shelf::held;
 use anyhow::Result;
 use serde_json::Value;
@@ -21,7 +21,7 @@ fn put(rt: &HostRuntime, at: &str, step: &Value) -> Result<()> {
 fn run(rt: &HostRuntime, folder: &str, step: &Value) -> Result<String> {
     let alloc = rt.alloc();
     let (mut words, mut out, mut err) = (Vec::new(alloc), Vec::new(alloc), Vec::new(alloc));
-    for word in items(step, "words") {
+    for word in list(step, "words") {
         words.push(word.as_str().unwrap_or("").replace(alloc, "DIR", folder)?)?;
     }
     let status = tough::run(rt, words.as_slice(), &mut out, &mut err);
@@ -81,7 +81,7 @@ pub(crate) fn play(rt: &HostRuntime, case: &Value) -> Result<String> {
     let folder = format!(in alloc; "{}/tough_trials_{number}", env::temp_dir(rt)?.display())?;
     let mut told = String::new(alloc);
     prepare(rt, folder.as_str(), case)?;
-    for step in items(case, "steps") {
+    for step in list(case, "steps") {
         let line = take(rt, folder.as_str(), step)?;
         told.push_str(format!(in alloc; "\n  {line}")?.as_str())?;
     }

@@ -1,6 +1,6 @@
 //! When a request is made again, and after which pause.
 
-use crate::case::{flag, items, number, text};
+use crate::case::{flag, list, number, text};
 use serde_json::Value;
 use std::alloc::{AllocError, Global};
 use std::time::Duration;
@@ -42,7 +42,7 @@ fn event(step: &Value) -> RetryEvent {
 pub(crate) fn play(alloc: Global, case: &Value) -> Result<String, AllocError> {
     let mut core = RetryCore::new(settings(case));
     let mut told = String::new(alloc);
-    for step in items(case, "events") {
+    for step in list(case, "events") {
         let pause = core.pause().as_micros();
         let action = core.next(event(step));
         let line = format!(in alloc;

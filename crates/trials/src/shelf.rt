@@ -41,7 +41,7 @@ pub(crate) struct Shelf {
 }
 
 // What goes wrong, and after how many calls.
-fn fault(case: &Value) -> (Fault, u64) {
+fn fault_of(case: &Value) -> (Fault, u64) {
     if let Some(left) = number(case, "ends after") {
         return (Fault::Ends, left);
     }
@@ -76,7 +76,7 @@ impl Shelf {
             text => Some(text.as_bytes().to_vec(alloc)?),
         };
         let files = stored(alloc, case)?;
-        let (fault, left) = fault(case);
+        let (fault, left) = fault_of(case);
         Ok(Shelf {
             files,
             stuck,
@@ -88,7 +88,7 @@ impl Shelf {
 
     /// The store of the next process, whose calls fail as the case says.
     pub(crate) fn restarted(self, case: &Value) -> Shelf {
-        let (fault, left) = fault(case);
+        let (fault, left) = fault_of(case);
         Shelf {
             files: self.files,
             stuck: self.stuck,

@@ -1,6 +1,6 @@
 //! Updates as a machine: what each asks, and what an answer makes of it.
 
-use crate::case::{items, text};
+use crate::case::{list, text};
 use crate::load::{enforcement, limits};
 use crate::outcome::tell;
 use anyhow::Result;
@@ -84,7 +84,7 @@ pub(crate) fn play(alloc: Global, case: &Value) -> Result<String> {
     let trusted = Vec::from_slice(alloc, text(case, "trusted").as_bytes())?;
     let mut core = Core::new(trusted, limits(case), enforcement(case));
     let mut told = asked(alloc, &core)?;
-    for given in items(case, "answers") {
+    for given in list(case, "answers") {
         told.push_str(give(alloc, &mut core, given)?.as_str())?;
     }
     told.push_str(format!(in alloc; "\n  {}", ended(alloc, core)?)?.as_str())?;

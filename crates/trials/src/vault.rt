@@ -1,6 +1,6 @@
 //! Steps on a vault.
 
-use crate::case::{flag, items, number, text};
+use crate::case::{flag, list, number, text};
 use crate::load::enforcement;
 use crate::shelf::{Shelf, held};
 use anyhow::anyhow;
@@ -87,7 +87,7 @@ fn take(
 // What the store holds in the files that the case names.
 fn read_back(alloc: Global, store: &mut Shelf, case: &Value) -> anyhow::Result<String> {
     let mut told = String::new(alloc);
-    for name in items(case, "read") {
+    for name in list(case, "read") {
         let name = name.as_str().unwrap_or("");
         let held = match store.read(alloc, name) {
             Ok(Some(bytes)) => held(alloc, bytes.as_slice())?,
@@ -103,7 +103,7 @@ pub(crate) fn steps(alloc: Global, case: &Value) -> anyhow::Result<String> {
     let root = Signed::<Root>::read(alloc, text(case, "root").as_bytes())?;
     let mut told = String::new(alloc);
     let mut vault = Vault::new(alloc, Shelf::new(alloc, case)?);
-    for step in items(case, "steps") {
+    for step in list(case, "steps") {
         if flag(step, "reopened") {
             vault = Vault::new(alloc, vault.into_store());
         }
