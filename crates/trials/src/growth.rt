@@ -82,19 +82,19 @@ fn grow(alloc: Global, case: &Value) -> Result<String> {
     let snapshot = snapshot(alloc, text(case, "listed"))?.signed;
     let top = document(alloc, text(case, "roles"))?;
     let mut wanted: Vec<String> = Vec::new(alloc);
-    let mut progress = Growth::begin(alloc, &snapshot, top)?;
+    let mut growth = match Growth::begin(alloc, &snapshot, top)? {
+        Progress::Grown(tree) => return told(alloc, wanted.as_slice(), &tree.signed),
+        Progress::Wants(growth, _) => growth,
+    };
     for _ in 0..100 {
-        let growth = match progress {
+        let name = growth.role().map_or("", |role| role.name.as_str());
+        let name = String::from_str(alloc, name)?;
+        let document = document_of(alloc, case, name.as_str())?;
+        wanted.push(name)?;
+        growth = match growth.take(alloc, &snapshot, document)? {
             Progress::Grown(tree) => return told(alloc, wanted.as_slice(), &tree.signed),
             Progress::Wants(growth, _) => growth,
         };
-        let name = match growth.role() {
-            Some(role) => role.name.clone()?,
-            None => String::new(alloc),
-        };
-        let document = document_of(alloc, case, name.as_str())?;
-        wanted.push(name)?;
-        progress = growth.take(alloc, &snapshot, document)?;
     }
     Ok(String::from_str(alloc, "the tree grows on")?)
 }
