@@ -30,7 +30,7 @@ mod vault;
 
 use crate::case::text;
 use crate::judge::misses;
-use anyhow::{Result, anyhow};
+use anyhow::Result;
 use serde_json::Value;
 use std::alloc::Global;
 use std::{env, fs};
@@ -66,25 +66,21 @@ fn of_documents(alloc: Global, call: &str, case: &Value) -> Result<Option<String
     made::answer(alloc, call, case)
 }
 
-// What a call on streams, stores, updates or files answers.
-fn of_devices(rt: &HostRuntime, call: &str, case: &Value) -> Result<Option<String>> {
-    let alloc = rt.alloc();
-    Ok(Some(match call {
-        "load" => load::loads(rt, case)?,
-        "update" => update::play(alloc, case)?,
-        "vault" => vault::steps(alloc, case)?,
-        "DirStore" => folder::play(rt, case)?,
-        "SystemClock::now" => folder::clock(rt, case)?,
-        "tough" => program::play(rt, case)?,
-        "RetryCore" => retries::play(alloc, case)?,
-        "TransportError" => streams::made(alloc, case)?,
-        "FilesystemTransport" => streams::fetch_file(rt, case)?,
-        "Limits::default" => update::limits_by_default(alloc)?,
-        "MemoryTransport" | "fetch_max_size" | "fetch_sha256" | "fetch_whole" => {
-            streams::fetch(rt, case)?
-        }
-        _ => return files::answer(rt, call, case),
-    }))
+// What a call on streams, stores or updates answers.
+fn of_devices(rt: &HostRuntime, call: &str, case: &Value) -> Result<String> {
+    match call {
+        "load" => load::loads(rt, case),
+        "update" => update::play(rt.alloc(), case),
+        "Limits::default" => update::limits_by_default(rt.alloc()),
+        "vault" => vault::steps(rt.alloc(), case),
+        "DirStore" => folder::play(rt, case),
+        "SystemClock::now" => folder::clock(rt, case),
+        "tough" => program::play(rt, case),
+        "RetryCore" => retries::play(rt.alloc(), case),
+        "TransportError" => streams::made(rt.alloc(), case),
+        "FilesystemTransport" => streams::fetch_file(rt, case),
+        _ => streams::fetch(rt, call, case),
+    }
 }
 
 // What the call of a case answers.
@@ -96,7 +92,10 @@ fn answer(rt: &HostRuntime, case: &Value) -> Result<String> {
     if let Some(told) = of_documents(alloc, call, case)? {
         return Ok(told);
     }
-    of_devices(rt, call, case)?.ok_or_else(|| anyhow!("no call {call}"))
+    if let Some(told) = files::answer(rt, call, case)? {
+        return Ok(told);
+    }
+    of_devices(rt, call, case)
 }
 
 // Answers a case, and tells whether that is what is wanted.

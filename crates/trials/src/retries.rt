@@ -1,8 +1,9 @@
 //! When a request is made again, and after which pause.
 
 use crate::case::{flag, list, number, text};
+use anyhow::Result;
 use serde_json::Value;
-use std::alloc::{AllocError, Global};
+use std::alloc::Global;
 use std::time::Duration;
 use tough_net::{RetryCore, RetryEvent, RetrySettings};
 
@@ -39,7 +40,7 @@ fn event(step: &Value) -> RetryEvent {
 }
 
 /// What is to be done after each event of the case, behind the pause before the next request and the number of requests and bytes until then.
-pub(crate) fn play(alloc: Global, case: &Value) -> Result<String, AllocError> {
+pub(crate) fn play(alloc: Global, case: &Value) -> Result<String> {
     let mut core = RetryCore::new(settings(case));
     let mut told = String::new(alloc);
     for step in list(case, "events") {

@@ -13,12 +13,13 @@ use tough::{
 };
 use url::Url;
 
-// Files in memory: those of the case, in pieces of as many bytes as it says.
+// Files in memory: those of the case, in pieces of as many bytes as it says, or each in one.
 fn memory(alloc: Global, case: &Value) -> Result<MemoryTransport> {
-    let pieces = number(case, "piece")
-        .and_then(|n| usize::try_from(n).ok())
-        .unwrap_or(100);
-    let mut transport = MemoryTransport::in_pieces(alloc, pieces);
+    let piece = number(case, "piece").and_then(|n| usize::try_from(n).ok());
+    let mut transport = match piece {
+        Some(piece) if piece > 0 => MemoryTransport::in_pieces(alloc, piece),
+        _ => MemoryTransport::new(alloc),
+    };
     if let Some(files) = case.get("files").and_then(Value::as_object) {
         for (url, value) in files {
             let bytes = value.as_str().unwrap_or("").as_bytes();
@@ -138,13 +139,14 @@ fn fetched<T: Transport>(rt: &HostRuntime, transport: &T, url: &str) -> Result<S
 }
 
 /// What a fetch over memory gives.
-pub(crate) fn fetch(rt: &HostRuntime, case: &Value) -> Result<String> {
+pub(crate) fn fetch(rt: &HostRuntime, call: &str, case: &Value) -> Result<String> {
     let transport = memory(rt.alloc(), case)?;
-    match text(case, "call") {
+    match call {
         "fetch_max_size" => bounded(rt, &transport, case),
         "fetch_sha256" => checked(rt, &transport, case),
         "fetch_whole" => collected(rt, &transport, case),
-        _ => fetched(rt, &transport, text(case, "url")),
+        "MemoryTransport" => fetched(rt, &transport, text(case, "url")),
+        _ => Err(anyhow!("no call {call}")),
     }
 }
 

@@ -92,14 +92,14 @@ pub(crate) fn play(alloc: Global, case: &Value) -> Result<String> {
 }
 
 /// The limits that a load has where none are set.
-pub(crate) fn limits_by_default(alloc: Global) -> Result<String, AllocError> {
+pub(crate) fn limits_by_default(alloc: Global) -> Result<String> {
     let limits = Limits::default();
-    format!(in alloc;
+    Ok(format!(in alloc;
         "{} {} {} {} {}",
         limits.max_root_size,
         limits.max_targets_size,
         limits.max_timestamp_size,
         limits.max_snapshot_size,
         limits.max_root_updates
-    )
+    )?)
 }
