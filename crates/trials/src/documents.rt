@@ -7,10 +7,11 @@ use serde_json::Value;
 use std::alloc::Global;
 use std::collections::BTreeSet;
 use std::num::NonZeroU64;
+use tough_base::TargetName;
 use tough_json::Form;
 use tough_schema::{
-    DelegatedTargets, DemoVerify, Error, Role, RoleType, Root, Signed, Snapshot, Targets,
-    Timestamp, canonical_form,
+    DelegatedTargets, Delegations, DemoVerify, Error, ReadError, Role, RoleType, Root, Signed,
+    Snapshot, Targets, Timestamp, canonical_form,
 };
 
 /// A verdict: `Ok`, or the refusal.
@@ -120,6 +121,69 @@ fn new_document(alloc: Global, case: &Value) -> Result<String> {
     }
 }
 
+// A document that stands for itself, without signatures: what it says of itself, and its text.
+fn read_alone<T: Role + Drop>(alloc: Global, read: Result<T, ReadError>) -> Result<String> {
+    match read {
+        Ok(role) => whole(alloc, &role),
+        Err(error) => Ok(format!(in alloc; "{error:?}")?),
+    }
+}
+
+// What comes of the bytes of a document of the kind, without signatures.
+fn alone(alloc: Global, kind: &str, document: &str) -> Result<String> {
+    let bytes = document.as_bytes();
+    match kind {
+        "root" => read_alone(alloc, Root::read(alloc, bytes)),
+        "timestamp" => read_alone(alloc, Timestamp::read(alloc, bytes)),
+        "snapshot" => read_alone(alloc, Snapshot::read(alloc, bytes)),
+        _ => read_alone(alloc, Targets::read(alloc, bytes)),
+    }
+}
+
+// Whether delegations give a name to some role, and to which.
+fn delegates(alloc: Global, delegations: &Delegations, name: &str) -> Result<String> {
+    let name = TargetName::from_str(alloc, name)?;
+    let mut roles: Vec<&str> = Vec::new(alloc);
+    for role in &delegations.roles {
+        if role.paths.matches(&name) {
+            roles.push(role.name.as_str())?;
+        }
+    }
+    let roles = roles.as_slice().join(alloc, ",")?;
+    Ok(format!(in alloc; "{} {roles}", delegations.target_is_delegated(&name))?)
+}
+
+// The threshold of each role of delegations, the number of its keys, and the identifiers of the keys of the delegations.
+fn keyring(alloc: Global, delegations: &Delegations) -> Result<String> {
+    let mut words: Vec<String> = Vec::new(alloc);
+    for role in &delegations.roles {
+        let keys = role.keys(alloc)?;
+        words.push(format!(in alloc;
+            "{} {} of {}",
+            role.name,
+            keys.threshold,
+            keys.keyids.len()
+        )?)?;
+    }
+    for (_, key) in delegations.keys.iter() {
+        let id = delegations.key_id(key).map_or("none", |id| id.as_str());
+        words.push(String::from_str(alloc, id)?)?;
+    }
+    Ok(words.as_slice().join(alloc, "; ")?)
+}
+
+// What a call tells of the delegations of targets.
+fn of_delegations(alloc: Global, call: &str, case: &Value) -> Result<String> {
+    let targets = Targets::read(alloc, text(case, "targets").as_bytes())?;
+    let Some(delegations) = &targets.delegations else {
+        return Ok(String::from_str(alloc, "no delegations")?);
+    };
+    match call {
+        "Delegations::target_is_delegated" => delegates(alloc, delegations, text(case, "target")),
+        _ => keyring(alloc, delegations),
+    }
+}
+
 // The verdict of targets on the document of a role that they delegate to.
 fn delegated(alloc: Global, targets: &str, role: &str, document: &str) -> Result<String> {
     let document: Signed<DelegatedTargets> = Signed::read(alloc, document.as_bytes())?;
@@ -202,6 +266,10 @@ pub(crate) fn answer(alloc: Global, call: &str, case: &Value) -> Result<Option<S
             text(case, "role"),
             document,
         )?),
+        "read" => Some(alone(alloc, text(case, "kind"), document)?),
+        "Delegations::target_is_delegated" | "DelegatedRole::keys" => {
+            Some(of_delegations(alloc, call, case)?)
+        }
         "Targets::named" => Some(named(alloc, text(case, "role"), document)?),
         "Root::keys" => Some(key_ids(alloc, root, text(case, "role"))?),
         "Root::clone" => Some(copy_equals(alloc, root, text(case, "other"))?),
