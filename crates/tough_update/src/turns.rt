@@ -425,11 +425,7 @@ pub(crate) fn read_wanted<V: Verify>(
 }
 
 // A step that was taken.
-fn after<V: Verify>(
-    setting: &Setting<'_>,
-    pending: Pending,
-    verifier: &V,
-) -> Result<Stage, Error>
+fn after<V: Verify>(setting: &Setting<'_>, pending: Pending, verifier: &V) -> Result<Stage, Error>
     ensures { Gives stage_doc (after (V.verifies verifier.now) (setting_doc setting.now) (pending_doc pending)) result }
 {
     let alloc = setting.alloc;
