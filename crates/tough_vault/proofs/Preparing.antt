@@ -1,5 +1,5 @@
 -- The first part of a step.
-use Rattle.std.proofs.Common.{◌≡◌, ℕ, List, [], Option, None, Some, Result, Ok, Err, Bool, true, sym, ap, ◌∙◌, inr, subst, is_some}
+use Rattle.std.proofs.Common.{◌≡◌, ℕ, List, Option, None, Some, Result, Ok, Err, Bool, true, ap, ◌∙◌, inr, subst, is_some}
 use Rattle.tough_vault.specs.Stored.{Files, SameFiles}
 use Rattle.tough_vault.specs.declared.parts.Prepared.{Prepared}
 use Rattle.tough_vault.specs.declared.checks.StepError.{StepError}

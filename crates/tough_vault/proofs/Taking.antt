@@ -1,5 +1,5 @@
 -- A step is its first part and its last part.
-use Rattle.std.proofs.Common.{ℕ, [], ◌∷◌, ◌++◌, Some, Result, Ok, Err, Bool, refl, sym, ap, ◌∙◌, subst}
+use Rattle.std.proofs.Common.{ℕ, [], ◌∷◌, ◌++◌, Result, Ok, Err, Bool, refl, sym, ap, ◌∙◌, subst}
 use Rattle.tough_vault.specs.Stored.{Files}
 use Rattle.tough_vault.specs.declared.entry.Receipt.{Receipt}
 use Rattle.tough_vault.specs.declared.parts.Prepared.{Prepared}

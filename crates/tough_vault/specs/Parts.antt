@@ -1,5 +1,5 @@
 -- What a vault holds, and the parts of a step's work.
-use Rattle.std.specs.Prelude.{◌≡◌, ◌≢◌, ℕ, ℤ, List, [], ◌∷◌, ◌++◌, length, Option, None, Some, Result, Err, Bool, true, IfOk, IfErr, OnOk, IsErrOf, slice_get}
+use Rattle.std.specs.Prelude.{◌≡◌, ◌≢◌, ℕ, ℤ, List, length, Option, None, Some, Result, Err, Bool, true, IfOk, IfErr, OnOk, IsErrOf, slice_get}
 use Rattle.tough_roles.specs.Signature.{SignedDoc}
 use Rattle.tough_roles.specs.Root.{RootDoc}
 use Rattle.tough_roles.specs.Timestamp.{TimestampDoc}

@@ -1,4 +1,4 @@
-use Rattle.std.proofs.Common.{Some, sym, ap, ◌∙◌}
+use Rattle.std.proofs.Common.{sym, ap, ◌∙◌}
 use Rattle.tough_roles.specs.Timestamp.{timestamp_doc}
 use Rattle.tough_vault.specs.Stored.{content}
 use Rattle.tough_vault.specs.Journal.{pair_where}
