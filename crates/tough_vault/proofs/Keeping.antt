@@ -1,12 +1,14 @@
 -- What a vault keeps through a step.
-use Rattle.std.proofs.Common.{◌≡◌, ◌≢◌, None, ℕ, List, [], ◌∷◌, ◌++◌, Option, Some, Result, Ok, Err, Bool, true, false, refl, sym, ap, ◌∙◌, subst, inl, inr}
+use Rattle.std.proofs.Common.{◌≡◌, ◌≢◌, None, ℕ, List, [], ◌∷◌, ◌++◌, Option, Result, Ok, Err, Bool, true, false, refl, sym, ap, ◌∙◌, subst, inl, inr}
 use Rattle.std.proofs.Math.Logic.{∥∥₁_map}
 use Rattle.tough_vault.specs.Stored.{Files, SameElsewhere}
+use Rattle.tough_vault.specs.declared.store.StoreError.{StoreError}
 use Rattle.tough_vault.specs.declared.entry.Receipt.{Receipt}
 use Rattle.tough_vault.specs.declared.checks.StepError.{StepError}
 use Rattle.tough_vault.specs.declared.checks.StepError.TheVariants.{Refused, DatastoreOpen, DatastoreCreate, DatastoreRemove, Memory}
 use Rattle.tough_vault.specs.Journal.{Note, Cleared, Broken, Last, no_tip, applied, replay, Follows, Rises, has_broken}
-use Rattle.tough_vault.specs.Step.{Step, Parts, IsNoted, Passes, Takes, Clears}
+use Rattle.tough_vault.specs.Files.{timestamp_file, snapshot_file}
+use Rattle.tough_vault.specs.Step.{Step, Parts, IsNoted, Passes, Takes, EndsRemoval, Clears}
 use Rattle.tough_vault.specs.Parts.{Holds, NamesFree}
 use Rattle.tough_vault.proofs.Journals.{replay-append, rises-append, broken-append, unbroken-before, free-append, FreeNote}
 use Rattle.tough_vault.proofs.Holding.{holds_same, holds_cleared}
@@ -68,11 +70,18 @@ module _ {S : Type 0} (tells : Bool) (files : S → Files) (count : S → ℕ) w
   kept step old new (Err DatastoreRemove) s f t = let e = t.same (λ x. cc) in unchanged old new s e.0 e.1 e.2
   kept step old new (Err Memory) s f t = let e = t.same (λ x. cc) in unchanged old new s e.0 e.1 e.2
 
+  -- a removal of both files, however it ended
+  ended : (old new : Parts S) (outcome : Result Unit StoreError) (result : Result Receipt StepError) → Sound old
+      → (tells ≡ true → (name : List ℕ) → name ≢ timestamp_file → name ≢ snapshot_file → files new.store name ≡ files old.store name)
+      → EndsRemoval tells files count outcome old new result → Sound new
+  ended old new (Ok u) (Ok r) s same e =
+      noted Cleared old new s e.0 tt (λ name x. absurd (cc (x)))
+      (λ told b. ∥∥₁_map (s.holds told (unbroken-before old.notes Cleared b)) (λ h. holds_cleared (files old.store) (files new.store) old.notes old.tip h s.free (same told)))
+  ended old new (Err fault) (Err x) s same e = broke old new s e.0
+  ended old new (Ok u) (Err x) s same e = absurd e
+  ended old new (Err fault) (Ok r) s same e = absurd e
+
   pub kept_cleared : (old new : Parts S) (result : Result Receipt StepError) → Sound old → Clears tells files count old new result → Sound new
-  kept_cleared old new (Ok r) s c =
-      noted Cleared old new s c.done.0 tt (λ name x. absurd (cc (x)))
-      (λ told b. ∥∥₁_map (s.holds told (unbroken-before old.notes Cleared b)) (λ h. holds_cleared (files old.store) (files new.store) old.notes old.tip h s.free (c.elsewhere told)))
-  kept_cleared old new (Err e) s c = elim c.broken [
-    | inl n ↦ broke old new s n
-    | inr x ↦ subst (λ (p : Parts S). Sound p) (sym x.1) s
-  ]
+  kept_cleared old new result s (inl untried) = subst (λ (p : Parts S). Sound p) (sym untried.1) s
+  kept_cleared old new result s (inr t) =
+      ended old new t.outcome result s (λ told name a b. t.removes.snapshot.elsewhere told name b ∙ t.removes.timestamp.elsewhere told name a) t.ends

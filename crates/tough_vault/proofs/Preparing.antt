@@ -1,5 +1,5 @@
 -- The first part of a step.
-use Rattle.std.proofs.Common.{◌≡◌, ℕ, List, [], Option, None, Some, Result, Ok, Err, Bool, true, sym, ap, ◌∙◌, inr, subst, is_some}
+use Rattle.std.proofs.Common.{◌≡◌, ℕ, List, Option, None, Some, Result, Ok, Err, Bool, true, ap, ◌∙◌, inr, subst, is_some}
 use Rattle.tough_vault.specs.Stored.{Files, SameFiles}
 use Rattle.tough_vault.specs.declared.parts.Prepared.{Prepared}
 use Rattle.tough_vault.specs.declared.checks.StepError.{StepError}
@@ -9,7 +9,7 @@ use Rattle.tough_roles.specs.declared.timestamp.Timestamp.{Timestamp as Timestam
 use Rattle.tough_roles.specs.Timestamp.{TimestampDoc}
 use Rattle.tough_roles.specs.declared.snapshot.Snapshot.{Snapshot as SnapshotFile}
 use Rattle.tough_roles.specs.Snapshot.{SnapshotDoc}
-use Rattle.tough_vault.specs.Journal.{Timestamp, Snapshot, Roles, Last}
+use Rattle.tough_vault.specs.Journal.{Timestamp}
 use Rattle.tough_vault.specs.Steps.{needs}
 use Rattle.tough_vault.specs.Step.{Step, Finds}
 use Rattle.tough_vault.specs.Parts.{Carries, Prepares}
@@ -60,18 +60,9 @@ same_pair u v s w a b o p q =
     ap (λ x. Timestamp (record { version = x; snapshot = s }) a) o
     ∙ (ap (λ x. Timestamp (record { version = v; snapshot = x }) a) p ∙ ap (λ x. Timestamp (record { version = v; snapshot = w }) x) q)
 
-pub same_tip : (tip : Last) (u v s w : ℕ) → u ≡ v → s ≡ w → record tip { timestamp = Some (record { version = u; snapshot = s }) } ≡ record tip { timestamp = Some (record { version = v; snapshot = w }) }
-same_tip tip u v s w o p =
-    ap (λ x. record tip { timestamp = Some (record { version = x; snapshot = s }) }) o
-    ∙ ap (λ x. record tip { timestamp = Some (record { version = v; snapshot = x }) }) p
-
 pub or_second : (a b : Option Reason) (r : Reason) → a ≡ None → b ≡ Some r → or_else a b ≡ Some r
 or_second a b r p q = ap (λ x. or_else x b) p ∙ q
 
 pub had_snapshot : (o : Option SnapshotFile) (t : Option SnapshotDoc) (b : Bool) → b ≡ is_some o → snapshot_where o ≡ t → b ≡ is_some t
 had_snapshot None t b h e = h ∙ ap is_some e
 had_snapshot (Some d) t b h e = h ∙ ap is_some e
-
--- what is noted, by whether a stored document was there
-pub carries_as : (r : Roles) (a b : Bool) (text : Option (List ℕ)) (p : Prepared) → a ≡ b → Carries (Snapshot r a) text p → Carries (Snapshot r b) text p
-carries_as r a b text p is h = subst (λ (x : Bool). Carries (Snapshot r x) text p) is h

@@ -1,10 +1,11 @@
 -- A step is its first part and its last part.
-use Rattle.std.proofs.Common.{ℕ, [], ◌∷◌, ◌++◌, Some, Result, Ok, Err, Bool, refl, sym, ap, ◌∙◌, subst}
+use Rattle.std.proofs.Common.{ℕ, [], ◌∷◌, ◌++◌, Result, Ok, Err, Bool, refl, sym, ap, ◌∙◌, subst}
 use Rattle.tough_vault.specs.Stored.{Files}
 use Rattle.tough_vault.specs.declared.entry.Receipt.{Receipt}
 use Rattle.tough_vault.specs.declared.parts.Prepared.{Prepared}
 use Rattle.tough_vault.specs.declared.checks.StepError.{StepError}
 use Rattle.tough_vault.specs.declared.checks.StepError.TheVariants.{Refused, DatastoreOpen, DatastoreCreate, DatastoreRemove, Memory}
+use Rattle.tough_vault.specs.Journal.{applied}
 use Rattle.tough_vault.specs.Step.{Step, Parts, Takes}
 use Rattle.tough_vault.specs.Parts.{Prepares, Concludes}
 
@@ -37,8 +38,8 @@ module _ {S : Type 0} (tells : Bool) (files : S → Files) (count : S → ℕ) (
           p.ready.0,
           record {
             passes = p.ready.1;
-            noted = record { notes = w.done.0 ∙ ap (λ n. old.notes ++ n ∷ []) carries.entry; tip = w.done.1 ∙ carries.change old.tip };
-            receipt = record { number = w.done.2.number; entry = w.done.2.entry ∙ carries.receipt };
+            noted = record { notes = w.done.0.notes ∙ ap (λ n. old.notes ++ n ∷ []) carries.entry; tip = w.done.0.tip ∙ ap (applied old.tip) carries.entry };
+            receipt = record { number = w.done.1.number; entry = w.done.1.entry ∙ carries.entry };
           },
         );
         stored = (λ x. cc (x, carries.bytes), λ t. w.stored t ∙ sym carries.bytes);

@@ -1,6 +1,5 @@
 -- The checks of the steps (TUF specification 5.3 to 5.6). Each is the refusal that it gives, if any; of a list the first counts.
 use Rattle.std.specs.Prelude.{◌≡◌, ◌==◌, ℕ, ℤ, List, [], ◌∷◌, map, length, Option, None, Some, Result, Ok, Err, Bool, true, false, not, nat_lt, int_lt, is_some, string_bytes, ◌&&◌}
-use Rattle.jiff.specs.declared.timestamp.Timestamp.{Timestamp as Instant}
 use Rattle.tough_roles.specs.declared.role_type.RoleType.{RoleType}
 use Rattle.tough_roles.specs.declared.role_type.RoleType.TheVariants as role
 use Rattle.tough_roles.specs.Timestamp.{TimestampDoc, MetafileDoc, timestamp_doc}

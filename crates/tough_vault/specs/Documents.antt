@@ -16,7 +16,6 @@ use Rattle.tough_keys.specs.Same.{Verifies}
 use Rattle.tough_roles.specs.Policy.{policy}
 use Rattle.tough_roles.specs.Verdict.{Refused, verdict}
 use Rattle.tough_roles.specs.declared.role_type.RoleType.TheVariants as role
-use Rattle.tough_vault.specs.Files.{snapshot_file}
 
 -- The text of a JSON value in a store: compact JSON (RFC 8259). A value that holds a float has none.
 abbrev pub stored_text : Data → Option (List ℕ)

@@ -1,5 +1,5 @@
 -- What a vault holds, and the parts of a step's work.
-use Rattle.std.specs.Prelude.{◌≡◌, ◌≢◌, ℕ, ℤ, List, [], ◌∷◌, ◌++◌, length, Option, None, Some, Result, Err, Bool, true, IfOk, IfErr, OnOk, IsErrOf, slice_get}
+use Rattle.std.specs.Prelude.{◌≡◌, ◌≢◌, ℕ, ℤ, List, length, Option, None, Some, Result, Err, Bool, true, IfOk, IfErr, OnOk, IsErrOf, slice_get}
 use Rattle.tough_roles.specs.Signature.{SignedDoc}
 use Rattle.tough_roles.specs.Root.{RootDoc}
 use Rattle.tough_roles.specs.Timestamp.{TimestampDoc}
@@ -8,14 +8,12 @@ use Rattle.tough_vault.specs.Stored.{Files, SameFiles, SameElsewhere}
 use Rattle.tough_vault.specs.declared.entry.Receipt.{Receipt}
 use Rattle.tough_vault.specs.declared.entry.Entry.{Entry}
 use Rattle.tough_vault.specs.declared.entry.Tip.{Tip}
-use Rattle.tough_vault.specs.declared.parts.Change.{Change}
-use Rattle.tough_vault.specs.declared.parts.Change.TheVariants as change
 use Rattle.tough_vault.specs.declared.parts.Prepared.{Prepared}
 use Rattle.tough_vault.specs.declared.checks.StepError.{StepError}
 use Rattle.tough_vault.specs.declared.checks.StepError.TheVariants.{DatastoreCreate, Memory}
 use Rattle.tough_vault.specs.Files.{time_file, root_file, timestamp_file, snapshot_file, IsFree}
 use Rattle.tough_vault.specs.Documents.{root_text, timestamp_text, snapshot_text}
-use Rattle.tough_vault.specs.Journal.{Pair, pair_of, Roles, roles_of, Note, Document, Broken, Last, applied, note_of, notes_of, tip_of, last_root}
+use Rattle.tough_vault.specs.Journal.{Pair, Roles, Note, Document, Broken, Last, note_of, notes_of, tip_of, last_root}
 use Rattle.tough_vault.specs.Step.{Step, Parts, IsNoted, IsReceipt, Passes, Why}
 use Rattle.tough_vault.specs.Steps.{time_text, versions_in, roles_in}
 
@@ -39,19 +37,9 @@ pub record Holds (files : Files) (notes : List Note) (tip : Last) : Type 0 where
 abbrev pub NamesFree : List Note → Type 0
 NamesFree notes = (k : ℕ) (name : List ℕ) → slice_get notes k ≡ Some (Document name) → IsFree name
 
--- the tip after a change
-abbrev pub changed : Change → Last → Last
-changed change.Nothing tip = tip
-changed (change.Time t) tip = record tip { time = Some t.nanosecond }
-changed (change.Timestamp p) tip = record tip { timestamp = Some (pair_of p) }
-changed (change.Snapshot v) tip = record tip { snapshot = Some (roles_of v) }
-changed change.Cleared tip = record tip { timestamp = None; snapshot = None }
-
--- all that a write needs was made: the entry, its copies, and the bytes
+-- what a write needs was made: the entry and the bytes
 pub record Carries (note : Note) (text : Option (List ℕ)) (p : Prepared) : Type 0 where
   pub entry : note_of p.entry ≡ note
-  pub receipt : note_of p.receipt ≡ note
-  pub change : (tip : Last) → changed p.change tip ≡ applied tip note
   pub bytes : text ≡ Some p.bytes.items
 
 module _ {S : Type 0} (tells : Bool) (files : S → Files) (count : S → ℕ) where
@@ -71,7 +59,7 @@ module _ {S : Type 0} (tells : Bool) (files : S → Files) (count : S → ℕ) w
 
   -- The last part of a step: it writes what was prepared, and notes it.
   pub record Writes (file : List ℕ) (p : Prepared) (old new : Parts S) (result : Result Receipt StepError) : Type 0 where
-    pub done : IfOk result (λ r. (new.notes ≡ old.notes ++ note_of p.entry ∷ []) × (new.tip ≡ changed p.change old.tip) × IsReceipt (length old.notes) (note_of p.receipt) r)
+    pub done : IfOk result (λ r. IsNoted (note_of p.entry) old new × IsReceipt (length old.notes) (note_of p.entry) r)
     pub stored : OnOk result (tells ≡ true → files new.store file ≡ Some p.bytes.items)
     pub fault : IfErr result (IsFault old.store new.store)
     pub broken : IsErrOf result DatastoreCreate → IsNoted Broken old new

@@ -1,6 +1,9 @@
 -- What a step is, and what it does to the parts of a vault.
-use Rattle.std.specs.Prelude.{◌≡◌, ◌≢◌, ◌⊎◌, ℕ, List, [], ◌∷◌, ◌++◌, length, Option, None, Some, Result, Bool, true, IfOk, IfErr, OnOk, IsErrOf}
-use Rattle.tough_vault.specs.Stored.{Files, SameFiles, SameElsewhere}
+use Rattle.std.specs.Prelude.{◌≡◌, ◌≢◌, ◌⊎◌, ℕ, List, [], ◌∷◌, ◌++◌, length, Option, None, Some, Result, Ok, Err, Bool, true, IfOk, IfErr, OnOk, IsErrOf}
+use Rattle.std.specs.Result.{result_and}
+use Rattle.tough_vault.specs.Stored.{Files, SameFiles, SameElsewhere, HasCause}
+use Rattle.tough_vault.specs.declared.store.StoreError.{StoreError}
+use Rattle.tough_vault.specs.declared.store.StoreError.TheVariants as device
 use Rattle.tough_vault.specs.declared.entry.Receipt.{Receipt}
 use Rattle.tough_vault.specs.declared.checks.StepError.{StepError}
 use Rattle.tough_vault.specs.declared.checks.StepError.TheVariants.{Refused, DatastoreOpen, DatastoreCreate, DatastoreRemove, Memory}
@@ -32,6 +35,11 @@ pub record IsNoted {S : Type 0} (note : Note) (old new : Parts S) : Type 0 where
 pub record IsReceipt (k : ℕ) (note : Note) (r : Receipt) : Type 0 where
   pub number : number_of r ≡ k
   pub entry : note_of (entry_of r) ≡ note
+
+-- the fault of a removal, as a step tells it
+abbrev pub removal_fault : StoreError → StepError
+removal_fault device.Failed = DatastoreRemove
+removal_fault device.Memory = Memory
 
 -- a read of this file may find this: where the store tells its files, what it holds
 abbrev pub Finds : Bool → Files → List ℕ → Option (List ℕ) → Type 0
@@ -79,19 +87,36 @@ module _ {S : Type 0} (tells : Bool) (files : S → Files) (count : S → ℕ) w
     -- no other file changes
     pub elsewhere : tells ≡ true → SameElsewhere step.file (files old.store) (files new.store)
 
-  -- nothing but the two files changes
-  abbrev pub SameButTwo : S → S → Type 0
-  SameButTwo old new = (name : List ℕ) → name ≢ timestamp_file → name ≢ snapshot_file → files new name ≡ files old name
+  -- One removal of a file, with its outcome, as a store tells it: where it succeeded, the file is gone; no other file
+  -- changes, and where memory was wanting none does; the device's failures are counted.
+  pub record Removes (file : List ℕ) (old new : S) (outcome : Result Unit StoreError) : Type 0 where
+    pub removed : OnOk outcome (tells ≡ true → files new file ≡ None)
+    pub elsewhere : tells ≡ true → SameElsewhere file (files old) (files new)
+    pub memory : IsErrOf outcome device.Memory → tells ≡ true → SameFiles (files old) (files new)
+    pub cause : HasCause (count old) (count new) outcome
 
-  -- The contract of `clear_rotated`.
-  pub record Clears (old new : Parts S) (result : Result Receipt StepError) : Type 0 where
-    -- success: one entry is noted, and the receipt tells it
-    pub done : IfOk result (λ r. IsNoted Cleared old new × IsReceipt (length old.notes) Cleared r)
-    -- success: both files are gone
-    pub removed : OnOk result (tells ≡ true → (files new.store timestamp_file ≡ None) × (files new.store snapshot_file ≡ None))
-    -- refusal: a device's fault, or want of memory
-    pub why : IfErr result (λ e. (e ≡ Memory) ⊎ ((e ≡ DatastoreRemove) × (count new.store ≢ count old.store)))
-    -- a failed removal notes Broken, and the tip stays; only want of memory before the first removal changes nothing
-    pub broken : IfErr result (λ e. IsNoted Broken old new ⊎ ((e ≡ Memory) × (new ≡ old)))
-    -- no other file changes
-    pub elsewhere : tells ≡ true → SameButTwo old.store new.store
+  -- Both removals are tried: that of the timestamp, and then that of the snapshot, also where the first failed.
+  pub record RemovesBoth (old new : S) (first second : Result Unit StoreError) : Type 0 where
+    pub between : S
+    pub timestamp : Removes timestamp_file old between first
+    pub snapshot : Removes snapshot_file between new second
+
+  -- How the step ends: where both removals succeeded, Cleared is noted, and the receipt tells it; else Broken is noted,
+  -- and the answer is the fault.
+  abbrev pub EndsRemoval : Result Unit StoreError → Parts S → Parts S → Result Receipt StepError → Type 0
+  EndsRemoval (Ok u) old new (Ok r) = IsNoted Cleared old new × IsReceipt (length old.notes) Cleared r
+  EndsRemoval (Err fault) old new (Err e) = IsNoted Broken old new × (e ≡ removal_fault fault)
+  EndsRemoval _ old new result = ⊥
+
+  -- Both removals were tried, and the step ended by the first that failed.
+  pub record Tried (old new : Parts S) (result : Result Receipt StepError) : Type 0 where
+    pub first : Result Unit StoreError
+    pub second : Result Unit StoreError
+    pub removes : RemovesBoth old.store new.store first second
+    pub outcome : Result Unit StoreError
+    pub is : outcome ≡ result_and first second
+    pub ends : EndsRemoval outcome old new result
+
+  -- The contract of `clear_rotated`: both removals are tried; only want of memory before the first changes nothing.
+  abbrev pub Clears : Parts S → Parts S → Result Receipt StepError → Type 0
+  Clears old new result = ((result ≡ Err Memory) × (new ≡ old)) ⊎ Tried old new result

@@ -1,9 +1,10 @@
 //! What a vault notes of its steps.
 
-ghost use Rattle.std.specs.Prelude.{◌≡◌};
-ghost use Rattle.tough_vault.specs.Journal.{no_tip, tip_of, number_of, entry_of};
+ghost use Rattle.std.specs.Prelude.{◌≡◌, IfOk};
+ghost use Rattle.tough_vault.specs.Journal.{no_tip, tip_of, applied, note_of, roles_of, number_of, entry_of};
 
 use jiff::Timestamp;
+use std::alloc::{AllocError, Global};
 
 /// A name, with the version that a snapshot lists for it.
 #[derive(Debug, Drop)]
@@ -69,6 +70,43 @@ pub struct Receipt {
     entry: Entry,
 }
 
+impl SnapshotVersions {
+    // A copy.
+    fn copy(&self, alloc: Global) -> Result<SnapshotVersions, AllocError>
+        ensures { IfOk result (λ copy. roles_of copy ≡ roles_of self.now) }
+    {
+        let mut roles = Vec::new(alloc);
+        for role in &self.roles {
+            let name = String::from_str(alloc, role.name.as_str())?;
+            let version = role.version;
+            roles.push(ListedVersion { name, version })?;
+        }
+        Ok(SnapshotVersions {
+            version: self.version,
+            roles,
+        })
+    }
+}
+
+impl Entry {
+    /// A copy.
+    pub(crate) fn copy(&self, alloc: Global) -> Result<Entry, AllocError>
+        ensures { IfOk result (λ copy. note_of copy ≡ note_of self.now) }
+    {
+        Ok(match self {
+            Entry::Noted(time) => Entry::Noted(*time),
+            Entry::Root(version) => Entry::Root(*version),
+            Entry::Timestamp(versions, had_stored) => Entry::Timestamp(*versions, *had_stored),
+            Entry::Snapshot(versions, had_stored) => {
+                Entry::Snapshot(versions.copy(alloc)?, *had_stored)
+            }
+            Entry::Cleared => Entry::Cleared,
+            Entry::Document(name) => Entry::Document(String::from_str(alloc, name.as_str())?),
+            Entry::Broken => Entry::Broken,
+        })
+    }
+}
+
 impl Tip {
     pub(crate) fn absent() -> Tip
         ensures { tip_of result ≡ no_tip }
@@ -77,6 +115,22 @@ impl Tip {
             time: None,
             timestamp: None,
             snapshot: None,
+        }
+    }
+
+    /// Goes with an entry.
+    pub(crate) fn apply(&mut self, entry: Entry)
+        ensures { tip_of self.new ≡ applied (tip_of self.old) (note_of entry) }
+    {
+        match entry {
+            Entry::Noted(time) => self.time = Some(time),
+            Entry::Timestamp(versions, _) => self.timestamp = Some(versions),
+            Entry::Snapshot(versions, _) => self.snapshot = Some(versions),
+            Entry::Cleared => {
+                self.timestamp = None;
+                self.snapshot = None;
+            }
+            Entry::Root(_) | Entry::Document(_) | Entry::Broken => {}
         }
     }
 }

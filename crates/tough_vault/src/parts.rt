@@ -1,32 +1,19 @@
 //! What the steps share: writing what was prepared, and noting it.
 
 ghost use Rattle.std.specs.Prelude.{◌≡◌, ◌<◌, vec_len, vec_capacity, length, ◌++◌, ◌∷◌, []};
-ghost use Rattle.tough_vault.specs.Journal.{note_of, notes_of, tip_of};
+ghost use Rattle.tough_vault.specs.Journal.{note_of, notes_of};
 ghost use Rattle.tough_vault.specs.Step.{IsReceipt};
-ghost use Rattle.tough_vault.specs.Parts.{changed, parts, Concludes};
+ghost use Rattle.tough_vault.specs.Parts.{parts, Concludes};
 
 use crate::checks::StepError;
-use crate::entry::{Entry, Receipt, SnapshotVersions, TimestampVersions, Tip};
+use crate::entry::{Entry, Receipt, Tip};
 use crate::store::{Store, StoreError};
-use jiff::Timestamp as Instant;
 
-/// What a step changes in the tip.
-#[derive(Drop)]
-pub(crate) enum Change {
-    Nothing,
-    Time(Instant),
-    Timestamp(TimestampVersions),
-    Snapshot(SnapshotVersions),
-    Cleared,
-}
-
-/// All that the last part of a step needs, made before it begins.
+/// What the first part of a step makes for the last: the bytes to be written, and the entry to be noted.
 #[derive(Drop)]
 pub(crate) struct Prepared {
     pub(crate) bytes: Vec<u8>,
     pub(crate) entry: Entry,
-    pub(crate) receipt: Entry,
-    pub(crate) change: Change,
 }
 
 /// Writes what was prepared and notes it; where the first part refused, does nothing.
@@ -41,19 +28,17 @@ pub(crate) fn conclude<S: Store>(
 {
     match prepared {
         Err(error) => Err(error),
-        Ok(prepared) => {
+        Ok(Prepared { bytes, entry }) => {
+            let alloc = *journal.allocator();
+            let (Ok(receipt), Ok(accepted)) = (entry.copy(alloc), entry.copy(alloc)) else {
+                return Err(StepError::Memory);
+            };
             if journal.reserve(1).is_err() {
                 return Err(StepError::Memory);
             }
-            match store.write(name, &prepared.bytes) {
+            match store.write(name, &bytes) {
                 Ok(()) => {
-                    let Prepared {
-                        bytes: _,
-                        entry,
-                        receipt,
-                        change,
-                    } = prepared;
-                    apply(tip, change);
+                    tip.apply(accepted);
                     Ok(note(journal, entry, receipt))
                 }
                 Err(StoreError::Failed) => {
@@ -75,20 +60,4 @@ pub(crate) fn note(journal: &mut Vec<Entry>, entry: Entry, copy: Entry) -> Recei
     let number = journal.len() as u64;
     journal.push_reserved(entry);
     Receipt::new(number, copy)
-}
-
-/// The tip after a change.
-pub(crate) fn apply(tip: &mut Tip, change: Change)
-    ensures { tip_of tip.new ≡ changed change (tip_of tip.old) }
-{
-    match change {
-        Change::Nothing => {}
-        Change::Time(time) => tip.time = Some(time),
-        Change::Timestamp(versions) => tip.timestamp = Some(versions),
-        Change::Snapshot(versions) => tip.snapshot = Some(versions),
-        Change::Cleared => {
-            tip.timestamp = None;
-            tip.snapshot = None;
-        }
-    }
 }

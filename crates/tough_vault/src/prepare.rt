@@ -20,7 +20,7 @@ use crate::checks::{
 use crate::document::document_bytes;
 use crate::document_name::DocumentName;
 use crate::entry::{Entry, TimestampVersions, Tip};
-use crate::parts::{Change, Prepared};
+use crate::parts::Prepared;
 use crate::store::{Store, StoreError};
 use jiff::Timestamp as Instant;
 use serde_json::Value;
@@ -121,8 +121,6 @@ pub(crate) fn prepare_time<S: Store>(
     Ok(Prepared {
         bytes,
         entry: Entry::Noted(now),
-        receipt: Entry::Noted(now),
-        change: Change::Time(now),
     })
 }
 
@@ -138,12 +136,9 @@ pub(crate) fn prepare_root<S: Store>(
         Err(WriteError::Unwritable) => return Err(StepError::Refused(Refusal::DatastoreSerialize)),
         Err(WriteError::Memory) => return Err(StepError::Memory),
     };
-    let version = root.signed.version.get();
     Ok(Prepared {
         bytes,
-        entry: Entry::Root(version),
-        receipt: Entry::Root(version),
-        change: Change::Nothing,
+        entry: Entry::Root(root.signed.version.get()),
     })
 }
 
@@ -180,12 +175,9 @@ pub(crate) fn prepare_timestamp<S: Store, V: Verify>(
         version: new.signed.version.get(),
         snapshot: snapshot_version(&new.signed),
     };
-    let had_stored = old.is_some();
     Ok(Prepared {
         bytes,
-        entry: Entry::Timestamp(versions, had_stored),
-        receipt: Entry::Timestamp(versions, had_stored),
-        change: Change::Timestamp(versions),
+        entry: Entry::Timestamp(versions, old.is_some()),
     })
 }
 
@@ -202,16 +194,11 @@ pub(crate) fn prepare_document<S: Store, T: Role>(
         Err(WriteError::Unwritable) => return Err(StepError::Refused(Refusal::DatastoreSerialize)),
         Err(WriteError::Memory) => return Err(StepError::Memory),
     };
-    let Ok(entry) = String::from_str(alloc, name.as_str()) else {
-        return Err(StepError::Memory);
-    };
-    let Ok(receipt) = String::from_str(alloc, name.as_str()) else {
+    let Ok(name) = String::from_str(alloc, name.as_str()) else {
         return Err(StepError::Memory);
     };
     Ok(Prepared {
         bytes,
-        entry: Entry::Document(entry),
-        receipt: Entry::Document(receipt),
-        change: Change::Nothing,
+        entry: Entry::Document(name),
     })
 }

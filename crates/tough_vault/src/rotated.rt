@@ -1,14 +1,23 @@
 //! Forgetting what rotated keys had signed.
 
 ghost use Rattle.std.specs.Prelude.{◌≡◌};
-ghost use Rattle.tough_vault.specs.Step.{Clears};
+ghost use Rattle.tough_vault.specs.Step.{RemovesBoth, Clears, removal_fault};
 ghost use Rattle.tough_vault.specs.Parts.{parts};
 
 use crate::checks::StepError;
 use crate::entry::{Entry, Receipt, Tip};
-use crate::parts::{Change, apply, note};
+use crate::parts::note;
 use crate::prepare::{SNAPSHOT, TIMESTAMP};
 use crate::store::{Store, StoreError};
+
+// Tries both removals. The outcomes are those of the timestamp's and of the snapshot's.
+fn remove_both<S: Store>(store: &mut S) -> (Result<(), StoreError>, Result<(), StoreError>)
+    ensures { RemovesBoth S.tells S.files S.count store.old store.new result.0 result.1 }
+{
+    let timestamp = store.remove(TIMESTAMP);
+    let snapshot = store.remove(SNAPSHOT);
+    (timestamp, snapshot)
+}
 
 /// Both removals are tried; the fault is that of the first that failed.
 pub(crate) fn clear<S: Store>(
@@ -21,21 +30,25 @@ pub(crate) fn clear<S: Store>(
     if journal.reserve(1).is_err() {
         return Err(StepError::Memory);
     }
-    let timestamp = store.remove(TIMESTAMP);
-    let snapshot = store.remove(SNAPSHOT);
-    let fault = match timestamp {
-        Ok(()) => match snapshot {
-            Ok(()) => {
-                apply(tip, Change::Cleared);
-                return Ok(note(journal, Entry::Cleared, Entry::Cleared));
-            }
-            Err(fault) => fault,
-        },
-        Err(fault) => fault,
-    };
-    note(journal, Entry::Broken, Entry::Broken);
+    let (timestamp, snapshot) = remove_both(store);
+    match timestamp.and(snapshot) {
+        Ok(()) => {
+            tip.apply(Entry::Cleared);
+            Ok(note(journal, Entry::Cleared, Entry::Cleared))
+        }
+        Err(fault) => {
+            note(journal, Entry::Broken, Entry::Broken);
+            Err(step_error(fault))
+        }
+    }
+}
+
+// The fault of a removal, as the step tells it.
+fn step_error(fault: StoreError) -> StepError
+    ensures { result ≡ removal_fault fault }
+{
     match fault {
-        StoreError::Failed => Err(StepError::DatastoreRemove),
-        StoreError::Memory => Err(StepError::Memory),
+        StoreError::Failed => StepError::DatastoreRemove,
+        StoreError::Memory => StepError::Memory,
     }
 }

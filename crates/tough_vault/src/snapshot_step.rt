@@ -5,16 +5,15 @@ ghost use Rattle.tough_roles.specs.Signature.{signed_doc};
 ghost use Rattle.tough_roles.specs.Root.{root_doc};
 ghost use Rattle.tough_roles.specs.Snapshot.{snapshot_doc};
 ghost use Rattle.tough_vault.specs.Stored.{content};
-ghost use Rattle.tough_vault.specs.Documents.{snapshot_text};
-ghost use Rattle.tough_vault.specs.Journal.{tip_of, Snapshot as SnapshotNote};
+ghost use Rattle.tough_vault.specs.Journal.{tip_of};
 ghost use Rattle.tough_vault.specs.Checks.{snapshot_where, enforces};
-ghost use Rattle.tough_vault.specs.Steps.{snapshot_step, stored_snapshot, roles_in};
-ghost use Rattle.tough_vault.specs.Parts.{Prepares, Carries};
+ghost use Rattle.tough_vault.specs.Steps.{snapshot_step, stored_snapshot};
+ghost use Rattle.tough_vault.specs.Parts.{Prepares};
 
 use crate::checks::{ExpirationEnforcement, StepError};
 use crate::document::document_bytes;
 use crate::entry::{Entry, Tip};
-use crate::parts::{Change, Prepared};
+use crate::parts::Prepared;
 use crate::prepare::SNAPSHOT;
 use crate::snapshot_checks::{check_snapshot, check_snapshot_late, versions_of};
 use crate::store::{Store, StoreError};
@@ -44,28 +43,6 @@ fn read_snapshot<V: Verify>(
         Err(Error::Memory) => Err(AllocError),
         Err(_) => Ok(None),
     }
-}
-
-// What a snapshot's step writes and notes.
-fn noted_snapshot(
-    alloc: Global,
-    new: &Signed<Snapshot>,
-    had_stored: bool,
-) -> Result<Prepared, AllocError>
-    ensures { IfOk result (Carries (SnapshotNote (roles_in (snapshot_doc new.now.signed)) had_stored) (snapshot_text (signed_doc snapshot_doc new.now))) }
-{
-    let Ok(bytes) = document_bytes(alloc, new) else {
-        return Err(AllocError);
-    };
-    let entry = versions_of(alloc, &new.signed)?;
-    let receipt = versions_of(alloc, &new.signed)?;
-    let change = versions_of(alloc, &new.signed)?;
-    Ok(Prepared {
-        bytes,
-        entry: Entry::Snapshot(entry, had_stored),
-        receipt: Entry::Snapshot(receipt, had_stored),
-        change: Change::Snapshot(change),
-    })
 }
 
 pub(crate) fn prepare_snapshot<S: Store, V: Verify>(
@@ -102,8 +79,14 @@ pub(crate) fn prepare_snapshot<S: Store, V: Verify>(
     ) {
         return Err(error);
     }
-    let Ok(prepared) = noted_snapshot(alloc, new, old.is_some()) else {
+    let Ok(bytes) = document_bytes(alloc, new) else {
         return Err(StepError::Memory);
     };
-    Ok(prepared)
+    let Ok(versions) = versions_of(alloc, &new.signed) else {
+        return Err(StepError::Memory);
+    };
+    Ok(Prepared {
+        bytes,
+        entry: Entry::Snapshot(versions, old.is_some()),
+    })
 }

@@ -6,4 +6,4 @@ use Rattle.tough_vault.proofs.prepare.prepare_document.Goals as goal
 
 pub returns : goal.returns
 returns g c = prepared _ _ _ _ _ _ (g.S.Store.files c.args.store.now (name_of c.args.name.now)) _ (λ t. refl) (needs_none _ _ c.in-Ok.ensures) refl
-    (record { entry = ap Document (c.in-Ok-from_str.ensures.ok ∙ c.as_str.ensures); receipt = ap Document (c.in-Ok-from_str-2.ensures.ok ∙ c.as_str-2.ensures); change = λ tip. refl; bytes = c.in-Ok.ensures }) refl (λ t n. refl)
+    (record { entry = ap Document (c.in-Ok-from_str.ensures.ok ∙ c.as_str.ensures); bytes = c.in-Ok.ensures }) refl (λ t n. refl)

@@ -6,4 +6,4 @@ use Rattle.tough_vault.proofs.prepare.prepare_root.Goals as goal
 
 pub returns : goal.returns
 returns g c = prepared _ _ _ _ _ _ (g.S.Store.files c.args.store.now root_file) _ (λ t. refl) (needs_none _ _ c.in-Ok.ensures) refl
-    (record { entry = ap Root c.get-version.ensures.value; receipt = ap Root c.get-version.ensures.value; change = λ tip. refl; bytes = c.in-Ok.ensures }) refl (λ t n. refl)
+    (record { entry = ap Root c.get.ensures.value; bytes = c.in-Ok.ensures }) refl (λ t n. refl)

@@ -24,4 +24,4 @@ returns g c = prepared _ _ _ _ _ _ (content c.in-Ok.found) _ c.in-Ok.ensures.fou
     (or_none (time_after (stored_time (content c.in-Ok.found)) (time_where c.args.tip.now.time) c.args.now.nanosecond) _
     (ap (λ o. time_after o (time_where c.args.tip.now.time) c.args.now.nanosecond) (sym c.in-Ok-read_time.ensures) ∙ c.in_default-check_time.ensures)
     (ap (λ x. first_of (needs x ∷ [])) c.in-Ok-time_bytes.ensures))
-    (record { entry = refl; receipt = refl; change = λ tip. refl; bytes = c.in-Ok-time_bytes.ensures }) (c.in-Ok.ensures.cause.quiet (λ x. cc)) c.in-Ok.ensures.same
+    (record { entry = refl; bytes = c.in-Ok-time_bytes.ensures }) (c.in-Ok.ensures.cause.quiet (λ x. cc)) c.in-Ok.ensures.same

@@ -1,9 +1,9 @@
-use Rattle.std.proofs.Common.{Some, sym, ap, ◌∙◌}
+use Rattle.std.proofs.Common.{sym, ap, ◌∙◌}
 use Rattle.tough_roles.specs.Timestamp.{timestamp_doc}
 use Rattle.tough_vault.specs.Stored.{content}
 use Rattle.tough_vault.specs.Journal.{pair_where}
 use Rattle.tough_vault.specs.Checks.{timestamp_after, enforces}
-use Rattle.tough_vault.proofs.Preparing.{prepared, refused_after, checked_at, same_pair, same_tip, had_old}
+use Rattle.tough_vault.proofs.Preparing.{prepared, refused_after, checked_at, same_pair, had_old}
 use Rattle.tough_vault.proofs.prepare.prepare_timestamp.Goals as goal
 
 pub returns-in-Err-check_timestamp_late : goal.returns-in-Err-check_timestamp_late
@@ -13,12 +13,10 @@ returns-in-Err-check_timestamp_late g c = refused_after _ _ _ _ _ _ (content c.i
 pub returns : goal.returns
 returns g c =
     let old = c.in-Ok-read_timestamp.ensures in
-    let had = had_old _ _ _ c.is_some-had_stored.ensures old in
+    let had = had_old _ _ _ c.is_some.ensures old in
     prepared _ _ _ _ _ _ (content c.in-Ok.found) _ c.in-Ok.ensures.found c.in_default.ensures
     (ap (λ o. timestamp_after o (pair_where c.args.tip.now.timestamp) (timestamp_doc c.args.new.now.signed) c.args.start.nanosecond (enforces c.args.enforcement)) (sym old) ∙ c.in_default-check_timestamp_late.ensures)
     (record {
       entry = same_pair _ _ _ _ _ _ c.get.ensures.value c.snapshot_version.ensures had;
-      receipt = same_pair _ _ _ _ _ _ c.get.ensures.value c.snapshot_version.ensures had;
-      change = λ tip. same_tip tip _ _ _ _ c.get.ensures.value c.snapshot_version.ensures;
       bytes = c.in-Ok-document_bytes.ensures;
     }) (c.in-Ok.ensures.cause.quiet (λ x. cc)) c.in-Ok.ensures.same

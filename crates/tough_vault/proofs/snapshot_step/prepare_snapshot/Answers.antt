@@ -1,9 +1,10 @@
-use Rattle.std.proofs.Common.{Some, sym, ap, ◌∙◌}
+use Rattle.std.proofs.Common.{sym, ap, ◌∙◌}
 use Rattle.tough_roles.specs.Snapshot.{snapshot_doc}
 use Rattle.tough_vault.specs.Stored.{content}
-use Rattle.tough_vault.specs.Journal.{roles_where}
+use Rattle.tough_vault.specs.Journal.{Snapshot, roles_where}
 use Rattle.tough_vault.specs.Checks.{snapshot_after, enforces}
-use Rattle.tough_vault.proofs.Preparing.{prepared, refused_after, checked_at, had_snapshot, carries_as}
+use Rattle.tough_vault.specs.Steps.{roles_in}
+use Rattle.tough_vault.proofs.Preparing.{prepared, refused_after, checked_at, had_snapshot}
 use Rattle.tough_vault.proofs.snapshot_step.prepare_snapshot.Goals as goal
 
 pub returns-in-Err-check_snapshot_late : goal.returns-in-Err-check_snapshot_late
@@ -15,5 +16,8 @@ returns g c =
     let old = c.in-Ok-read_snapshot.ensures in
     prepared _ _ _ _ _ _ (content c.in-Ok.found) _ c.in-Ok.ensures.found c.in_default.ensures
     (ap (λ o. snapshot_after o (roles_where c.args.tip.now.snapshot) (snapshot_doc c.args.new.now.signed) c.args.start.nanosecond (enforces c.args.enforcement)) (sym old) ∙ c.in_default-check_snapshot_late.ensures)
-    (carries_as _ _ _ _ _ (had_snapshot _ _ _ c.is_some.ensures old) c.in-Ok-noted_snapshot.ensures)
+    (record {
+      entry = ap (λ x. Snapshot x c.is_some.result) c.in-Ok-versions_of.ensures ∙ ap (Snapshot (roles_in (snapshot_doc c.args.new.now.signed))) (had_snapshot _ _ _ c.is_some.ensures old);
+      bytes = c.in-Ok-document_bytes.ensures;
+    })
     (c.in-Ok.ensures.cause.quiet (λ x. cc)) c.in-Ok.ensures.same
