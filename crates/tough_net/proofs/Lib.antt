@@ -1,6 +1,7 @@
 pub mod CheckLemmas
 pub mod CollectLemmas
 pub mod FileLemmas
+pub mod Going
 pub mod JoinLemmas
 pub mod LimitLemmas
 pub mod PacingLemmas

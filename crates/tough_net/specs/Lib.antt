@@ -10,3 +10,4 @@ pub mod Pacing
 pub mod Resource
 pub mod Retries
 pub mod RetryRecord
+pub mod Retrying
