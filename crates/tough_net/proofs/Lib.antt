@@ -1,7 +1,9 @@
 pub mod CheckLemmas
 pub mod CollectLemmas
 pub mod FileLemmas
+pub mod Going
 pub mod JoinLemmas
 pub mod LimitLemmas
+pub mod PacingLemmas
 pub mod ResourceLemmas
 pub mod TurnLemmas

@@ -1,10 +1,11 @@
 -- What a turn of a fetch counts.
 use Rattle.std.specs.Prelude.{◌≡◌, ℕ, ◌+◌, Bool, true, false, if◌then◌else◌}
-use Rattle.std.proofs.Common.{refl}
+use Rattle.std.proofs.Common.{refl, ap, ◌∙◌}
+use Rattle.std.proofs.lemmas.Bool.{cond-false}
 use Rattle.tough_net.specs.declared.error.HttpError.{HttpError}
 use Rattle.tough_net.specs.declared.error.HttpError.TheVariants.{FetchFatal}
 use Rattle.tough_net.specs.declared.retry_events.RetrySettings.{RetrySettings}
-use Rattle.tough_net.specs.declared.retry_events.RetryEvent.TheVariants.{Answer, Piece}
+use Rattle.tough_net.specs.declared.retry_events.RetryEvent.TheVariants.{Fault, Answer, Piece}
 use Rattle.tough_net.specs.declared.retry_events.RetryAction.TheVariants.{Read, Finish, Fail}
 use Rattle.tough_net.specs.declared.retry_events.AnswerClass.{AnswerClass}
 use Rattle.tough_net.specs.declared.retry_events.AnswerClass.TheVariants.{Body, Missing, Refused, Unready}
@@ -57,3 +58,17 @@ module _ (s : RetrySettings) (p : Progress) where
 
   pub unread_received : (len : ℕ) → ¬ ((turn s p (Piece len)).action ≡ Read) → (turn s p (Piece len)).progress.received ≡ p.received
   unread_received len unread = over_unread p.is_over p (turned s p (Piece len)) p.received unread refl (λ h. unread_chosen _ _ _ _ _ h refl)
+
+  -- a fault counts nothing
+  pub fault_received : (turn s p Fault).progress.received ≡ p.received
+  fault_received = if_received p.is_over _ _ p.received refl retried_received
+
+  counts : (b : Bool) (q r : Progress) (error : HttpError) → (chosen b q r error).action ≡ Read → (chosen b q r error).progress ≡ q
+  counts true q r error e = refl
+  counts false q r error e = cc
+
+  -- a piece that is handed on changes the count alone
+  pub piece_counts : (len : ℕ) → p.is_over ≡ false → (turn s p (Piece len)).action ≡ Read → (turn s p (Piece len)).progress ≡ record p { received = p.received + len }
+  piece_counts len on e =
+      let is : turn s p (Piece len) ≡ turned s p (Piece len) = cond-false p.is_over _ _ on in
+      ap (λ t. t.progress) is ∙ counts _ _ _ _ (rw is at e)

@@ -6,6 +6,8 @@ pub mod Items
 pub mod Joining
 pub mod Limiting
 pub mod MemoryFiles
+pub mod Pacing
 pub mod Resource
 pub mod Retries
 pub mod RetryRecord
+pub mod Retrying

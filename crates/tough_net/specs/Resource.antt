@@ -1,19 +1,20 @@
 -- A resource that comes by parts.
-use Rattle.std.specs.Prelude.{◌≡◌, ℕ, Bool, true, false, List, [], ◌∷◌, ◌++◌, drop, All, Option, Some, None, Result, Ok, Err, IfSome, IfErr, IsSomeAnd, ⊤, ◌⊎◌, string_bytes}
-use Rattle.futures.specs.Runs.{Runs, Within}
+use Rattle.std.specs.Prelude.{◌≡◌, ◌≢◌, ℕ, ◌+◌, ◌^◌, ◌<◌, ◌≤◌, Bool, true, false, List, [], ◌∷◌, ◌++◌, drop, length, Option, Some, None, Result, Ok, Err, ⊤, ◌⊎◌}
+use Rattle.futures.specs.Runs.{Runs, Ends}
 use Rattle.tough_net.specs.declared.error.TransportError.{TransportError}
 use Rattle.tough_net.specs.declared.error.TransportErrorKind.{TransportErrorKind}
 use Rattle.tough_net.specs.declared.error.TransportErrorKind.TheVariants.{FileNotFound, Other}
 use Rattle.tough_net.specs.declared.error.HttpError.{HttpError}
 use Rattle.tough_net.specs.declared.error.HttpError.TheVariants.{FetchFileNotFound, FetchFatal, FetchNoMoreRetries}
 use Rattle.tough_net.specs.declared.error.Cause.TheVariants.{Http}
-use Rattle.tough_net.specs.declared.retry_events.AnswerClass.TheVariants.{Body}
-use Rattle.tough_net.specs.declared.requests.Response.{Response}
-use Rattle.tough_net.specs.declared.retrying.State.{State}
-use Rattle.tough_net.specs.declared.retrying.State.TheVariants.{Pausing, Connecting, Asking, Reading, Ended}
+use Rattle.tough_net.specs.declared.retry_events.AnswerClass.{AnswerClass}
+use Rattle.tough_net.specs.declared.retry_events.AnswerClass.TheVariants.{Missing, Refused, Unready}
+use Rattle.tough_net.specs.declared.retry_events.RetryEvent.{RetryEvent}
+use Rattle.tough_net.specs.declared.retry_events.RetryEvent.TheVariants.{Fault, Answer, Piece, End}
+use Rattle.tough_net.specs.declared.retry_events.RetrySettings.{RetrySettings}
 use Rattle.tough_net.specs.Errors.{IsMemory, error_kind, error_url, error_cause}
-use Rattle.tough_net.specs.Items.{Item, all_bytes}
-use Rattle.tough_net.specs.Retries.{class_of}
+use Rattle.tough_net.specs.Items.{Item, joined, all_bytes}
+use Rattle.tough_net.specs.Retries.{Progress, class_of, turn}
 
 abbrev pub IsBeginning : List ℕ → List ℕ → Type 0
 IsBeginning xs ys = (later : List ℕ) × (ys ≡ xs ++ later)
@@ -23,14 +24,9 @@ kind_of_http FetchFileNotFound = FileNotFound
 kind_of_http FetchFatal = Other
 kind_of_http (FetchNoMoreRetries _) = Other
 
--- a fault of HTTP at this URL, or there was no memory
-abbrev pub IsFetchFault : List ℕ → TransportError → Type 0
-IsFetchFault url e = IsMemory e
-    ⊎ ((error : HttpError) × (error_kind e ≡ kind_of_http error) × (error_url e ≡ url) × (error_cause e ≡ Some (Http error)))
-
--- each error is such a fault
-abbrev pub FaultsAre : List ℕ → Runs Item
-FaultsAre url xs last = All (λ x. IfErr x (IsFetchFault url)) xs × IfSome last (λ x. IfErr x (IsFetchFault url))
+-- this fault of HTTP at this URL
+abbrev pub IsHttpFault : List ℕ → HttpError → TransportError → Type 0
+IsHttpFault url error e = (error_kind e ≡ kind_of_http error) × (error_url e ≡ url) × (error_cause e ≡ Some (Http error))
 
 module _ {Q : Type 0} (bodies : Q → ℕ → Runs Item) where
   -- each body is a beginning of the resource, from the byte that was asked for
@@ -41,21 +37,61 @@ module _ {Q : Type 0} (bodies : Q → ℕ → Runs Item) where
   abbrev pub Continues : Q → ℕ → Runs Item
   Continues q received xs last = (resource : List ℕ) → IsHonest q resource → IsBeginning (all_bytes xs last) (drop received resource)
 
-  -- the same, with faults of this URL
-  abbrev pub Fetches : Q → List ℕ → ℕ → Runs Item
-  Fetches q url received xs last = Continues q received xs last × FaultsAre url xs last
+  -- Some body gave items that came to this byte, and then this one more answer.
+  pub record Gave (q : Q) (at : ℕ) (last : Option Item) : Type 0 where
+    pub from : ℕ
+    pub items : List Item
+    pub gave : bodies q from items last
+    pub reached : from + length (joined items) ≡ at
 
-  module _ {B : Type 0} (can_read : B → Type 0) (yields : B → Runs Item) where
-    -- a body may be read, and goes on from this byte if the answer is what was asked for
-    abbrev pub IsReadable : Q → ℕ → Response B → Type 0
-    IsReadable q received r = can_read r.body × (class_of r.status received ≡ Body → Within (bodies q received) (yields r.body))
+module _ {Q : Type 0} (bodies : Q → ℕ → Runs Item) (answers : Q → ℕ → RetryEvent → Type 0) where
+  -- What may happen to a fetch that has come to this byte: a request comes to that, or a body breaks off. Pieces and ends are told
+  -- by `Follows`.
+  abbrev pub Happens : Q → ℕ → RetryEvent → Type 0
+  Happens q at Fault = answers q at Fault ⊎ ((e : TransportError) × Gave bodies q at (Some (Err e)))
+  Happens q at (Answer status accepts) = answers q at (Answer status accepts)
+  Happens q at (Piece len) = ⊥
+  Happens q at End = ⊥
 
-  module _ {P N A C B : Type 0} (can_pause : P → Type 0) (can_connect : N → Type 0) (can_run : C → Type 0) (can_ask : A → Type 0) (gives : A → Option (Response B) → Type 0) (can_read : B → Type 0) (yields : B → Runs Item) where
-    -- what is under way may be polled, and is for this byte
-    abbrev pub StandsWell : Q → ℕ → State P N A C B → Type 0
-    StandsWell q received (Pausing p) = can_pause p
-    StandsWell q received (Connecting n) = can_connect n
-    StandsWell q received (Asking e) = IfSome e.conn can_run × can_ask e.body
-        × ((o : Option (Response B)) → gives e.body o → IfSome o (IsReadable can_read yields q received))
-    StandsWell q received (Reading e) = IfSome e.conn can_run × can_read e.body × Within (Continues q received) (yields e.body)
-    StandsWell q received Ended = ⊤
+  -- an answer of this class may come to a request from this byte
+  abbrev pub IsAnswered : Q → ℕ → AnswerClass → Type 0
+  IsAnswered q at class = (status : ℕ) × (accepts : Bool) × answers q at (Answer status accepts) × (class_of status at ≡ class)
+
+  module _ (s : RetrySettings) where
+    -- what a fault of HTTP says of a fetch that has come so far
+    abbrev pub WasSo : Q → Progress → HttpError → Type 0
+    WasSo q p FetchFileNotFound = IsAnswered q p.received Missing
+    WasSo q p FetchFatal = IsAnswered q p.received Refused
+        ⊎ ((piece : List ℕ) × Gave bodies q p.received (Some (Ok piece)) × (2 ^ 64 ≤ p.received + length piece))
+    WasSo q p (FetchNoMoreRetries tries) = (tries ≡ s.tries)
+        × (Happens q p.received Fault ⊎ IsAnswered q p.received Unready)
+        × ((s.tries ≤ p.retries) ⊎ ((p.received ≢ 0) × (p.is_ranged ≡ false)))
+
+    -- an error that a fetch which has come so far may end with: what it says was so, or there was no memory
+    abbrev pub IsFetchFault : Q → List ℕ → Progress → TransportError → Type 0
+    IsFetchFault q url p e = IsMemory e ⊎ ((error : HttpError) × IsHttpFault url error e × WasSo q p error)
+
+    -- these events may happen one after the other, none of which ends the fetch, and bring it from p to r
+    abbrev pub Leads : Q → Progress → List RetryEvent → Progress → Type 0
+    Leads q p [] r = r ≡ p
+    Leads q p (event ∷ events) r =
+        Happens q p.received event × ((turn s p event).progress.is_over ≡ false) × Leads q (turn s p event).progress events r
+
+    -- What follows where a body is being read, or where the fetch fails: the end and each piece come where a body has them, and each
+    -- error where what it says was so. Nothing comes after an error.
+    abbrev pub Follows : Q → List ℕ → Progress → Runs Item
+    Follows q url p [] None = Gave bodies q p.received None
+    Follows q url p [] (Some (Ok piece)) = Gave bodies q p.received (Some (Ok piece))
+    Follows q url p [] (Some (Err e)) = IsFetchFault q url p e
+    Follows q url p (Ok piece ∷ xs) last = Gave bodies q p.received (Some (Ok piece))
+        × ((events : List RetryEvent) × (r : Progress) × Leads q (record p { received = p.received + length piece }) events r × Follows q url r xs last)
+    Follows q url p (Err e ∷ xs) last = IsFetchFault q url p e × Ends xs last
+
+    -- the same, after some events
+    abbrev pub Tells : Q → List ℕ → Progress → Runs Item
+    Tells q url p xs last = (events : List RetryEvent) × (r : Progress) × Leads q p events r × Follows q url r xs last
+
+    -- what a fetch that has come so far yields: a beginning of the resource, whose end and whose errors are as told
+    pub record Fetches (q : Q) (url : List ℕ) (p : Progress) (xs : List Item) (last : Option Item) : Type 0 where
+      pub continues : Continues bodies q p.received xs last
+      pub tells : Tells q url p xs last

@@ -6,8 +6,10 @@ ghost use Rattle.tough_net.specs.Collecting.{Bounds, Collects, Fits};
 ghost use Rattle.tough_net.specs.MemoryFiles.{CutsFile};
 ghost use Rattle.tough_net.specs.Items.{all_bytes, joined};
 ghost use Rattle.tough_net.specs.Limiting.{Limits, limit_of, limited};
+ghost use Rattle.tough_net.specs.Pacing.{FewAndPaced, Met, pauses_of};
+ghost use Rattle.tough_net.specs.Retries.{started};
 
-use crate::{DigestCheck, MaxSize, TransportError};
+use crate::{DigestCheck, MaxSize, RetrySettings, TransportError};
 use bytes::Bytes;
 use futures::Stream;
 
@@ -29,4 +31,9 @@ pub fn ended_has_digest<S: Stream<Item = Result<Bytes, TransportError>>>(stream:
 pub fn collected_is_file()
     ensures { (bounds : Bounds) (bytes : List ℕ) (v : _) → Collects bounds (CutsFile (Some bytes)) [] (Ok v)
         → (v.items ≡ bytes) × Fits bounds bytes }
+{}
+
+/// Whatever events a fetch meets, no more than `tries` requests follow its first, after the pauses of the rule.
+pub fn requests_are_few(settings: RetrySettings)
+    ensures { (run : List _) → Met settings (started settings) run → FewAndPaced settings (pauses_of run) }
 {}

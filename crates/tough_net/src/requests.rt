@@ -1,10 +1,11 @@
 //! What makes one request.
-ghost use Rattle.std.specs.Prelude.{◌≡◌, ℕ, List, Option, IfSome};
+ghost use Rattle.std.specs.Prelude.{◌≡◌, ℕ, List, Option, IfSome, IsNone, MatchOption};
 ghost use Rattle.futures.specs.Runs.{Within};
 ghost use Rattle.tough_net.specs.Items.{Item as Piece};
 ghost use Rattle.tough_net.specs.Retries.{class_of};
+ghost use Rattle.tough_net.specs.declared.retry_events.RetryEvent.{RetryEvent as Event};
 
-use crate::{AnswerClass, TransportError};
+use crate::{AnswerClass, RetryEvent, TransportError};
 use bytes::Bytes;
 use futures::{Future, Stream};
 use std::time::Duration;
@@ -38,16 +39,26 @@ pub trait Requests: Drop {
     // status code says that it has what was asked for.
     ghost bodies: { Self → ℕ → List Piece → Option Piece → Type 0 };
 
+    // Holds of a byte and an event, where a request from that byte may come to it: an answer, or a fault before one.
+    ghost answers: { Self → ℕ → Event → Type 0 };
+
     fn pause(&self, pause: Duration) -> Option<Self::Pause>
         ensures { IfSome result Self.Pause.can_poll };
 
     fn connect(&self) -> Option<Self::Connect>
-        ensures { IfSome result Self.Connect.can_poll };
+        ensures can { IfSome result Self.Connect.can_poll }
+        ensures none { IsNone result → (from : ℕ) → answers self.now from RetryEvent.Fault }
+        ensures lost { IfSome result (λ c. (o : _) → Self.Connect.gives c o → IsNone o
+            → (from : ℕ) → answers self.now from RetryEvent.Fault) };
 
     fn send(&self, socket: Self::Socket, from: u64) -> Option<(Self::Answer, Self::Conn)>
         ensures conn { IfSome result (λ both. Self.Conn.can_poll both.1) }
         ensures answer { IfSome result (λ both. Self.Answer.can_poll both.0) }
         ensures body { IfSome result (λ both. (o : _) → Self.Answer.gives both.0 o → IfSome o (λ r. Self.Body.can_poll r.body)) }
+        ensures none { IsNone result → answers self.now from RetryEvent.Fault }
+        ensures answered { IfSome result (λ both. (o : _) → Self.Answer.gives both.0 o
+            → MatchOption o (answers self.now from RetryEvent.Fault)
+                (λ r. answers self.now from (RetryEvent.Answer r.status r.accepts_ranges))) }
         ensures told { IfSome result (λ both. (o : _) → Self.Answer.gives both.0 o → IfSome o
             (λ r. class_of r.status from ≡ AnswerClass.Body → Within (bodies self.now from) (Self.Body.yields r.body))) };
 }

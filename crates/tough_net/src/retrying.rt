@@ -1,10 +1,9 @@
 //! The stream of a resource that is asked for again where a body breaks off.
-ghost use Rattle.std.specs.Prelude.{◌≡◌, [], IfSome, string_bytes};
-ghost use Rattle.futures.specs.Runs.{After, Within};
-ghost use Rattle.futures.specs.Task.{IsArmed, Keeps};
-ghost use Rattle.futures.specs.Poll.{OnPending, IfReady};
-ghost use Rattle.tough_net.specs.Resource.{Fetches, IsFetchFault, StandsWell, IsReadable, kind_of_http};
-ghost use Rattle.tough_net.specs.Retries.{started, turn};
+ghost use Rattle.std.specs.Prelude.{◌≡◌, ◌⊎◌, false, IfSome, string_bytes};
+ghost use Rattle.tough_net.specs.Resource.{Fetches, Happens, IsHttpFault, kind_of_http};
+ghost use Rattle.tough_net.specs.Errors.{IsMemory};
+ghost use Rattle.tough_net.specs.Retries.{started};
+ghost use Rattle.tough_net.specs.Retrying.{Acts, CanAct, Goes, IsReadable, StandsWell, Yields};
 
 use crate::{
     Cause, Exchange, HttpError, Requests, Response, RetryAction, RetryCore, RetryEvent,
@@ -43,7 +42,10 @@ impl<Q: Requests> Retrying<Q> {
         url: String,
         settings: RetrySettings,
     ) -> Option<Retrying<Q>>
-        ensures stands { IfSome result (λ m. StandsWell Q.bodies Q.Pause.can_poll Q.Connect.can_poll Q.Conn.can_poll Q.Answer.can_poll Q.Answer.gives Q.Body.can_poll Q.Body.yields m.requests m.core.progress.received m.state) }
+        ensures stands { IfSome result (λ m. StandsWell Q.bodies Q.answers
+            Q.Pause.can_poll Q.Connect.can_poll Q.Connect.gives Q.Conn.can_poll
+            Q.Answer.can_poll Q.Answer.gives Q.Body.can_poll Q.Body.yields
+            m.requests m.core.progress m.state) }
         ensures parts { IfSome result (λ m. (m.requests ≡ requests) × (m.url ≡ url)) }
         ensures fresh { IfSome result (λ m. (m.core.settings ≡ settings) × (m.core.progress ≡ started settings)) }
     {
@@ -59,7 +61,7 @@ impl<Q: Requests> Retrying<Q> {
     }
 
     fn fault(&self, error: HttpError) -> TransportError
-        ensures { IsFetchFault (string_bytes self.now.url) result }
+        ensures { IsMemory result ⊎ IsHttpFault (string_bytes self.now.url) error result }
     {
         let kind = http_kind(error);
         let cause = Cause::Http(error);
@@ -69,21 +71,18 @@ impl<Q: Requests> Retrying<Q> {
         }
     }
 
-    // Pauses before one more request, or ends.
+    // Pauses before one more request, or ends with an error.
     fn act(
         &mut self,
         action: RetryAction,
         cx: &mut Context<'_>,
     ) -> Poll<Option<Result<Bytes, TransportError>>>
-        ensures same { (self.new.requests ≡ self.old.requests) × (self.new.core ≡ self.old.core) × (self.new.url ≡ self.old.url) }
-        ensures stands { StandsWell Q.bodies Q.Pause.can_poll Q.Connect.can_poll Q.Conn.can_poll Q.Answer.can_poll Q.Answer.gives Q.Body.can_poll Q.Body.yields self.new.requests self.new.core.progress.received self.new.state }
-        ensures goes { OnPending result (Within (Fetches Q.bodies self.old.requests (string_bytes self.old.url) self.old.core.progress.received)
-            (Fetches Q.bodies self.new.requests (string_bytes self.new.url) self.new.core.progress.received)) }
-        ensures value { IfReady result (Fetches Q.bodies self.old.requests (string_bytes self.old.url) self.old.core.progress.received []) }
-        ensures rest { IfReady result (λ o. IfSome o (λ x. After (Fetches Q.bodies self.old.requests (string_bytes self.old.url) self.old.core.progress.received) x
-            (Fetches Q.bodies self.new.requests (string_bytes self.new.url) self.new.core.progress.received))) }
-        ensures armed { OnPending result (IsArmed cx.new) }
-        ensures kept { Keeps cx.old cx.new }
+        requires { CanAct action }
+        ensures requests { self.new.requests ≡ self.old.requests }
+        ensures core { self.new.core ≡ self.old.core }
+        ensures url { self.new.url ≡ self.old.url }
+        ensures acts { Acts Q.Pause.can_poll (string_bytes self.old.url) action self.new.state
+            cx.old cx.new result }
     {
         match action {
             RetryAction::Request => match self.requests.pause(self.core.pause()) {
@@ -93,10 +92,7 @@ impl<Q: Requests> Retrying<Q> {
                 }
                 None => self.fail(AllocError.into()),
             },
-            RetryAction::Read | RetryAction::Finish => {
-                self.state = State::Ended;
-                Poll::Ready(None)
-            }
+            RetryAction::Read | RetryAction::Finish => unreachable!(),
             RetryAction::Fail(error) => {
                 let error = self.fault(error);
                 self.fail(error)
@@ -106,7 +102,6 @@ impl<Q: Requests> Retrying<Q> {
 
     // Ends with an error.
     fn fail(&mut self, error: TransportError) -> Poll<Option<Result<Bytes, TransportError>>>
-        requires { IsFetchFault (string_bytes self.old.url) error }
         ensures same { self.new ≡ record self.old { state = State.Ended } }
         ensures ready { result ≡ Poll.Ready (Some (Err error)) }
     {
@@ -116,16 +111,19 @@ impl<Q: Requests> Retrying<Q> {
 
     // What a failed try leads to.
     fn retry(&mut self, cx: &mut Context<'_>) -> Poll<Option<Result<Bytes, TransportError>>>
-        ensures same { (self.new.requests ≡ self.old.requests) × (self.new.url ≡ self.old.url) }
-        ensures received { self.new.core.progress.received ≡ self.old.core.progress.received }
-        ensures stands { StandsWell Q.bodies Q.Pause.can_poll Q.Connect.can_poll Q.Conn.can_poll Q.Answer.can_poll Q.Answer.gives Q.Body.can_poll Q.Body.yields self.new.requests self.new.core.progress.received self.new.state }
-        ensures goes { OnPending result (Within (Fetches Q.bodies self.old.requests (string_bytes self.old.url) self.old.core.progress.received)
-            (Fetches Q.bodies self.new.requests (string_bytes self.new.url) self.new.core.progress.received)) }
-        ensures value { IfReady result (Fetches Q.bodies self.old.requests (string_bytes self.old.url) self.old.core.progress.received []) }
-        ensures rest { IfReady result (λ o. IfSome o (λ x. After (Fetches Q.bodies self.old.requests (string_bytes self.old.url) self.old.core.progress.received) x
-            (Fetches Q.bodies self.new.requests (string_bytes self.new.url) self.new.core.progress.received))) }
-        ensures armed { OnPending result (IsArmed cx.new) }
-        ensures kept { Keeps cx.old cx.new }
+        requires goes_on { self.old.core.progress.is_over ≡ false }
+        requires happens { Happens Q.bodies Q.answers self.old.requests
+            self.old.core.progress.received RetryEvent.Fault }
+        ensures { Goes
+            (Fetches Q.bodies Q.answers self.old.core.settings
+                self.old.requests (string_bytes self.old.url) self.old.core.progress)
+            (Yields Q.bodies Q.answers self.new.core.settings
+                self.new.requests (string_bytes self.new.url) self.new.core.progress self.new.state)
+            (StandsWell Q.bodies Q.answers
+            Q.Pause.can_poll Q.Connect.can_poll Q.Connect.gives Q.Conn.can_poll
+            Q.Answer.can_poll Q.Answer.gives Q.Body.can_poll Q.Body.yields
+                self.new.requests self.new.core.progress self.new.state)
+            cx.old cx.new result }
     {
         let action = self.core.next(RetryEvent::Fault);
         self.act(action, cx)
@@ -133,16 +131,17 @@ impl<Q: Requests> Retrying<Q> {
 
     // Connects, once a pause is over.
     fn connect(&mut self, cx: &mut Context<'_>) -> Poll<Option<Result<Bytes, TransportError>>>
-        ensures same { (self.new.requests ≡ self.old.requests) × (self.new.url ≡ self.old.url) }
-        ensures received { self.new.core.progress.received ≡ self.old.core.progress.received }
-        ensures stands { StandsWell Q.bodies Q.Pause.can_poll Q.Connect.can_poll Q.Conn.can_poll Q.Answer.can_poll Q.Answer.gives Q.Body.can_poll Q.Body.yields self.new.requests self.new.core.progress.received self.new.state }
-        ensures goes { OnPending result (Within (Fetches Q.bodies self.old.requests (string_bytes self.old.url) self.old.core.progress.received)
-            (Fetches Q.bodies self.new.requests (string_bytes self.new.url) self.new.core.progress.received)) }
-        ensures value { IfReady result (Fetches Q.bodies self.old.requests (string_bytes self.old.url) self.old.core.progress.received []) }
-        ensures rest { IfReady result (λ o. IfSome o (λ x. After (Fetches Q.bodies self.old.requests (string_bytes self.old.url) self.old.core.progress.received) x
-            (Fetches Q.bodies self.new.requests (string_bytes self.new.url) self.new.core.progress.received))) }
-        ensures armed { OnPending result (IsArmed cx.new) }
-        ensures kept { Keeps cx.old cx.new }
+        requires goes_on { self.old.core.progress.is_over ≡ false }
+        ensures { Goes
+            (Fetches Q.bodies Q.answers self.old.core.settings
+                self.old.requests (string_bytes self.old.url) self.old.core.progress)
+            (Yields Q.bodies Q.answers self.new.core.settings
+                self.new.requests (string_bytes self.new.url) self.new.core.progress self.new.state)
+            (StandsWell Q.bodies Q.answers
+            Q.Pause.can_poll Q.Connect.can_poll Q.Connect.gives Q.Conn.can_poll
+            Q.Answer.can_poll Q.Answer.gives Q.Body.can_poll Q.Body.yields
+                self.new.requests self.new.core.progress self.new.state)
+            cx.old cx.new result }
     {
         match self.requests.connect() {
             Some(connect) => {
@@ -159,16 +158,17 @@ impl<Q: Requests> Retrying<Q> {
         socket: Q::Socket,
         cx: &mut Context<'_>,
     ) -> Poll<Option<Result<Bytes, TransportError>>>
-        ensures same { (self.new.requests ≡ self.old.requests) × (self.new.url ≡ self.old.url) }
-        ensures received { self.new.core.progress.received ≡ self.old.core.progress.received }
-        ensures stands { StandsWell Q.bodies Q.Pause.can_poll Q.Connect.can_poll Q.Conn.can_poll Q.Answer.can_poll Q.Answer.gives Q.Body.can_poll Q.Body.yields self.new.requests self.new.core.progress.received self.new.state }
-        ensures goes { OnPending result (Within (Fetches Q.bodies self.old.requests (string_bytes self.old.url) self.old.core.progress.received)
-            (Fetches Q.bodies self.new.requests (string_bytes self.new.url) self.new.core.progress.received)) }
-        ensures value { IfReady result (Fetches Q.bodies self.old.requests (string_bytes self.old.url) self.old.core.progress.received []) }
-        ensures rest { IfReady result (λ o. IfSome o (λ x. After (Fetches Q.bodies self.old.requests (string_bytes self.old.url) self.old.core.progress.received) x
-            (Fetches Q.bodies self.new.requests (string_bytes self.new.url) self.new.core.progress.received))) }
-        ensures armed { OnPending result (IsArmed cx.new) }
-        ensures kept { Keeps cx.old cx.new }
+        requires goes_on { self.old.core.progress.is_over ≡ false }
+        ensures { Goes
+            (Fetches Q.bodies Q.answers self.old.core.settings
+                self.old.requests (string_bytes self.old.url) self.old.core.progress)
+            (Yields Q.bodies Q.answers self.new.core.settings
+                self.new.requests (string_bytes self.new.url) self.new.core.progress self.new.state)
+            (StandsWell Q.bodies Q.answers
+            Q.Pause.can_poll Q.Connect.can_poll Q.Connect.gives Q.Conn.can_poll
+            Q.Answer.can_poll Q.Answer.gives Q.Body.can_poll Q.Body.yields
+                self.new.requests self.new.core.progress self.new.state)
+            cx.old cx.new result }
     {
         match self.requests.send(socket, self.core.received()) {
             Some((body, conn)) => {
@@ -188,17 +188,19 @@ impl<Q: Requests> Retrying<Q> {
         cx: &mut Context<'_>,
     ) -> Poll<Option<Result<Bytes, TransportError>>>
         requires conn { IfSome conn Q.Conn.can_poll }
-        requires body { IsReadable Q.bodies Q.Body.can_poll Q.Body.yields self.old.requests self.old.core.progress.received response }
-        ensures same { (self.new.requests ≡ self.old.requests) × (self.new.url ≡ self.old.url) }
-        ensures received { self.new.core.progress.received ≡ self.old.core.progress.received }
-        ensures stands { StandsWell Q.bodies Q.Pause.can_poll Q.Connect.can_poll Q.Conn.can_poll Q.Answer.can_poll Q.Answer.gives Q.Body.can_poll Q.Body.yields self.new.requests self.new.core.progress.received self.new.state }
-        ensures goes { OnPending result (Within (Fetches Q.bodies self.old.requests (string_bytes self.old.url) self.old.core.progress.received)
-            (Fetches Q.bodies self.new.requests (string_bytes self.new.url) self.new.core.progress.received)) }
-        ensures value { IfReady result (Fetches Q.bodies self.old.requests (string_bytes self.old.url) self.old.core.progress.received []) }
-        ensures rest { IfReady result (λ o. IfSome o (λ x. After (Fetches Q.bodies self.old.requests (string_bytes self.old.url) self.old.core.progress.received) x
-            (Fetches Q.bodies self.new.requests (string_bytes self.new.url) self.new.core.progress.received))) }
-        ensures armed { OnPending result (IsArmed cx.new) }
-        ensures kept { Keeps cx.old cx.new }
+        requires body { IsReadable Q.bodies Q.answers Q.Body.can_poll Q.Body.yields
+            self.old.requests self.old.core.progress.received response }
+        requires goes_on { self.old.core.progress.is_over ≡ false }
+        ensures { Goes
+            (Fetches Q.bodies Q.answers self.old.core.settings
+                self.old.requests (string_bytes self.old.url) self.old.core.progress)
+            (Yields Q.bodies Q.answers self.new.core.settings
+                self.new.requests (string_bytes self.new.url) self.new.core.progress self.new.state)
+            (StandsWell Q.bodies Q.answers
+            Q.Pause.can_poll Q.Connect.can_poll Q.Connect.gives Q.Conn.can_poll
+            Q.Answer.can_poll Q.Answer.gives Q.Body.can_poll Q.Body.yields
+                self.new.requests self.new.core.progress self.new.state)
+            cx.old cx.new result }
     {
         let action = self.core.next(RetryEvent::Answer {
             status: response.status,
@@ -212,16 +214,24 @@ impl<Q: Requests> Retrying<Q> {
             self.act(action, cx)
         }
     }
-}
 
-impl<Q: Requests> Stream for Retrying<Q> {
-    type Item = Result<Bytes, TransportError>;
-
-    ghost can_poll = { λ m. StandsWell Q.bodies Q.Pause.can_poll Q.Connect.can_poll Q.Conn.can_poll Q.Answer.can_poll Q.Answer.gives Q.Body.can_poll Q.Body.yields m.requests m.core.progress.received m.state };
-
-    ghost yields = { λ m. Fetches Q.bodies m.requests (string_bytes m.url) m.core.progress.received };
-
-    fn poll_next(&mut self, cx: &mut Context<'_>) -> Poll<Option<Self::Item>> {
+    // Goes on with what is under way.
+    fn go_on(&mut self, cx: &mut Context<'_>) -> Poll<Option<Result<Bytes, TransportError>>>
+        requires { StandsWell Q.bodies Q.answers
+            Q.Pause.can_poll Q.Connect.can_poll Q.Connect.gives Q.Conn.can_poll
+            Q.Answer.can_poll Q.Answer.gives Q.Body.can_poll Q.Body.yields
+            self.old.requests self.old.core.progress self.old.state }
+        ensures { Goes
+            (Yields Q.bodies Q.answers self.old.core.settings
+                self.old.requests (string_bytes self.old.url) self.old.core.progress self.old.state)
+            (Yields Q.bodies Q.answers self.new.core.settings
+                self.new.requests (string_bytes self.new.url) self.new.core.progress self.new.state)
+            (StandsWell Q.bodies Q.answers
+            Q.Pause.can_poll Q.Connect.can_poll Q.Connect.gives Q.Conn.can_poll
+            Q.Answer.can_poll Q.Answer.gives Q.Body.can_poll Q.Body.yields
+                self.new.requests self.new.core.progress self.new.state)
+            cx.old cx.new result }
+    {
         match &mut self.state {
             State::Pausing(pause) => match pause.poll(cx) {
                 Poll::Pending => Poll::Pending,
@@ -260,6 +270,22 @@ impl<Q: Requests> Stream for Retrying<Q> {
             },
             State::Ended => Poll::Ready(None),
         }
+    }
+}
+
+impl<Q: Requests> Stream for Retrying<Q> {
+    type Item = Result<Bytes, TransportError>;
+
+    ghost can_poll = { λ m. StandsWell Q.bodies Q.answers
+            Q.Pause.can_poll Q.Connect.can_poll Q.Connect.gives Q.Conn.can_poll
+            Q.Answer.can_poll Q.Answer.gives Q.Body.can_poll Q.Body.yields
+            m.requests m.core.progress m.state };
+
+    ghost yields = { λ m. Yields Q.bodies Q.answers m.core.settings
+            m.requests (string_bytes m.url) m.core.progress m.state };
+
+    fn poll_next(&mut self, cx: &mut Context<'_>) -> Poll<Option<Self::Item>> {
+        self.go_on(cx)
     }
 }
 
