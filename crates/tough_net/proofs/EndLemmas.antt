@@ -1,5 +1,5 @@
 -- Where a fetch ends.
-use Rattle.std.specs.Prelude.{◌≡◌, ℕ, ◌+◌, List, [], ◌∷◌, ◌++◌, length, map, None, Ok}
+use Rattle.std.specs.Prelude.{◌≡◌, ℕ, ◌+◌, List, [], ◌∷◌, length, map, None, Ok}
 use Rattle.std.proofs.Common.{arith, refl, ◌∙◌, length-append}
 use Rattle.futures.specs.Runs.{Runs}
 use Rattle.tough_net.specs.declared.retry_events.RetryEvent.{RetryEvent}

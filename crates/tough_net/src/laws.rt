@@ -44,7 +44,7 @@ pub fn requests_are_few(settings: RetrySettings)
 pub fn ends_where_a_body_did<Q: Requests>(stream: &Retrying<Q>)
     ensures { (pieces : List (List ℕ))
         → Fetches Q.bodies Q.answers stream.now.core.settings stream.now.requests
-            (string_bytes stream.now.url) stream.now.core.progress (map Ok pieces) None
+        (string_bytes stream.now.url) stream.now.core.progress (map Ok pieces) None
         → Gave Q.bodies stream.now.requests
-            (stream.now.core.progress.received + length (joined_pieces pieces)) None }
+        (stream.now.core.progress.received + length (joined_pieces pieces)) None }
 {}

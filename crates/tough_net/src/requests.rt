@@ -58,7 +58,7 @@ pub trait Requests: Drop {
         ensures none { IsNone result → answers self.now from RetryEvent.Fault }
         ensures answered { IfSome result (λ both. (o : _) → Self.Answer.gives both.0 o
             → MatchOption o (answers self.now from RetryEvent.Fault)
-                (λ r. answers self.now from (RetryEvent.Answer r.status r.accepts_ranges))) }
+            (λ r. answers self.now from (RetryEvent.Answer r.status r.accepts_ranges))) }
         ensures told { IfSome result (λ both. (o : _) → Self.Answer.gives both.0 o → IfSome o
             (λ r. class_of r.status from ≡ AnswerClass.Body → Within (bodies self.now from) (Self.Body.yields r.body))) };
 }
