@@ -35,12 +35,15 @@ pub fn collected_is_file()
         → (v.items ≡ bytes) × Fits bounds bytes }
 {}
 
-/// Whatever events a fetch meets, no more than `tries` requests follow its first, after the pauses of the rule.
+/// Whatever events a fetch meets, no more than `tries` requests follow its first, after the pauses
+/// of the rule.
 pub fn requests_are_few(settings: RetrySettings)
-    ensures { (run : List _) → Met settings (started settings) run → FewAndPaced settings (pauses_of run) }
+    ensures { (run : List _) → Met settings (started settings) run
+        → FewAndPaced settings (pauses_of run) }
 {}
 
-/// A stream that asks again ends without an error only where a body ended: at the byte up to which it has handed on.
+/// A stream that asks again ends without an error only where a body ended: at the byte up to which
+/// it has handed on.
 pub fn ends_where_a_body_did<Q: Requests>(stream: &Retrying<Q>)
     ensures { (pieces : List (List ℕ))
         → Fetches Q.bodies Q.answers stream.now.core.settings stream.now.requests

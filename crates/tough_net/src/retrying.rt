@@ -47,7 +47,8 @@ impl<Q: Requests> Retrying<Q> {
             Q.Answer.can_poll Q.Answer.gives Q.Body.can_poll Q.Body.yields
             m.requests m.core.progress m.state) }
         ensures parts { IfSome result (λ m. (m.requests ≡ requests) × (m.url ≡ url)) }
-        ensures fresh { IfSome result (λ m. (m.core.settings ≡ settings) × (m.core.progress ≡ started settings)) }
+        ensures fresh { IfSome result (λ m. (m.core.settings ≡ settings)
+            × (m.core.progress ≡ started settings)) }
     {
         let core = RetryCore::new(settings);
         let pause = requests.pause(core.pause())?;
