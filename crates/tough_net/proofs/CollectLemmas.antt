@@ -1,5 +1,5 @@
 -- How what was collected grows at its front.
-use Rattle.std.specs.Prelude.{◌≡◌, ℕ, ◌≤◌, List, [], ◌∷◌, ◌++◌, length, map, Result, Ok, Err, Option, Some, None, Vec, IfOk, IfErr, ◌⊎◌}
+use Rattle.std.specs.Prelude.{◌≡◌, ℕ, ◌≤◌, List, [], ◌∷◌, ◌++◌, length, Result, Ok, Err, Option, Some, None, Vec, IfOk, IfErr, ◌⊎◌}
 use Rattle.std.specs.declared.alloc.Global.{Global}
 use Rattle.std.proofs.Common.{append_assoc, append-nil, inl, inr, ◌∙◌, sym}
 use Rattle.futures.specs.Runs.{Runs, After, Within}

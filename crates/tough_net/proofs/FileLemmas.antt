@@ -1,10 +1,9 @@
 -- What is collected of a file in memory is the file.
-use Rattle.std.specs.Prelude.{◌≡◌, ℕ, List, [], ◌∷◌, ◌++◌, map, Option, Some, None, Result, Ok, Err, Vec, ◌⊎◌}
+use Rattle.std.specs.Prelude.{◌≡◌, ℕ, List, [], ◌∷◌, ◌++◌, map, Some, None, Ok, Err, Vec, ◌⊎◌}
 use Rattle.std.specs.declared.alloc.Global.{Global}
-use Rattle.std.proofs.Common.{append_assoc, append-nil, inl, inr, ◌∙◌, sym, ap}
+use Rattle.std.proofs.Common.{append_assoc, inl, inr, ◌∙◌, sym, ap}
 use Rattle.tough_net.specs.declared.error.TransportError.{TransportError}
-use Rattle.tough_net.specs.Errors.{IsMemory, IsExceeded}
-use Rattle.tough_net.specs.Items.{Item}
+use Rattle.tough_net.specs.Errors.{IsMemory}
 use Rattle.tough_net.specs.Joining.{joined_pieces}
 use Rattle.tough_net.specs.Collecting.{Bounds, Fits, Misfits, Exceeds, Collects}
 use Rattle.tough_net.specs.MemoryFiles.{Cuts, CutsFile}

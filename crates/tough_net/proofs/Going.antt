@@ -1,9 +1,8 @@
 -- What each event of a fetch leads to, and what a poll owes after it.
-use Rattle.std.specs.Prelude.{◌≡◌, ◌≢◌, ℕ, ◌+◌, ◌^◌, ◌<◌, ◌≤◌, Bool, true, false, ◌&&◌, ◌||◌, ◌==◌, nat_lt, if◌then◌else◌, List, [], ◌∷◌, ◌++◌, drop, length, Option, Some, None, Ok, Err, ◌⊎◌}
-use Rattle.std.proofs.Common.{arith, inl, inr, refl, rules, sym, ◌∙◌, ap, subst}
+use Rattle.std.specs.Prelude.{◌≡◌, ◌≢◌, ℕ, ◌≤◌, Bool, true, false, ◌&&◌, ◌||◌, ◌==◌, nat_lt, if◌then◌else◌, List, [], length, Option, Some, None, Ok, Err, ◌⊎◌}
+use Rattle.std.proofs.Common.{inl, inr, refl, rules, sym, ◌∙◌, ap, subst}
 use Rattle.std.proofs.lemmas.Bool.{and_cases, or_parts, ltb-false, eqb-false, cond-false}
-use Rattle.futures.specs.Runs.{Runs, After, Within, Ends}
-use Rattle.futures.specs.Poll.{OnPending, IfReady}
+use Rattle.futures.specs.Runs.{Runs, After, Within}
 use Rattle.futures.specs.Task.{IsArmed, Keeps}
 use Rattle.futures.specs.declared.task.Poll.{Poll}
 use Rattle.futures.specs.declared.task.Poll.TheVariants.{Ready, Pending}
@@ -20,10 +19,10 @@ use Rattle.tough_net.specs.declared.retry_events.RetryAction.TheVariants.{Reques
 use Rattle.tough_net.specs.declared.retry_events.RetrySettings.{RetrySettings}
 use Rattle.tough_net.specs.declared.retrying.State.{State}
 use Rattle.tough_net.specs.declared.retrying.State.TheVariants.{Pausing, Ended}
-use Rattle.tough_net.specs.Items.{Item, joined, last_bytes, all_bytes}
+use Rattle.tough_net.specs.Items.{Item}
 use Rattle.tough_net.specs.Retries.{Progress, Turn, class_of, retried, answered, failed, turned, turn}
-use Rattle.tough_net.specs.Resource.{Continues, Gave, Happens, IsAnswered, WasSo, IsFetchFault, Leads, Follows, Tells, Fetches}
-use Rattle.tough_net.specs.Retrying.{Goes, Acts, EndsBy, StandsWell, Yields, IsReadable}
+use Rattle.tough_net.specs.Resource.{Gave, Happens, IsAnswered, WasSo, IsFetchFault, Fetches}
+use Rattle.tough_net.specs.Retrying.{Goes, Acts, EndsBy, StandsWell, Yields}
 use Rattle.tough_net.specs.declared.requests.Response.{Response}
 use Rattle.tough_net.proofs.ResourceLemmas.{Fetches_fault, Fetches-After_fault, Fetches-Within}
 
@@ -174,18 +173,18 @@ module _ {Q : Type 0} (bodies : Q → ℕ → Runs Item) (answers : Q → ℕ �
         → ((told : HttpError) → (turn s p event).action ≡ Fail told → WasSo bodies answers s q p told)
         → ((turn s p event).action ≡ Request → Happens bodies answers q p.received event × ((turn s p event).progress.received ≡ p.received))
         → Goes (Fetches bodies answers s q url p) (Yields bodies answers s q url (turn s p event).progress state)
-            (StandsWell bodies answers can_pause can_connect connects can_run can_ask gives can_read yields q (turn s p event).progress state) old new result
+        (StandsWell bodies answers can_pause can_connect connects can_run can_ask gives can_read yields q (turn s p event).progress state) old new result
     Goes_turned event state old new result on acts was asks =
         Goes_acts (Fetches bodies answers s q url p) (Yields bodies answers s q url (turn s p event).progress)
         (StandsWell bodies answers can_pause can_connect connects can_run can_ask gives can_read yields q (turn s p event).progress)
         can_pause url (turn s p event).action state old new result acts tt
         (λ e ends.
-            let fault = is_fault (turn s p event).action url e was ends in
-            (Fetches_fault bodies answers s q url p e fault, Fetches-After_fault bodies answers s q url p e fault))
+        let fault = is_fault (turn s p event).action url e was ends in
+        (Fetches_fault bodies answers s q url p e fault, Fetches-After_fault bodies answers s q url p e fault))
         (λ is pause can.
-            let more = asks is in
-            let still = goes_on_over event Request on refl is in
-            ((still, can), Fetches-Within bodies answers s q url p event more.0 still more.1))
+        let more = asks is in
+        let still = goes_on_over event Request on refl is in
+        ((still, can), Fetches-Within bodies answers s q url p event more.0 still more.1))
 
 -- what a poll owes that comes to nothing yet, or whose answer is another's after it
 pub Goes_pending : {before after : Runs Item} {stands : Type 0} {old new : Context} {result : Poll (Option Item)} → result ≡ Pending → stands → Within before after

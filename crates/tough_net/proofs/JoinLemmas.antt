@@ -1,5 +1,5 @@
 -- How what was joined grows at its front.
-use Rattle.std.specs.Prelude.{◌≡◌, ℕ, List, [], ◌∷◌, ◌++◌, map, Result, Ok, Err, Some, None, Vec}
+use Rattle.std.specs.Prelude.{◌≡◌, ℕ, List, [], ◌∷◌, ◌++◌, Result, Ok, Err, None, Vec}
 use Rattle.std.specs.declared.alloc.Global.{Global}
 use Rattle.std.proofs.Common.{append_assoc, append-nil, inl, inr, ◌∙◌, sym}
 use Rattle.futures.specs.Runs.{Runs, After, Within}

@@ -1,5 +1,6 @@
 pub mod CheckLemmas
 pub mod CollectLemmas
+pub mod EndLemmas
 pub mod FileLemmas
 pub mod Going
 pub mod JoinLemmas

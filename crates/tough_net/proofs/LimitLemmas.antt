@@ -1,10 +1,10 @@
 -- What a limit hands on is never more.
-use Rattle.std.specs.Prelude.{◌≡◌, ℕ, ◌+◌, ◌-◌, ◌^◌, ◌<◌, ◌≤◌, min, List, [], ◌∷◌, ◌++◌, length, Option, Some, None, Ok, Err, IsErrAnd, IsSomeAnd, MatchOption, ◌⊎◌}
+use Rattle.std.specs.Prelude.{◌≡◌, ℕ, ◌+◌, ◌-◌, ◌^◌, ◌<◌, ◌≤◌, List, [], ◌∷◌, length, Option, Some, None, Ok, Err, IsErrAnd, IsSomeAnd, MatchOption, ◌⊎◌}
 use Rattle.std.proofs.Common.{arith, inl, inr, length-append, refl}
 use Rattle.std.proofs.lemmas.Bool.{cases_lt}
-use Rattle.futures.specs.Runs.{Runs, Maps, Turns, seconds}
+use Rattle.futures.specs.Runs.{Runs, Turns, seconds}
 use Rattle.tough_net.specs.Items.{Item, bytes_of, joined, all_bytes, last_bytes}
-use Rattle.tough_net.specs.Limiting.{Limit, Limits, LimitTurn, size_after}
+use Rattle.tough_net.specs.Limiting.{Limit, Limits, LimitTurn}
 
 module _ (limit : Limit) (small : limit.max < 2 ^ 64 - 1) where
   -- what one item adds

@@ -3,16 +3,13 @@ use Rattle.std.specs.Prelude.{◌≡◌, ℕ, ◌+◌, ◌^◌, ◌<◌, ◌≤�
 use Rattle.std.proofs.Common.{arith, inl, inr, refl, rules}
 use Rattle.std.proofs.lemmas.Bool.{and_parts, cond_both, ltb-true}
 use Rattle.std.proofs.lemmas.Bool.Decides.{nat_tests}
-use Rattle.tough_net.specs.declared.error.HttpError.{HttpError}
-use Rattle.tough_net.specs.declared.error.HttpError.TheVariants.{FetchFatal, FetchNoMoreRetries}
 use Rattle.tough_net.specs.declared.retry_events.AnswerClass.{AnswerClass}
 use Rattle.tough_net.specs.declared.retry_events.AnswerClass.TheVariants.{Body, Missing, Refused, Unready}
 use Rattle.tough_net.specs.declared.retry_events.RetryEvent.{RetryEvent}
 use Rattle.tough_net.specs.declared.retry_events.RetryEvent.TheVariants.{Fault, Answer, Piece, End}
-use Rattle.tough_net.specs.declared.retry_events.RetryAction.{RetryAction}
-use Rattle.tough_net.specs.declared.retry_events.RetryAction.TheVariants.{Request, Read, Finish, Fail}
+use Rattle.tough_net.specs.declared.retry_events.RetryAction.TheVariants.{Request}
 use Rattle.tough_net.specs.declared.retry_events.RetrySettings.{RetrySettings}
-use Rattle.tough_net.specs.Retries.{Progress, Turn, class_of, next_pause, started, retried, answered, failed, turned, turn}
+use Rattle.tough_net.specs.Retries.{Progress, Turn, class_of, next_pause, started, retried, answered, turned, turn}
 use Rattle.tough_net.specs.Pacing.{with_pause, pauses_of, Met, ArePaced, FewAndPaced}
 
 module _ (s : RetrySettings) where
@@ -67,15 +64,15 @@ module _ (s : RetrySettings) where
       let either : Either p first.1 = rw met.0 (either_turn p first.0) in
       elim either [
         | inl asks ↦
-          let more = asks.1 in
-          let left = asks.2 in
-          let rest = few_from first.1.progress later (omega arith) met.1 in
-          let count = rest.0 in
-          let paced : ArePaced s (next_pause s first.1.progress.pause) (pauses_of later) = rw (past_first first.1.progress.retries p.retries first.1.progress.pause more) at rest.1 in
-          rw asks.0 (omega arith, (asks.3, rw asks.3 at paced))
+            let more = asks.1 in
+            let left = asks.2 in
+            let rest = few_from first.1.progress later (omega arith) met.1 in
+            let count = rest.0 in
+            let paced : ArePaced s (next_pause s first.1.progress.pause) (pauses_of later) = rw (past_first first.1.progress.retries p.retries first.1.progress.pause more) at rest.1 in
+            rw asks.0 (omega arith, (asks.3, rw asks.3 at paced))
         | inr waits ↦
-          let rest = few_from first.1.progress later (rw waits.1 within) met.1 in
-          rw (waits.0 first.1.progress.pause (pauses_of later)) (rw (waits.1, waits.2) at rest)
+            let rest = few_from first.1.progress later (rw waits.1 within) met.1 in
+            rw (waits.0 first.1.progress.pause (pauses_of later)) (rw (waits.1, waits.2) at rest)
       ]
 
   pub few_and_paced : (run : List (RetryEvent × Turn)) → Met s (started s) run → FewAndPaced s (pauses_of run)

@@ -1,6 +1,6 @@
 -- How a beginning of a resource grows.
 use Rattle.std.specs.Prelude.{◌≡◌, ℕ, ◌+◌, false, List, [], ◌∷◌, ◌++◌, drop, length, Option, Some, None, Ok, Err}
-use Rattle.std.proofs.Common.{arith, rules, refl, sym, ◌∙◌, ap, append_assoc, append-nil, length-append}
+use Rattle.std.proofs.Common.{arith, refl, sym, ◌∙◌, ap, append_assoc, append-nil, length-append}
 use Rattle.std.proofs.lemmas.List.{drop-drop}
 use Rattle.std.proofs.Math.Seq.{drop-append_seam}
 use Rattle.futures.specs.Runs.{Runs, After, Within, Ends}
@@ -9,7 +9,7 @@ use Rattle.tough_net.specs.declared.retry_events.RetryEvent.{RetryEvent}
 use Rattle.tough_net.specs.declared.retry_events.RetrySettings.{RetrySettings}
 use Rattle.tough_net.specs.Items.{Item, bytes_of, joined, last_bytes, all_bytes}
 use Rattle.tough_net.specs.Retries.{Progress, turn}
-use Rattle.tough_net.specs.Resource.{Continues, Gave, Happens, IsFetchFault, IsHonest, IsBeginning, Follows, Fetches}
+use Rattle.tough_net.specs.Resource.{Continues, Gave, Happens, IsFetchFault, Fetches}
 use Rattle.tough_net.specs.Retrying.{Reads}
 
 -- where p begins what follows byte n, what follows p is what comes n and the length of p later

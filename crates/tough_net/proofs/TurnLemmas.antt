@@ -3,7 +3,6 @@ use Rattle.std.specs.Prelude.{◌≡◌, ℕ, ◌+◌, Bool, true, false, if◌t
 use Rattle.std.proofs.Common.{refl, ap, ◌∙◌}
 use Rattle.std.proofs.lemmas.Bool.{cond-false}
 use Rattle.tough_net.specs.declared.error.HttpError.{HttpError}
-use Rattle.tough_net.specs.declared.error.HttpError.TheVariants.{FetchFatal}
 use Rattle.tough_net.specs.declared.retry_events.RetrySettings.{RetrySettings}
 use Rattle.tough_net.specs.declared.retry_events.RetryEvent.TheVariants.{Fault, Answer, Piece}
 use Rattle.tough_net.specs.declared.retry_events.RetryAction.TheVariants.{Read, Finish, Fail}

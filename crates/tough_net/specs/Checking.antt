@@ -1,5 +1,5 @@
 -- A check of the digest of a stream.
-use Rattle.std.specs.Prelude.{◌≡◌, ◌≢◌, ℕ, List, ◌++◌, All, Result, Ok, Err, Option, Some, None, IsErrAnd, IsSomeAnd, MatchOption, ◌⊎◌, string_bytes}
+use Rattle.std.specs.Prelude.{◌≡◌, ◌≢◌, ℕ, List, ◌++◌, All, Option, Some, None, IsErrAnd, IsSomeAnd, MatchOption, ◌⊎◌, string_bytes}
 use Rattle.sha2.specs.declared.Sha256.{Sha256}
 use Rattle.sha2.specs.Hashers.{Holds256}
 use Rattle.sha2.specs.Sha256.{sha256}

@@ -1,5 +1,5 @@
 -- The whole of what a URL serves, bounded and checked.
-use Rattle.std.specs.Prelude.{◌≡◌, ◌≢◌, ℕ, ◌≤◌, ◌<◌, List, [], ◌++◌, length, map, option_map, Option, Some, None, Result, Ok, Err, Vec, IfSome, IsSomeAnd, ◌⊎◌, string_bytes}
+use Rattle.std.specs.Prelude.{◌≡◌, ◌≢◌, ℕ, ◌≤◌, ◌<◌, List, ◌++◌, length, map, option_map, Option, Some, None, Result, Ok, Err, Vec, IfSome, IsSomeAnd, ◌⊎◌, string_bytes}
 use Rattle.std.specs.declared.alloc.Global.{Global}
 use Rattle.sha2.specs.Sha256.{sha256}
 use Rattle.futures.specs.Runs.{Runs}

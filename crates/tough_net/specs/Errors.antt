@@ -1,5 +1,5 @@
 -- What transport errors say.
-use Rattle.std.specs.Prelude.{◌≡◌, ℕ, Option, Some, None, List, [], ◌⊎◌, string_bytes, IsSomeAnd}
+use Rattle.std.specs.Prelude.{◌≡◌, ℕ, Option, None, List, [], ◌⊎◌, string_bytes, IsSomeAnd}
 use Rattle.std.specs.Option.{option_map_or}
 use Rattle.hex.specs.Hex.{encode_lower}
 use Rattle.tough_net.specs.declared.error.TransportError.{TransportError}

@@ -1,9 +1,9 @@
 -- What a file system answers to URLs. What its files hold isn't known.
-use Rattle.std.specs.Prelude.{◌≡◌, ◌≢◌, ℕ, List, codes, All, Option, Result, IfErr, IfSome, ◌⊎◌, string_bytes}
+use Rattle.std.specs.Prelude.{◌≡◌, ℕ, List, codes, All, IfErr, IfSome, ◌⊎◌, string_bytes}
 use Rattle.futures.specs.Runs.{Runs}
 use Rattle.tough_net.specs.declared.error.TransportError.{TransportError}
 use Rattle.tough_net.specs.declared.error.TransportErrorKind.TheVariants.{UnsupportedUrlScheme, FileNotFound, Other}
-use Rattle.tough_net.specs.Errors.{IsMemory, error_kind, error_url, error_cause}
+use Rattle.tough_net.specs.Errors.{IsMemory, error_kind, error_url}
 use Rattle.tough_net.specs.Items.{Item}
 use Rattle.tough_net.specs.declared.filesystem.FileStream.{FileStream}
 use Rattle.tough_net.specs.declared.filesystem.FilesystemTransport.{FilesystemTransport}

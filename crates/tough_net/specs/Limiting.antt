@@ -1,5 +1,5 @@
 -- A limit on the bytes of a stream.
-use Rattle.std.specs.Prelude.{◌≡◌, ℕ, ◌+◌, ◌≤◌, ◌<◌, ◌-◌, ◌^◌, min, List, length, Result, Ok, Err, IsErrAnd, string_bytes}
+use Rattle.std.specs.Prelude.{◌≡◌, ℕ, ◌+◌, ◌≤◌, ◌<◌, ◌-◌, ◌^◌, min, List, length, Ok, Err, IsErrAnd, string_bytes}
 use Rattle.futures.specs.Runs.{Runs, Maps}
 use Rattle.tough_net.specs.Errors.{IsExceeded}
 use Rattle.tough_net.specs.Items.{Item}

@@ -1,5 +1,5 @@
 -- When a resource that is fetched over HTTP is asked for again.
-use Rattle.std.specs.Prelude.{◌≡◌, ℕ, ◌+◌, ◌-◌, ◌*◌, ◌/◌, ◌^◌, ◌<◌, ◌≤◌, Bool, true, false, ◌&&◌, ◌||◌, ◌==◌, nat_lt, nat_le, if◌then◌else◌}
+use Rattle.std.specs.Prelude.{ℕ, ◌+◌, ◌*◌, ◌/◌, ◌^◌, Bool, true, false, ◌&&◌, ◌||◌, ◌==◌, nat_lt, nat_le, if◌then◌else◌}
 use Rattle.std.specs.Duration.{as_nanos}
 use Rattle.tough_net.specs.declared.error.HttpError.{HttpError}
 use Rattle.tough_net.specs.declared.error.HttpError.TheVariants.{FetchFileNotFound, FetchFatal, FetchNoMoreRetries}

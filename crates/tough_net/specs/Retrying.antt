@@ -1,5 +1,5 @@
 -- The stream of a resource that is asked for again.
-use Rattle.std.specs.Prelude.{◌≡◌, ℕ, ◌+◌, false, List, [], ◌++◌, length, Option, Some, None, Result, Ok, Err, IfSome, OnSome, IsNone, MatchOption, ⊤, ◌⊎◌}
+use Rattle.std.specs.Prelude.{◌≡◌, ℕ, ◌+◌, false, List, [], ◌++◌, length, Option, Some, Err, IfSome, OnSome, IsNone, MatchOption, ⊤, ◌⊎◌}
 use Rattle.futures.specs.Poll.{OnPending, IfReady}
 use Rattle.futures.specs.Runs.{Runs, After, Within, Ends}
 use Rattle.futures.specs.Task.{IsArmed, Keeps}

@@ -1,15 +1,17 @@
 //! What the streams promise as a whole.
-ghost use Rattle.std.specs.Prelude.{◌≡◌, ◌≤◌, ◌<◌, ◌+◌, ◌-◌, ◌^◌, List, ℕ, [], Some, None, Ok, length};
+ghost use Rattle.std.specs.Prelude.{◌≡◌, ◌≤◌, ◌<◌, ◌+◌, ◌-◌, ◌^◌, List, ℕ, [], Some, None, Ok, length, map, string_bytes};
 ghost use Rattle.sha2.specs.Sha256.{sha256};
 ghost use Rattle.tough_net.specs.Checking.{Checked, checked, expected_of, failure_of, HasTaken};
 ghost use Rattle.tough_net.specs.Collecting.{Bounds, Collects, Fits};
 ghost use Rattle.tough_net.specs.MemoryFiles.{CutsFile};
 ghost use Rattle.tough_net.specs.Items.{all_bytes, joined};
+ghost use Rattle.tough_net.specs.Joining.{joined_pieces};
 ghost use Rattle.tough_net.specs.Limiting.{Limits, limit_of, limited};
 ghost use Rattle.tough_net.specs.Pacing.{FewAndPaced, Met, pauses_of};
+ghost use Rattle.tough_net.specs.Resource.{Fetches, Gave};
 ghost use Rattle.tough_net.specs.Retries.{started};
 
-use crate::{DigestCheck, MaxSize, RetrySettings, TransportError};
+use crate::{DigestCheck, MaxSize, Requests, RetrySettings, Retrying, TransportError};
 use bytes::Bytes;
 use futures::Stream;
 
@@ -33,7 +35,19 @@ pub fn collected_is_file()
         → (v.items ≡ bytes) × Fits bounds bytes }
 {}
 
-/// Whatever events a fetch meets, no more than `tries` requests follow its first, after the pauses of the rule.
+/// Whatever events a fetch meets, no more than `tries` requests follow its first, after the pauses
+/// of the rule.
 pub fn requests_are_few(settings: RetrySettings)
-    ensures { (run : List _) → Met settings (started settings) run → FewAndPaced settings (pauses_of run) }
+    ensures { (run : List _) → Met settings (started settings) run
+        → FewAndPaced settings (pauses_of run) }
+{}
+
+/// A stream that asks again ends without an error only where a body ended: at the byte up to which
+/// it has handed on.
+pub fn ends_where_a_body_did<Q: Requests>(stream: &Retrying<Q>)
+    ensures { (pieces : List (List ℕ))
+        → Fetches Q.bodies Q.answers stream.now.core.settings stream.now.requests
+        (string_bytes stream.now.url) stream.now.core.progress (map Ok pieces) None
+        → Gave Q.bodies stream.now.requests
+        (stream.now.core.progress.received + length (joined_pieces pieces)) None }
 {}

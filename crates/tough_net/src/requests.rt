@@ -39,7 +39,8 @@ pub trait Requests: Drop {
     // status code says that it has what was asked for.
     ghost bodies: { Self → ℕ → List Piece → Option Piece → Type 0 };
 
-    // Holds of a byte and an event, where a request from that byte may come to it: an answer, or a fault before one.
+    // Holds of a byte and an event, where a request from that byte may come to it: an answer, or a
+    // fault before one.
     ghost answers: { Self → ℕ → Event → Type 0 };
 
     fn pause(&self, pause: Duration) -> Option<Self::Pause>
@@ -54,11 +55,13 @@ pub trait Requests: Drop {
     fn send(&self, socket: Self::Socket, from: u64) -> Option<(Self::Answer, Self::Conn)>
         ensures conn { IfSome result (λ both. Self.Conn.can_poll both.1) }
         ensures answer { IfSome result (λ both. Self.Answer.can_poll both.0) }
-        ensures body { IfSome result (λ both. (o : _) → Self.Answer.gives both.0 o → IfSome o (λ r. Self.Body.can_poll r.body)) }
+        ensures body { IfSome result (λ both. (o : _) → Self.Answer.gives both.0 o
+            → IfSome o (λ r. Self.Body.can_poll r.body)) }
         ensures none { IsNone result → answers self.now from RetryEvent.Fault }
         ensures answered { IfSome result (λ both. (o : _) → Self.Answer.gives both.0 o
             → MatchOption o (answers self.now from RetryEvent.Fault)
-                (λ r. answers self.now from (RetryEvent.Answer r.status r.accepts_ranges))) }
+            (λ r. answers self.now from (RetryEvent.Answer r.status r.accepts_ranges))) }
         ensures told { IfSome result (λ both. (o : _) → Self.Answer.gives both.0 o → IfSome o
-            (λ r. class_of r.status from ≡ AnswerClass.Body → Within (bodies self.now from) (Self.Body.yields r.body))) };
+            (λ r. class_of r.status from ≡ AnswerClass.Body
+            → Within (bodies self.now from) (Self.Body.yields r.body))) };
 }

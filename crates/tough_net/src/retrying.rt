@@ -47,7 +47,8 @@ impl<Q: Requests> Retrying<Q> {
             Q.Answer.can_poll Q.Answer.gives Q.Body.can_poll Q.Body.yields
             m.requests m.core.progress m.state) }
         ensures parts { IfSome result (λ m. (m.requests ≡ requests) × (m.url ≡ url)) }
-        ensures fresh { IfSome result (λ m. (m.core.settings ≡ settings) × (m.core.progress ≡ started settings)) }
+        ensures fresh { IfSome result (λ m. (m.core.settings ≡ settings)
+            × (m.core.progress ≡ started settings)) }
     {
         let core = RetryCore::new(settings);
         let pause = requests.pause(core.pause())?;
@@ -116,13 +117,13 @@ impl<Q: Requests> Retrying<Q> {
             self.old.core.progress.received RetryEvent.Fault }
         ensures { Goes
             (Fetches Q.bodies Q.answers self.old.core.settings
-                self.old.requests (string_bytes self.old.url) self.old.core.progress)
+            self.old.requests (string_bytes self.old.url) self.old.core.progress)
             (Yields Q.bodies Q.answers self.new.core.settings
-                self.new.requests (string_bytes self.new.url) self.new.core.progress self.new.state)
+            self.new.requests (string_bytes self.new.url) self.new.core.progress self.new.state)
             (StandsWell Q.bodies Q.answers
             Q.Pause.can_poll Q.Connect.can_poll Q.Connect.gives Q.Conn.can_poll
             Q.Answer.can_poll Q.Answer.gives Q.Body.can_poll Q.Body.yields
-                self.new.requests self.new.core.progress self.new.state)
+            self.new.requests self.new.core.progress self.new.state)
             cx.old cx.new result }
     {
         let action = self.core.next(RetryEvent::Fault);
@@ -134,13 +135,13 @@ impl<Q: Requests> Retrying<Q> {
         requires goes_on { self.old.core.progress.is_over ≡ false }
         ensures { Goes
             (Fetches Q.bodies Q.answers self.old.core.settings
-                self.old.requests (string_bytes self.old.url) self.old.core.progress)
+            self.old.requests (string_bytes self.old.url) self.old.core.progress)
             (Yields Q.bodies Q.answers self.new.core.settings
-                self.new.requests (string_bytes self.new.url) self.new.core.progress self.new.state)
+            self.new.requests (string_bytes self.new.url) self.new.core.progress self.new.state)
             (StandsWell Q.bodies Q.answers
             Q.Pause.can_poll Q.Connect.can_poll Q.Connect.gives Q.Conn.can_poll
             Q.Answer.can_poll Q.Answer.gives Q.Body.can_poll Q.Body.yields
-                self.new.requests self.new.core.progress self.new.state)
+            self.new.requests self.new.core.progress self.new.state)
             cx.old cx.new result }
     {
         match self.requests.connect() {
@@ -161,13 +162,13 @@ impl<Q: Requests> Retrying<Q> {
         requires goes_on { self.old.core.progress.is_over ≡ false }
         ensures { Goes
             (Fetches Q.bodies Q.answers self.old.core.settings
-                self.old.requests (string_bytes self.old.url) self.old.core.progress)
+            self.old.requests (string_bytes self.old.url) self.old.core.progress)
             (Yields Q.bodies Q.answers self.new.core.settings
-                self.new.requests (string_bytes self.new.url) self.new.core.progress self.new.state)
+            self.new.requests (string_bytes self.new.url) self.new.core.progress self.new.state)
             (StandsWell Q.bodies Q.answers
             Q.Pause.can_poll Q.Connect.can_poll Q.Connect.gives Q.Conn.can_poll
             Q.Answer.can_poll Q.Answer.gives Q.Body.can_poll Q.Body.yields
-                self.new.requests self.new.core.progress self.new.state)
+            self.new.requests self.new.core.progress self.new.state)
             cx.old cx.new result }
     {
         match self.requests.send(socket, self.core.received()) {
@@ -193,13 +194,13 @@ impl<Q: Requests> Retrying<Q> {
         requires goes_on { self.old.core.progress.is_over ≡ false }
         ensures { Goes
             (Fetches Q.bodies Q.answers self.old.core.settings
-                self.old.requests (string_bytes self.old.url) self.old.core.progress)
+            self.old.requests (string_bytes self.old.url) self.old.core.progress)
             (Yields Q.bodies Q.answers self.new.core.settings
-                self.new.requests (string_bytes self.new.url) self.new.core.progress self.new.state)
+            self.new.requests (string_bytes self.new.url) self.new.core.progress self.new.state)
             (StandsWell Q.bodies Q.answers
             Q.Pause.can_poll Q.Connect.can_poll Q.Connect.gives Q.Conn.can_poll
             Q.Answer.can_poll Q.Answer.gives Q.Body.can_poll Q.Body.yields
-                self.new.requests self.new.core.progress self.new.state)
+            self.new.requests self.new.core.progress self.new.state)
             cx.old cx.new result }
     {
         let action = self.core.next(RetryEvent::Answer {
@@ -223,13 +224,13 @@ impl<Q: Requests> Retrying<Q> {
             self.old.requests self.old.core.progress self.old.state }
         ensures { Goes
             (Yields Q.bodies Q.answers self.old.core.settings
-                self.old.requests (string_bytes self.old.url) self.old.core.progress self.old.state)
+            self.old.requests (string_bytes self.old.url) self.old.core.progress self.old.state)
             (Yields Q.bodies Q.answers self.new.core.settings
-                self.new.requests (string_bytes self.new.url) self.new.core.progress self.new.state)
+            self.new.requests (string_bytes self.new.url) self.new.core.progress self.new.state)
             (StandsWell Q.bodies Q.answers
             Q.Pause.can_poll Q.Connect.can_poll Q.Connect.gives Q.Conn.can_poll
             Q.Answer.can_poll Q.Answer.gives Q.Body.can_poll Q.Body.yields
-                self.new.requests self.new.core.progress self.new.state)
+            self.new.requests self.new.core.progress self.new.state)
             cx.old cx.new result }
     {
         match &mut self.state {
@@ -277,12 +278,12 @@ impl<Q: Requests> Stream for Retrying<Q> {
     type Item = Result<Bytes, TransportError>;
 
     ghost can_poll = { λ m. StandsWell Q.bodies Q.answers
-            Q.Pause.can_poll Q.Connect.can_poll Q.Connect.gives Q.Conn.can_poll
-            Q.Answer.can_poll Q.Answer.gives Q.Body.can_poll Q.Body.yields
-            m.requests m.core.progress m.state };
+        Q.Pause.can_poll Q.Connect.can_poll Q.Connect.gives Q.Conn.can_poll
+        Q.Answer.can_poll Q.Answer.gives Q.Body.can_poll Q.Body.yields
+        m.requests m.core.progress m.state };
 
     ghost yields = { λ m. Yields Q.bodies Q.answers m.core.settings
-            m.requests (string_bytes m.url) m.core.progress m.state };
+        m.requests (string_bytes m.url) m.core.progress m.state };
 
     fn poll_next(&mut self, cx: &mut Context<'_>) -> Poll<Option<Self::Item>> {
         self.go_on(cx)

@@ -1,4 +1,4 @@
-use Rattle.std.proofs.Common.{◌≡◌, ◌++◌, rules, [], Ok, Err, inl, inr, refl}
+use Rattle.std.proofs.Common.{◌≡◌, ◌++◌, rules, [], Ok, Err, inl}
 use Rattle.tough_net.proofs.JoinLemmas.{Joins-Within, Joins-After, Joins_end}
 use Rattle.tough_net.proofs.into_vec.IntoVecFutureFuture.poll.Goals as goal
 

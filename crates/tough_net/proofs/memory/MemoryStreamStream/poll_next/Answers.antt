@@ -1,4 +1,4 @@
-use Rattle.std.proofs.Common.{sym, rules, drop}
+use Rattle.std.proofs.Common.{sym, drop}
 use Rattle.std.proofs.lemmas.List.{take-append-drop}
 use Rattle.tough_net.proofs.memory.MemoryStreamStream.poll_next.Goals as goal
 

@@ -1,4 +1,4 @@
-use Rattle.std.proofs.Common.{◌≡◌, ◌∙◌, ap, sym, refl, rules}
+use Rattle.std.proofs.Common.{◌≡◌, ◌∙◌, sym, refl, rules}
 use Rattle.std.specs.Prelude.{string_bytes}
 use Rattle.tough_net.specs.declared.retry_events.RetryAction.TheVariants.{Read}
 use Rattle.tough_net.specs.declared.retry_events.RetryEvent.TheVariants.{Answer}

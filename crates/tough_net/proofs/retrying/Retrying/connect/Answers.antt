@@ -1,4 +1,3 @@
-use Rattle.std.proofs.Common.{refl}
 use Rattle.tough_net.proofs.Going.{Goes_pending}
 use Rattle.tough_net.proofs.retrying.Retrying.connect.Goals as goal
 

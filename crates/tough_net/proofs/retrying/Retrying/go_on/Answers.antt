@@ -1,9 +1,8 @@
-use Rattle.std.proofs.Common.{◌≡◌, ◌∙◌, ◌+◌, [], ap, sym, refl, inr, length, Some, None, Ok, Err, rules}
+use Rattle.std.proofs.Common.{◌∙◌, [], sym, refl, length, Some, None, Ok, rules}
 use Rattle.std.specs.Prelude.{string_bytes}
 use Rattle.futures.specs.Runs.{After}
-use Rattle.tough_net.specs.declared.retry_events.RetryAction.TheVariants.{Read}
 use Rattle.tough_net.specs.declared.retry_events.RetryEvent.TheVariants.{Piece}
-use Rattle.tough_net.proofs.Going.{Goes_turned, Goes_pending, Goes_later, Goes_piece, Goes_end, was_so_piece, goes_on_over, piece_asks}
+use Rattle.tough_net.proofs.Going.{Goes_turned, Goes_pending, Goes_later, Goes_piece, Goes_end, was_so_piece, piece_asks}
 use Rattle.tough_net.proofs.TurnLemmas.{piece_counts}
 use Rattle.tough_net.proofs.ResourceLemmas.{Continues-Within_rest, Fetches_end, Fetches_piece, Fetches-After_piece, Reads_gave, Reads_rest, Reads_within}
 use Rattle.tough_net.proofs.retrying.Retrying.go_on.Goals as goal
@@ -49,9 +48,15 @@ pub returns-in-Pending-poll_next : goal.returns-in-Pending-poll_next
 returns-in-Pending-poll_next g c =
     let stands = rw c.in-Reading.is at c.requires in
     let same = c.in-Pending-poll_next.ensures.same in
-    rw c.in-Reading.is (Goes_pending refl
-    (stands.0, (c.in-Pending-poll_next.ensures.again.0, c.in-Pending-poll_next.ensures.again.1, (λ xs last h. stands.1.2 xs last (same xs last h)),
-    Reads_within g.Q.Requests.bodies c.args.self.now.requests c.args.self.now.core.progress.received _ _ stands.1.3 same))
+    rw c.in-Reading.is (Goes_pending refl (
+      stands.0,
+      (
+        c.in-Pending-poll_next.ensures.again.0,
+        c.in-Pending-poll_next.ensures.again.1,
+        (λ xs last h. stands.1.2 xs last (same xs last h)),
+        Reads_within g.Q.Requests.bodies c.args.self.now.requests c.args.self.now.core.progress.received _ _ stands.1.3 same,
+      ),
+    )
     (λ xs last h. h) c.in-Pending-poll_next.ensures.registered.0 c.poll_next.ensures.kept)
 
 pub returns-in-Read : goal.returns-in-Read
@@ -69,10 +74,15 @@ returns-in-Read g c =
     let counts = rw c.len-len.ensures.value at (piece_counts s p c.len-len.result stands.0 (sym c.next.ensures.action ∙ c.in-Read.is)) in
     rw (c.in-Reading.is, c.next.ensures.progress, c.next.ensures.settings, c.len-len.ensures.value) (rw counts
     (Goes_piece piece (Fetches_piece g.Q.Requests.bodies g.Q.Requests.answers s q (string_bytes c.args.self.now.url) p piece first gave)
-    (Fetches-After_piece g.Q.Requests.bodies g.Q.Requests.answers s q (string_bytes c.args.self.now.url) p piece first gave)
-    (stands.0, (search rules, search rules,
-    Continues-Within_rest g.Q.Requests.bodies q p.received piece old new stands.1.2 after,
-    Reads_rest g.Q.Requests.bodies q p.received old new piece stands.1.3 after))
+    (Fetches-After_piece g.Q.Requests.bodies g.Q.Requests.answers s q (string_bytes c.args.self.now.url) p piece first gave) (
+      stands.0,
+      (
+        search rules,
+        search rules,
+        Continues-Within_rest g.Q.Requests.bodies q p.received piece old new stands.1.2 after,
+        Reads_rest g.Q.Requests.bodies q p.received old new piece stands.1.3 after,
+      ),
+    )
     c.poll_next.ensures.kept))
 
 pub returns-in-Ready-Some-Ok : goal.returns-in-Ready-Some-Ok
