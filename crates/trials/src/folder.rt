@@ -1,11 +1,11 @@
 //! A store over a folder, and the clock of the system.
 
-use crate::case::{list, text};
 use anyhow::{Result, anyhow};
 use jiff::Timestamp;
 use serde_json::Value;
 use std::{env, fs, process, str};
 use tough::{Clock, DirStore, Store, StoreError, SystemClock, Vault};
+use trials_values::case::{list, text};
 
 // A store over a folder.
 type Folder = DirStore<HostRuntime>;

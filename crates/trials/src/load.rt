@@ -1,6 +1,5 @@
 //! Loads of whole repositories over memory.
 
-use crate::case::{flag, list, number, text, text_of_either};
 use crate::outcome::tell;
 use crate::shelf::Shelf;
 use bytes::Bytes;
@@ -11,6 +10,7 @@ use tough::{
     Error, ExpirationEnforcement, FixedClock, Limits, MemoryTransport, Repository,
     RepositoryLoader, Vault, drive,
 };
+use trials_values::case::{flag, list, number, text, text_of_either};
 use url::Url;
 
 // Adds the files of an object, below the base URL.

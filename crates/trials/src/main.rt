@@ -5,66 +5,23 @@
 //! what was wanted; and at the end of a file how many cases it has, and how many were answered otherwise.
 #![tactic(auto)]
 
-mod case;
-mod compare;
-mod decoded;
-mod documents;
 mod files;
 mod folder;
-mod growth;
-mod json;
 mod judge;
-mod keys;
 mod load;
-mod made;
-mod names;
 mod outcome;
-mod patterns;
 mod program;
 mod retries;
 mod shelf;
 mod streams;
-mod trees;
 mod update;
 mod vault;
 
-use crate::case::text;
 use crate::judge::misses;
 use anyhow::Result;
 use serde_json::Value;
-use std::alloc::Global;
 use std::{env, fs};
-
-// What a call on names, decoded values, JSON or keys answers.
-fn of_values(alloc: Global, call: &str, case: &Value) -> Result<Option<String>> {
-    if let Some(told) = names::answer(alloc, call, case)? {
-        return Ok(Some(told));
-    }
-    if let Some(told) = patterns::answer(alloc, call, case)? {
-        return Ok(Some(told));
-    }
-    if let Some(told) = decoded::answer(alloc, call, case)? {
-        return Ok(Some(told));
-    }
-    if let Some(told) = json::answer(alloc, call, case)? {
-        return Ok(Some(told));
-    }
-    keys::answer(alloc, call, case)
-}
-
-// What a call on documents or trees of targets answers.
-fn of_documents(alloc: Global, call: &str, case: &Value) -> Result<Option<String>> {
-    if let Some(told) = documents::answer(alloc, call, case)? {
-        return Ok(Some(told));
-    }
-    if let Some(told) = trees::answer(alloc, call, case)? {
-        return Ok(Some(told));
-    }
-    if let Some(told) = growth::answer(alloc, call, case)? {
-        return Ok(Some(told));
-    }
-    made::answer(alloc, call, case)
-}
+use trials_values::case::text;
 
 // What a call on streams, stores or updates answers.
 fn of_devices(rt: &HostRuntime, call: &str, case: &Value) -> Result<String> {
@@ -86,10 +43,10 @@ fn of_devices(rt: &HostRuntime, call: &str, case: &Value) -> Result<String> {
 // What the call of a case answers.
 fn answer(rt: &HostRuntime, case: &Value) -> Result<String> {
     let (alloc, call) = (rt.alloc(), text(case, "call"));
-    if let Some(told) = of_values(alloc, call, case)? {
+    if let Some(told) = trials_values::answer(alloc, call, case)? {
         return Ok(told);
     }
-    if let Some(told) = of_documents(alloc, call, case)? {
+    if let Some(told) = trials_documents::answer(alloc, call, case)? {
         return Ok(told);
     }
     if let Some(told) = files::answer(rt, call, case)? {

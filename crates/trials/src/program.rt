@@ -1,10 +1,10 @@
 //! Runs of the program over files in a folder of its own, which the case calls `DIR`.
 
-use crate::case::{list, number, text};
 use crate::shelf::held;
 use anyhow::Result;
 use serde_json::Value;
 use std::{env, fs, process};
+use trials_values::case::{list, number, text};
 
 // Writes a file: the text of the step, or as many blanks as it says.
 fn put(rt: &HostRuntime, at: &str, step: &Value) -> Result<()> {

@@ -1,6 +1,5 @@
 //! Updates as a machine: what each asks, and what an answer makes of it.
 
-use crate::case::{list, text};
 use crate::load::{enforcement, limits};
 use crate::outcome::tell;
 use anyhow::Result;
@@ -9,6 +8,7 @@ use serde_json::Value;
 use std::alloc::{AllocError, Global};
 use tough::schema::DemoVerify;
 use tough::{Act, Answer, Ask, Core, Fault, Limits, StepError, TransportError, TransportErrorKind};
+use trials_values::case::{list, text};
 
 // A step on the store.
 fn act(alloc: Global, act: &Act<'_>) -> Result<String, AllocError> {

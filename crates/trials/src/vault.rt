@@ -1,6 +1,5 @@
 //! Steps on a vault.
 
-use crate::case::{flag, list, number, text};
 use crate::load::enforcement;
 use crate::shelf::{Shelf, held};
 use anyhow::anyhow;
@@ -8,6 +7,7 @@ use serde_json::Value;
 use std::alloc::Global;
 use tough::schema::{DemoVerify, Root, Signed, Snapshot, Timestamp};
 use tough::{DocumentName, Receipt, StepError, Store, Vault};
+use trials_values::case::{flag, list, number, text};
 
 // What a step came to.
 fn came_to(alloc: Global, taken: Result<Receipt, StepError>) -> anyhow::Result<String> {

@@ -1,6 +1,5 @@
 //! Documents of one role: how they are read and written, what they say of themselves, and their verification.
 
-use crate::case::{list, number, text};
 use anyhow::Result;
 use jiff::Timestamp as Instant;
 use serde_json::Value;
@@ -13,6 +12,7 @@ use tough_schema::{
     DelegatedTargets, Delegations, DemoVerify, Error, ReadError, Role, RoleType, Root, Signed,
     Snapshot, Targets, Timestamp, canonical_form,
 };
+use trials_values::case::{list, number, text};
 
 /// A verdict: `Ok`, or the refusal.
 pub(crate) fn verdict(alloc: Global, answer: Result<(), Error>) -> Result<String> {
