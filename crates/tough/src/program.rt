@@ -27,17 +27,19 @@ const GET: &str = "usage: tough get ROOT METADATA TARGETS STORE NAME OUTDIR";
 // Why a run failed.
 #[derive(Drop)]
 enum Fault {
-    /// The root couldn't be read.
+    /// The file of the root couldn't be read.
     FileRead(io::Error),
-    /// The load couldn't be begun, or refused.
-    Load(Error),
+    /// The load couldn't be begun, or refused, and what the system last said of the store, if that failed.
+    Load(Error, Option<io::Error>),
+    /// The load couldn't be run.
+    Run(io::Error),
 }
 
 impl From<AllocError> for Fault {
     ghost from_gives = { λ _ _. ⊤ };
 
     fn from(_: AllocError) -> Fault {
-        Fault::Load(Error::Memory)
+        Fault::Load(Error::Memory, None)
     }
 }
 
@@ -45,8 +47,11 @@ impl From<AllocError> for Fault {
 fn url(alloc: Global, word: &str) -> Result<Url, Fault> {
     match Url::parse(alloc, word) {
         Ok(url) => Ok(url),
-        Err(ParseError::OutOfMemory) => Err(Fault::Load(Error::Memory)),
-        Err(source) => Err(Fault::Load(Error::ParseUrl { source })),
+        Err(ParseError::OutOfMemory) => Err(Fault::Load(Error::Memory, None)),
+        Err(source) => {
+            let url = String::from_str(alloc, word)?;
+            Err(Fault::Load(Error::ParseUrl { url, source }, None))
+        }
     }
 }
 
@@ -78,12 +83,14 @@ where
         .keeper(&mut vault);
     let mut load = match loader.load() {
         Ok(load) => load,
-        Err(error) => return Err(Fault::Load(error)),
+        Err(error) => return Err(Fault::Load(error, None)),
     };
-    match drive(rt, &mut load) {
+    let outcome = drive(rt, &mut load);
+    drop(load);
+    match outcome {
         Ok(Ok(loaded)) => Ok(loaded),
-        Ok(Err(error)) => Err(Fault::Load(error)),
-        Err(_) => Err(Fault::Load(Error::Memory)),
+        Ok(Err(error)) => Err(Fault::Load(error, vault.into_store().into_fault())),
+        Err(error) => Err(Fault::Run(error)),
     }
 }
 
@@ -105,11 +112,13 @@ fn print<O: Write>(out: &mut O, loaded: &Repository) -> io::Result<()>
     Ok(())
 }
 
-// Tells why a run failed.
-fn tell<E: Write>(err: &mut E, fault: &Fault) -> io::Result<()> {
+// Tells why a run failed, whose root and store stand in this file and this folder.
+fn tell<E: Write>(err: &mut E, fault: &Fault, root: &str, store: &str) -> io::Result<()> {
     match fault {
-        Fault::FileRead(error) => writeln!(err, "tough: Failed to read the root: {error}"),
-        Fault::Load(error) => writeln!(err, "tough: {error}"),
+        Fault::FileRead(error) => writeln!(err, "tough: Failed to read {root}: {error}"),
+        Fault::Load(error, Some(cause)) => writeln!(err, "tough: {error} {store}: {cause}"),
+        Fault::Load(error, None) => writeln!(err, "tough: {error}"),
+        Fault::Run(error) => writeln!(err, "tough: Failed to run the load: {error}"),
     }
 }
 
@@ -142,7 +151,7 @@ where
             Ok(true)
         }
         Err(fault) => {
-            tell(err, &fault)?;
+            tell(err, &fault, root.as_str(), store.as_str())?;
             Ok(false)
         }
     }

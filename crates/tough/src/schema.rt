@@ -9,8 +9,8 @@ pub use tough_base::{
 };
 pub use tough_schema::{
     CjsonError, DelegatedRole, DelegatedTargets, Delegations, DemoSign, DemoVerify, EcdsaKey,
-    EcdsaScheme, Ed25519Key, Ed25519Scheme, Error, FileError, Hashes, Key, KeyParseError, KeysIter,
-    Metafile, PathSet, ReadError, Role, RoleId, RoleKeys, RoleType, Root, RsaKey, RsaScheme, Sign,
-    SignError, Signature, Signed, Snapshot, Target, Targets, Timestamp, Verify, WriteError,
-    canonical, canonical_form,
+    EcdsaScheme, Ed25519Key, Ed25519Scheme, Error, FileError, Hashes, Key, KeyHolder,
+    KeyParseError, KeysIter, Metafile, PathSet, ReadError, Result, Role, RoleId, RoleKeys,
+    RoleType, Root, RsaKey, RsaScheme, Sign, SignError, Signature, Signed, Snapshot, Target,
+    Targets, Timestamp, Verify, WriteError, canonical,
 };

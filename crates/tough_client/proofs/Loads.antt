@@ -63,7 +63,7 @@ at_equal : {X Y Z : Type 0} (P : X → Y → Z → Type 0) (x x' : X) (y y' : Y)
 at_equal P x x' y y' z z' e f g h = subst (λ w. P x' y' w) g (subst (λ w. P x' w z) f (subst (λ w. P w y z) e h))
 
 module _ {T K : Type 0} (refuses : T → Parts → TransportError → Type 0) (serves : T → Parts → Runs Item) (keeps : Verifies → K → Act → Result Receipt StepError → K → Type 0) {S : Type 0} (yields : S → Runs Item) where
-  allows-walks : (v : Verifies) (base : Parts) (t : T) (q : Question) (k : K) (a : AnswerDoc) (next : K) → Allows refuses serves keeps yields v base t q k a next → Walks keeps v k next
+  pub allows-walks : (v : Verifies) (base : Parts) (t : T) (q : Question) (k : K) (a : AnswerDoc) (next : K) → Allows refuses serves keeps yields v base t q k a next → Walks keeps v k next
   allows-walks v base t ask.Moment k a next h = Walks_same keeps v k next h.1
   allows-walks v base t (ask.Fetch r) k a next h = Walks_same keeps v k next h.1
   allows-walks v base t (ask.Step act) k a next (inl h) = Walks_step keeps v k next act h.0 h.2

@@ -22,7 +22,7 @@ use Rattle.tough_update.specs.Questions as ask
 use Rattle.tough_update.specs.Answered.{AnswerDoc}
 use Rattle.tough_update.specs.Answered as got
 use Rattle.tough_update.specs.Machine.{question, question_at}
-use Rattle.tough_update.specs.Promises.{ended}
+use Rattle.tough_update.specs.Promises.{Goes, ended}
 use Rattle.tough_update.specs.Runs.{Keeps, run, Along, IsFresh}
 use Rattle.tough_update.proofs.Whole.{loaded}
 use Rattle.tough_vault.specs.Act.{Act, CheckedIfOk}
@@ -49,6 +49,17 @@ done-at (at.Done x) r h = cc (h)
 done-at _ r h = absurd (cc (h))
 
 module _ {T S K : Type 0} (refuses : T → Parts → TransportError → Type 0) (serves : T → Parts → Runs Item) (keeps : Verifies → K → Act → Result Receipt StepError → K → Type 0) (yields : S → Runs Item)
+    (verifies : Verifies) (base : Parts) (t : T) where
+  nothing-follows : (q : Question) (k : K) (a : AnswerDoc) (next : K) → q ≡ ask.Ready → Allows refuses serves keeps yields verifies base t q k a next → ⊥
+  nothing-follows q k a next is h = subst (λ (x : Question). Allows refuses serves keeps yields verifies base t x k a next) is h
+
+  -- where memory was wanting, that is how it ends
+  pub spent : (answers : List AnswerDoc) (c : CoreDoc) (k : K) (c' : CoreDoc) (k' : K) → c.stage ≡ at.Done (Err Memory)
+      → Leads refuses serves keeps yields verifies base t c k answers c' k' → c'.stage ≡ at.Done (Err Memory)
+  spent [] c k c' k' is h = ap (λ (d : CoreDoc). d.stage) h.0 ∙ is
+  spent (a ∷ rest) c k c' k' is h = absurd (nothing-follows (question c) k a h.1 (ap (question_at c.setting.enforced) is) h.2)
+
+module _ {T S K : Type 0} (refuses : T → Parts → TransportError → Type 0) (serves : T → Parts → Runs Item) (keeps : Verifies → K → Act → Result Receipt StepError → K → Type 0) (yields : S → Runs Item)
     (verifies : Verifies) (base : Parts) (t : T)
     (checks : (old : K) (act : Act) (r : Result Receipt StepError) (new : K) → keeps verifies old act r new → CheckedIfOk verifies act r) where
   fetched-fits : (r : RequestDoc) (bytes : List ℕ) → Fetches refuses serves t base r (got.Bytes bytes) → IsTrue (fits_request r bytes)
@@ -65,15 +76,6 @@ module _ {T S K : Type 0} (refuses : T → Parts → TransportError → Type 0) 
   allowed-keeps (ask.Step act) k (got.Step (Ok u)) next (inr h) = absurd (cc (h.0))
   allowed-keeps q k a next h = tt
 
-  nothing-follows : (q : Question) (k : K) (a : AnswerDoc) (next : K) → q ≡ ask.Ready → Allows refuses serves keeps yields verifies base t q k a next → ⊥
-  nothing-follows q k a next is h = subst (λ (x : Question). Allows refuses serves keeps yields verifies base t x k a next) is h
-
-  -- where memory was wanting, that is how it ends
-  spent : (answers : List AnswerDoc) (c : CoreDoc) (k : K) (c' : CoreDoc) (k' : K) → c.stage ≡ at.Done (Err Memory)
-      → Leads refuses serves keeps yields verifies base t c k answers c' k' → c'.stage ≡ at.Done (Err Memory)
-  spent [] c k c' k' is h = ap (λ (d : CoreDoc). d.stage) h.0 ∙ is
-  spent (a ∷ rest) c k c' k' is h = absurd (nothing-follows (question c) k a h.1 (ap (question_at c.setting.enforced) is) h.2)
-
   pub leads-run : (answers : List AnswerDoc) (c : CoreDoc) (k : K) (c' : CoreDoc) (k' : K) (l : LoadedDoc) → c'.stage ≡ at.Done (Ok l)
       → Leads refuses serves keeps yields verifies base t c k answers c' k' → ((run verifies c answers).stage ≡ at.Done (Ok l)) × Along verifies c answers
   leads-run [] c k c' k' l is h = (ap (λ (d : CoreDoc). d.stage) (sym h.0) ∙ is, tt)
@@ -83,27 +85,40 @@ module _ {T S K : Type 0} (refuses : T → Parts → TransportError → Type 0) 
         (allowed-keeps (question c) k a next allowed, subst (λ (d : CoreDoc). Along verifies d rest) e r.1),
       )
   leads-run (a ∷ rest) c k c' k' l is (mid, next, allowed, inr e, more) =
-      absurd (cc (is, spent rest mid next c' k' (ap (λ (d : CoreDoc). d.stage) e) more))
+      absurd (cc (is, spent refuses serves keeps yields verifies base t rest mid next c' k' (ap (λ (d : CoreDoc). d.stage) e) more))
 
 module _ {T S K : Type 0} (refuses : T → Parts → TransportError → Type 0) (serves : T → Parts → Runs Item) (keeps : Verifies → K → Act → Result Receipt StepError → K → Type 0) (yields : S → Runs Item)
     (checks : (verifies : Verifies) (old : K) (act : Act) (r : Result Receipt StepError) (new : K) → keeps verifies old act r new → CheckedIfOk verifies act r) where
+  -- the setting stays
+  keeps-setting : (verifies : Verifies) (c : CoreDoc) (a : AnswerDoc) (mid : CoreDoc) → Goes verifies c a mid → mid.setting ≡ c.setting
+  keeps-setting verifies c a mid (inl e) = ap (λ (d : CoreDoc). d.setting) e
+  keeps-setting verifies c a mid (inr e) = ap (λ (d : CoreDoc). d.setting) e
+
+  leads-setting : (verifies : Verifies) (base : Parts) (t : T) (answers : List AnswerDoc) (c : CoreDoc) (k : K) (c' : CoreDoc) (k' : K)
+      → Leads refuses serves keeps yields verifies base t c k answers c' k' → c'.setting ≡ c.setting
+  leads-setting verifies base t [] c k c' k' h = ap (λ (d : CoreDoc). d.setting) h.0
+  leads-setting verifies base t (a ∷ rest) c k c' k' (mid, next, allowed, goes, more) =
+      leads-setting verifies base t rest mid next c' k' more ∙ keeps-setting verifies c a mid goes
+
   -- a load that ends, with nothing fetched at its beginning, vouches for what it gives
   ends-vouches : (verifies : Verifies) (base : Parts) (t : T) (c : CoreDoc) (k : K) (o : Result LoadedDoc Failure) (left : CoreDoc) (kept : K) → IsFresh c
-      → Ends refuses serves keeps yields verifies base t None c k o left kept → IfOk o (Vouches refuses serves keeps yields verifies base t c k)
+      → Ends refuses serves keeps yields verifies base t None c k o left kept → IfOk o (Vouches refuses serves keeps yields verifies base t c k left kept)
   ends-vouches verifies base t c k (Err e) left kept fresh h = tt
   ends-vouches verifies base t c k (Ok l) left kept fresh h =
-      let r = leads-run refuses serves keeps yields verifies base t (λ old act x new held. checks verifies old act x new held) h.1.0 c k h.0 kept l (done-at _ _ h.2) h.1.1 in record {
+      let r = leads-run refuses serves keeps yields verifies base t (λ old act x new held. checks verifies old act x new held) h.1.0 c k h.0 kept l (done-at _ _ h.2) h.1.1 in
+      let s = leads-setting verifies base t h.1.0 c k h.0 kept h.1.1 in
+      let last : h.0 ≡ record { setting = c.setting; stage = at.Done (Ok l) } = ap (λ x. record { setting = x; stage = h.0.stage }) s ∙ ap (λ x. record { setting = c.setting; stage = x }) (done-at _ _ h.2) in
+      record {
         answers = h.1.0;
-        last = h.0;
-        kept = kept;
-        allowed = h.1.1;
+        allowed = subst (λ (x : CoreDoc). Leads refuses serves keeps yields verifies base t c k h.1.0 x kept) last h.1.1;
+        taken = h.3 ∙ ap (λ x. record { setting = x; stage = at.Taken }) s;
         loaded = loaded verifies c h.1.0 l fresh r.1 r.0;
       }
 
   -- the same, where the load's parts are those that were given
   pub vouched : {V : Type 0} (w : V → Verifies) (base : Parts) (v v' : V) (t t' : T) (c c' : CoreDoc) (k k' : K) (fetch : Option (Collect S)) (o : Result LoadedDoc Failure) (left : CoreDoc) (kept : K)
       → v ≡ v' → t ≡ t' → c ≡ c' → k ≡ k' → fetch ≡ None → IsFresh c'
-      → Ends refuses serves keeps yields (w v) base t fetch c k o left kept → IfOk o (Vouches refuses serves keeps yields (w v') base t' c' k')
+      → Ends refuses serves keeps yields (w v) base t fetch c k o left kept → IfOk o (Vouches refuses serves keeps yields (w v') base t' c' k' left kept)
   vouched w base v v' t t' c c' k k' fetch o left kept ev et ec ek none fresh h =
       let h1 = subst (λ x. Ends refuses serves keeps yields (w x) base t fetch c k o left kept) ev h in
       let h2 = subst (λ x. Ends refuses serves keeps yields (w v') base x fetch c k o left kept) et h1 in

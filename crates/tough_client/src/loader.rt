@@ -1,9 +1,8 @@
 //! What a load is made from.
 
-ghost use Rattle.std.specs.Prelude.{◌≡◌, true, IfOk, IfErr};
-ghost use Rattle.url.specs.Parser.{Gives};
+ghost use Rattle.std.specs.Prelude.{◌≡◌, true, Ok, IfOk, IfErr};
 ghost use Rattle.tough_vault.specs.Checks.{enforces};
-ghost use Rattle.tough_client.specs.Base.{with_slash, IsFault, IsUnbegun};
+ghost use Rattle.tough_client.specs.Base.{with_slash, IsUnbegun};
 
 use crate::keeper::Keeper;
 use crate::load::Load;
@@ -177,24 +176,19 @@ impl<'a, T, V, C, K> RepositoryLoader<'a, T, V, C, K> {
 }
 
 // The URL with a slash at its end.
-fn with_slash(alloc: Global, url: Url) -> Result<Url, ParseError>
-    ensures { Gives result (with_slash url) }
+fn with_slash(alloc: Global, url: Url) -> Result<Url, Error>
+    ensures given { IfOk result (λ u. with_slash url ≡ Ok u) }
+    ensures refused { IfErr result (IsUnbegun url) }
 {
     if url.as_str().as_bytes().ends_with(b"/") {
         return Ok(url);
     }
     let mut text = String::from_str(alloc, url.as_str())?;
     text.push_str("/")?;
-    Url::parse(alloc, text.as_str())
-}
-
-// Why a load can't be made of a URL.
-fn unparsed(error: ParseError) -> Error
-    ensures { IsFault error result }
-{
-    match error {
-        ParseError::OutOfMemory => Error::Memory,
-        source => Error::ParseUrl { source },
+    match Url::parse(alloc, text.as_str()) {
+        Ok(url) => Ok(url),
+        Err(ParseError::OutOfMemory) => Err(Error::Memory),
+        Err(source) => Err(Error::ParseUrl { url: text, source }),
     }
 }
 
@@ -217,7 +211,7 @@ impl<T: Transport, V: Verify + Drop, C: Clock + Drop, K: Keeper> RepositoryLoade
         let alloc = settings.alloc;
         let base = match with_slash(alloc, settings.metadata_base_url) {
             Ok(base) => base,
-            Err(error) => return Err(unparsed(error)),
+            Err(error) => return Err(error),
         };
         let trusted = Vec::from_slice(alloc, settings.root)?;
         Ok(Load {

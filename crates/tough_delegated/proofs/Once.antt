@@ -14,7 +14,8 @@ use Rattle.tough_schema.specs.Update.{listed_roles}
 use Rattle.tough_schema.specs.Search.{Names, no_names, add}
 use Rattle.tough_schema.specs.Whole.{OwnDoc, TreeDoc, tree, Branches, put_branch, branches_from, HeldDoc, RoleTree}
 use Rattle.tough_delegated.specs.Growing.{Metas, Look, through, unlisted, wanted, look, Fetched, at_name, with_fetched, refilled, with_roles, OpenDoc, Turn, past, stopped, entered, turn, Turns, all_past, stopped_at, by_turn, turns, WorkDoc, Progress, wants, grown, by_turns, taken_up, settle, give, by_look, go_on, begun, with_taken, taken}
-use Rattle.tough_delegated.specs.Once.{carriers, carriers_below, is_among, Distinct, IsBare, AreBare, runs}
+use Rattle.tough_schema.specs.Fresh.{carriers, carriers_below}
+use Rattle.tough_delegated.specs.Once.{is_among, Distinct, IsBare, AreBare, runs}
 
 -- ---- marked names
 

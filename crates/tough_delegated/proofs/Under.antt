@@ -19,7 +19,8 @@ use Rattle.tough_schema.specs.Update.{listed_roles}
 use Rattle.tough_schema.specs.Search.{Names, no_names, add}
 use Rattle.tough_schema.specs.Whole.{OwnDoc, TreeDoc, tree, Branches, no_branches, unloaded, loaded, put_branch, branches_from, entries_in, HeldDoc, RoleTree, top_doc}
 use Rattle.tough_delegated.specs.Growing.{Metas, Look, through, unlisted, wanted, look, looked, listed_as, Fetched, at_name, with_fetched, refilled, with_roles, OpenDoc, Turn, past, stopped, entered, turn, Turns, all_past, stopped_at, by_turn, turns, WorkDoc, Progress, wants, grown, by_turns, taken_up, settle, give, by_look, go_on, begun, with_taken, taken, first_of, holder_of}
-use Rattle.tough_delegated.specs.Once.{carriers, carriers_below, IsBare, runs}
+use Rattle.tough_schema.specs.Fresh.{carriers, carriers_below}
+use Rattle.tough_delegated.specs.Once.{IsBare, runs}
 use Rattle.tough_delegated.specs.Under.{page_of, Relation, Under, Below, AllTaken}
 
 abbrev entries : List RoleTree → List Entry

@@ -1,18 +1,9 @@
 -- That no role's name carries a document twice (TUF specification 1.0, section 5.6.7).
-use Rattle.std.specs.Prelude.{◌≡◌, ℕ, List, [], ◌∷◌, ◌++◌, Bool, false, ◌||◌, ⊤}
+use Rattle.std.specs.Prelude.{◌≡◌, ℕ, List, [], ◌∷◌, Bool, false, ◌||◌, ⊤}
 use Rattle.std.specs.Str.{bytes_eq}
-use Rattle.tough_schema.specs.Whole.{TreeDoc, tree, Branches, no_branches, unloaded, loaded, HeldDoc}
+use Rattle.tough_schema.specs.Whole.{HeldDoc}
+use Rattle.tough_schema.specs.Fresh.{IsUnloaded}
 use Rattle.tough_delegated.specs.Growing.{Metas, Progress, wants, grown, taken}
-
--- the names of the roles that have a document, in preorder
-abbrev mutual
-  pub carriers : Branches → List (List ℕ)
-  carriers no_branches = []
-  carriers (unloaded e bs) = carriers bs
-  carriers (loaded e name signatures t bs) = e.name ∷ (carriers_below t ++ carriers bs)
-
-  pub carriers_below : TreeDoc → List (List ℕ)
-  carriers_below (tree o bs) = carriers bs
 
 abbrev pub is_among : List ℕ → List (List ℕ) → Bool
 is_among n [] = false
@@ -25,7 +16,7 @@ Distinct (x ∷ xs) = (is_among x xs ≡ false) × Distinct xs
 
 -- none of its roles has a document, as in one that was read
 abbrev pub IsBare : HeldDoc → Type 0
-IsBare h = carriers_below h.below ≡ []
+IsBare h = IsUnloaded h.below
 
 abbrev pub AreBare : List HeldDoc → Type 0
 AreBare [] = ⊤

@@ -4,7 +4,8 @@ ghost use Rattle.std.specs.Prelude.{◌≡◌, List};
 ghost use Rattle.tough_roles.specs.Signature.{SignedDoc};
 ghost use Rattle.tough_schema.specs.Whole.{HeldDoc, TreeDoc};
 ghost use Rattle.tough_delegated.specs.Growing.{Metas, grown, begun};
-ghost use Rattle.tough_delegated.specs.Once.{IsBare, AreBare, Distinct, carriers_below, runs};
+ghost use Rattle.tough_schema.specs.Fresh.{carriers_below, IsFresh, IsFreshDelegated};
+ghost use Rattle.tough_delegated.specs.Once.{IsBare, AreBare, Distinct, runs};
 
 /// No name carries a document twice, whatever documents are taken.
 pub fn grows_once()
@@ -29,5 +30,17 @@ pub fn wanted_is_listed()
     ensures { (metas : Metas) (top : HeldDoc) (documents : List HeldDoc) → WantsListed metas (runs metas (begun metas top) documents) }
 {}
 
+ghost use Rattle.tough_roles.specs.declared.signed.Signed.{Signed};
+ghost use Rattle.tough_schema.specs.Whole.{held_doc};
+ghost use Rattle.tough_schema.specs.declared.targets.DelegatedTargets.{DelegatedTargets};
+ghost use Rattle.tough_schema.specs.declared.targets.Targets.{Targets};
+ghost use Rattle.tough_delegated.specs.View.{top_held};
+
+/// What reading ensures of targets, and of the document of a delegated role, is what these laws ask of them.
+pub fn read_is_bare()
+    ensures top { (s : Signed Targets) → IsFresh s.signed → IsBare (top_held s) }
+    ensures document { (s : Signed DelegatedTargets) → IsFreshDelegated s.signed → IsBare (held_doc s) }
+{}
+
 /// How many laws this file states.
-pub const LAWS: usize = 3;
+pub const LAWS: usize = 4;

@@ -11,7 +11,7 @@ use crate::error::DemoError;
 use crate::keys::identifier;
 use std::alloc::Global;
 use tough_base::Decoded;
-use tough_schema::{DemoSign, Role, Sign, Signature, Signed, canonical_form};
+use tough_schema::{DemoSign, Role, Sign, Signature, Signed};
 
 /// The role with the signature of one signer.
 pub fn sign<T: Role + Drop>(
@@ -22,7 +22,7 @@ pub fn sign<T: Role + Drop>(
     ensures role { IfOk result (λ s. s.signed ≡ role) }
     ensures signature { IfOk result (λ s. IsSignedAlone (key_doc signer.now.key) (text_by T.json role) (signatures_doc s.signatures.items)) }
 {
-    let text = canonical_form(alloc, &role)?;
+    let text = role.canonical_form(alloc)?;
     let sig = Decoded::from_vec(alloc, signer.sign(alloc, text.as_slice())?)?;
     let keyid = identifier(alloc, &signer.tuf_key(alloc)?)?;
     let mut signatures = Vec::new(alloc);

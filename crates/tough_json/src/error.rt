@@ -38,7 +38,8 @@ impl<T: Drop> From<AllocFailed<T>> for ReadError {
     }
 }
 
-/// Why a document has no JSON: an extra hides a member, or a version is 0.
+/// Why a document has no JSON: it holds a float, two names of one object with one NFC, or an instant outside the years 0000 to 9999, or
+/// an extra has the name of a member.
 #[derive(Debug, Drop, thiserror::Error)]
 pub enum WriteError {
     /// There is no JSON that is read as the document.

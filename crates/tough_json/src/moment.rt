@@ -85,11 +85,13 @@ fn push_time(out: &mut String, time: Time) -> Result<(), AllocError>
 }
 
 /// Why an instant has no text.
-#[derive(Debug, Drop)]
+#[derive(Debug, Drop, thiserror::Error)]
 pub enum MomentError {
     /// Its year is before 0.
+    #[error("the year is before 0")]
     Year,
     /// A request for memory was refused.
+    #[error("out of memory")]
     Memory,
 }
 

@@ -24,10 +24,13 @@ pub enum Form {
 }
 
 /// Why an object isn't written in pieces.
-#[derive(Debug, Drop)]
+#[derive(Debug, Drop, thiserror::Error)]
 pub enum PieceError {
     /// The pieces don't tell the text, or there is none: the whole value decides.
+    #[error("not written in pieces")]
     Refused,
+    /// A request for memory was refused.
+    #[error("out of memory")]
     Memory,
 }
 

@@ -6,11 +6,13 @@ use std::alloc::{AllocError, Global};
 use tough_base::{DecodeError, Decoded};
 
 /// Why a text is no key.
-#[derive(Debug, Drop)]
+#[derive(Debug, Drop, thiserror::Error)]
 pub enum KeyParseError {
     /// It isn't 64 hexadecimal digits.
+    #[error("unrecognized or invalid public key")]
     NotAKey,
     /// A request for memory was refused.
+    #[error("out of memory")]
     Memory,
 }
 

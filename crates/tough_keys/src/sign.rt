@@ -5,11 +5,13 @@ use crate::key::Key;
 use std::alloc::{AllocError, Global};
 
 /// Why nothing was signed.
-#[derive(Debug, Drop)]
+#[derive(Debug, Drop, thiserror::Error)]
 pub enum SignError {
     /// The signer failed, for the reason that it gives.
+    #[error("Failed to sign: {0}")]
     Failed(String),
     /// A request for memory was refused.
+    #[error("out of memory")]
     Memory,
 }
 

@@ -4,6 +4,7 @@ ghost use Rattle.std.specs.Option.{option_copied};
 ghost use Rattle.tough_net.specs.Errors.{IsExceeded, IsMemory, IsMismatch, error_kind, error_url, error_cause};
 
 use std::alloc::{AllocError, Global};
+use std::error::Error;
 use std::fmt;
 use std::fmt::{Display, Formatter};
 
@@ -203,6 +204,8 @@ impl Display for HttpError {
     }
 }
 
+impl Error for HttpError {}
+
 impl Display for Cause {
     fn fmt<W: fmt::Write>(&self, f: &mut Formatter<W>) -> fmt::Result {
         match self {
@@ -227,6 +230,8 @@ impl Display for Cause {
     }
 }
 
+impl Error for Cause {}
+
 impl Display for TransportError {
     fn fmt<W: fmt::Write>(&self, f: &mut Formatter<W>) -> fmt::Result {
         let (kind, url) = (self.kind, self.url());
@@ -237,3 +242,5 @@ impl Display for TransportError {
         }
     }
 }
+
+impl Error for TransportError {}

@@ -15,10 +15,8 @@ use Rattle.serde_json.specs.Data.{Data, Members, no_members, member}
 use Rattle.tough_keys.specs.declared.key.Key.{Key}
 use Rattle.tough_keys.specs.Key.{KeyDoc, key_doc, key_at, key_id_of}
 use Rattle.tough_roles.specs.Table.{table_from, with_entry}
-use Rattle.tough_roles.specs.Roles.{role_cmp}
-use Rattle.tough_roles.specs.Root.{keys_doc, by_bytes, key_under, key_entry_at, keys_from, RoleKeysDoc, role_keys_doc, roles_doc, role_entry_at, roles_from, roles_at, keys_at, if_own, AreOwn, RootDoc, root_at}
+use Rattle.tough_roles.specs.Root.{keys_doc, by_bytes, key_under, key_entry_at, keys_from, RoleKeysDoc, roles_at, keys_at, if_own, AreOwn, RootDoc, root_at}
 use Rattle.tough_roles.specs.declared.role_type.RoleType.{RoleType}
-use Rattle.tough_roles.specs.declared.root.RoleKeys.{RoleKeys}
 
 -- ---- the map, by plain keys
 

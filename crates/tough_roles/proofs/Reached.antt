@@ -207,14 +207,12 @@ reached_ok v holder role json s r =
 
 no_refusal : (e : Error) → IsRefusal e (Ok tt) → IsOkOrMemory (Err e)
 no_refusal (errors.RoleNotFound name) h = cc
-no_refusal (errors.TargetNotFound name) h = h
-no_refusal errors.NoDelegations h = h
-no_refusal errors.NoTargets h = h
 no_refusal (errors.MissingRole role) h = cc
 no_refusal (errors.JsonSerialization role) h = cc
 no_refusal (errors.DuplicateKeyId keyid) h = cc
 no_refusal (errors.SignatureThreshold role threshold valid) h = cc
 no_refusal errors.Memory h = tt
+no_refusal _ h = absurd h
 
 not_refused : (result : Result Unit Error) → Answers result (Ok tt) → IsOkOrMemory result
 not_refused (Ok u) h = tt

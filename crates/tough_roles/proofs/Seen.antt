@@ -1,15 +1,16 @@
 -- Looking for an identifier that stands twice, with a set of those that were seen.
-use Rattle.std.proofs.Common.{◌≡◌, ℕ, ◌+◌, ◌<◌, List, [], ◌∷◌, map, drop, drop-cons, add-one, get_or, length, Bool, true, false, ◌||◌, not, Ordering, Less, Equal, Greater, is_eq, nat_cmp, bytes_eq, Option, Some, None, ◌≢◌, refl, sym, ap, ◌∙◌, subst}
+use Rattle.std.proofs.Common.{◌≡◌, ℕ, ◌+◌, ◌<◌, List, [], ◌∷◌, map, drop, drop-cons, add-one, get_or, length, Bool, true, false, ◌||◌, not, Ordering, Less, Equal, Greater, is_eq, nat_cmp, bytes_eq, Option, Some, None, ◌≢◌, refl, sym, ap, ◌∙◌, subst, arith}
 use Rattle.std.specs.Prelude.{MatchOption}
 use Rattle.std.proofs.lemmas.Map.Text.{is_eq-slice_cmp}
 use Rattle.std.proofs.lemmas.Slice.Eq.{bytes_eq-Decides}
 use Rattle.std.specs.Ordering.{match_ordering}
 use Rattle.std.specs.Cmp.Lexicographic.{slice_cmp}
 use Rattle.std.specs.BTreeSet.{insert_key}
-use Rattle.std.specs.List.{list_any}
+use Rattle.std.specs.List.{list_any, HoldsAt}
+use Rattle.std.proofs.lemmas.List.{get_or-map, length-map}
 use Rattle.tough_roles.specs.declared.signature.Signature.{Signature}
-use Rattle.tough_roles.specs.Signature.{signature_doc}
-use Rattle.tough_roles.specs.Verdict.{some_twice}
+use Rattle.tough_roles.specs.Signature.{SignatureDoc, signature_doc}
+use Rattle.tough_roles.specs.Verdict.{some_twice, StandsAgain}
 use Rattle.tough_roles.proofs.Counts.{some_twice-drop}
 
 or_idle : (a b : Bool) → a || (a || b) ≡ a || b
@@ -48,7 +49,7 @@ same_any p q [] h = refl
 same_any p q (x ∷ xs) h = ap (λ b. b || list_any p xs) (h x) ∙ ap (λ b. q x || b) (same_any p q xs h)
 
 module _ {K : Type 0} (now : K → List ℕ) where
-  abbrev by_bytes : K → K → Ordering
+  abbrev pub by_bytes : K → K → Ordering
   by_bytes x y = slice_cmp nat_cmp (now x) (now y)
 
   -- the bytes stand among the keys
@@ -115,6 +116,39 @@ module _ {K : Type 0} (now : K → List ℕ) where
       ∙ ap (λ b. b || seen_in ks rest) (sym (some_twice-drop ss i s h e))
       ∙ ap (λ b. some_twice (map signature_doc (drop i ss)) || b) (sym (next_seen ks ss i s h e ∙ ap (λ b. b || seen_in ks rest) unseen))
       ∙ looked
+
+-- what stands at the place is the plain form of what stands there
+holds-at : (P : SignatureDoc → Type 0) (ss : List Signature) (i : ℕ) (s : Signature) → i < length ss → s ≡ get_or ss i s → P (signature_doc s) → HoldsAt P (map signature_doc ss) i
+holds-at P ss i s h e p = λ d. subst P (ap signature_doc e ∙ sym (get_or-map signature_doc ss i s d h)) p
+
+next : (j i : ℕ) → j < i → j < i + 1
+next j i h = omega (arith, h)
+
+here : (i : ℕ) → i < i + 1
+here i = omega arith
+
+module _ {K : Type 0} (now : K → List ℕ) where
+  -- an identifier that was seen stands at a place before this
+  abbrev pub Earlier : List K → List Signature → ℕ → Type 0
+  Earlier ks ss i = (bytes : List ℕ) → stands now ks bytes ≡ true → (j : ℕ) × (j < i) × HoldsAt (λ s. s.keyid.bytes ≡ bytes) (map signature_doc ss) j
+
+  pub none_earlier : (ks : List K) → ks ≡ [] → (ss : List Signature) → Earlier ks ss 0
+  none_earlier ks h ss = λ bytes seen. let clash : false ≡ true = sym (ap (λ n. stands now n bytes) h) ∙ seen in cc
+
+  pub again : (ks : List K) (ss : List Signature) (i : ℕ) (s : Signature) → i < length ss → s ≡ get_or ss i s → Earlier ks ss i → stands now ks s.keyid.bytes ≡ true → StandsAgain (map signature_doc ss) i
+  again ks ss i s h e earlier seen =
+      let r = earlier s.keyid.bytes seen in
+      (r.0, r.1, subst (λ n. i < n) (sym (length-map ss signature_doc)) h, holds-at (λ b. HoldsAt (λ a. a.keyid.bytes ≡ b.keyid.bytes) (map signature_doc ss) r.0) ss i s h e r.2)
+
+  earlier_at : (ks : List K) (ss : List Signature) (i : ℕ) (k : K) (s : Signature) → i < length ss → s ≡ get_or ss i s → now k ≡ s.keyid.bytes → Earlier ks ss i → (bytes : List ℕ) (t : Bool) → bytes_eq bytes (now k) ≡ t
+      → bytes_eq bytes (now k) || stands now ks bytes ≡ true → (j : ℕ) × (j < i + 1) × HoldsAt (λ s. s.keyid.bytes ≡ bytes) (map signature_doc ss) j
+  earlier_at ks ss i k s h e same earlier bytes true found seen = (i, here i, holds-at (λ a. a.keyid.bytes ≡ bytes) ss i s h e (sym ((bytes_eq-Decides bytes (now k)).0 found ∙ same)))
+  earlier_at ks ss i k s h e same earlier bytes false found seen =
+      let left = rw found at seen in
+      let r = earlier bytes left in (r.0, next r.0 i r.1, r.2)
+
+  pub earlier_noted : (ks : List K) (ss : List Signature) (i : ℕ) (k : K) (s : Signature) → i < length ss → s ≡ get_or ss i s → now k ≡ s.keyid.bytes → Earlier ks ss i → Earlier (insert_key (by_bytes now) ks k) ss (i + 1)
+  earlier_noted ks ss i k s h e same earlier = λ bytes seen. earlier_at ks ss i k s h e same earlier bytes (bytes_eq bytes (now k)) refl (sym (inserted now ks k bytes) ∙ seen)
 
 pub was_there : (added there : Bool) → added ≡ not there → added ≡ false → there ≡ true
 was_there added true h e = refl

@@ -6,6 +6,7 @@ pub use Rattle.tough_json.specs.Table
 pub mod Root
 pub mod Timestamp
 pub mod Policy
+pub mod Carried
 pub mod Verdict
 pub mod Reaches
 pub mod Chain

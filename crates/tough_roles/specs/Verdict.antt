@@ -53,41 +53,33 @@ verdict verifies (Some p) (Some text) signatures =
 -- which refusal an error is; want of memory says nothing
 abbrev pub IsRefusal : Error → Result Unit Refused → Type 0
 IsRefusal (errors.RoleNotFound name) v = v ≡ Err MissingRole
-IsRefusal (errors.TargetNotFound name) v = ⊥
-IsRefusal errors.NoDelegations v = ⊥
-IsRefusal errors.NoTargets v = ⊥
 IsRefusal (errors.MissingRole role) v = v ≡ Err MissingRole
 IsRefusal (errors.JsonSerialization role) v = v ≡ Err JsonSerialization
 IsRefusal (errors.DuplicateKeyId keyid) v = v ≡ Err DuplicateKeyId
 IsRefusal (errors.SignatureThreshold role threshold valid) v = v ≡ Err (SignatureThreshold threshold valid)
 IsRefusal errors.Memory v = ⊤
+IsRefusal _ v = ⊥
 
 -- an answer is the verdict
 abbrev pub Answers : Result Unit Error → Result Unit Refused → Type 0
 Answers (Ok u) v = v ≡ Ok tt
 Answers (Err e) v = IsRefusal e v
 
--- An error names the role, and an identifier that stands twice as the document spells it.
+-- the identifier that stands at the place stands at an earlier one, too
+abbrev pub StandsAgain : List SignatureDoc → ℕ → Type 0
+StandsAgain signatures i = (j : ℕ) × (j < i) × (i < length signatures) × HoldsAt (λ b. HoldsAt (λ a. a.keyid.bytes ≡ b.keyid.bytes) signatures j) signatures i
+
+-- An error names the role, and an identifier that stands twice, as the later of the two is spelled.
 abbrev pub Names : RoleType → List SignatureDoc → Error → Type 0
-Names asked signatures (errors.RoleNotFound name) = ⊥
-Names asked signatures (errors.TargetNotFound name) = ⊥
-Names asked signatures errors.NoDelegations = ⊥
-Names asked signatures errors.NoTargets = ⊥
 Names asked signatures (errors.MissingRole role) = role ≡ asked
 Names asked signatures (errors.JsonSerialization role) = role ≡ asked
-Names asked signatures (errors.DuplicateKeyId keyid) = (i : ℕ) × (i < length signatures) × HoldsAt (λ s. s.keyid.spelling ≡ string_bytes keyid) signatures i
+Names asked signatures (errors.DuplicateKeyId keyid) = (i : ℕ) × StandsAgain signatures i × HoldsAt (λ s. s.keyid.spelling ≡ string_bytes keyid) signatures i
 Names asked signatures (errors.SignatureThreshold role threshold valid) = role ≡ asked
 Names asked signatures errors.Memory = ⊤
+Names asked signatures _ = ⊥
 
 -- no refusal but want of memory
 abbrev pub IsOkOrMemory : Result Unit Error → Type 0
 IsOkOrMemory (Ok u) = ⊤
-IsOkOrMemory (Err (errors.RoleNotFound name)) = ⊥
-IsOkOrMemory (Err (errors.TargetNotFound name)) = ⊥
-IsOkOrMemory (Err errors.NoDelegations) = ⊥
-IsOkOrMemory (Err errors.NoTargets) = ⊥
-IsOkOrMemory (Err (errors.MissingRole role)) = ⊥
-IsOkOrMemory (Err (errors.JsonSerialization role)) = ⊥
-IsOkOrMemory (Err (errors.DuplicateKeyId keyid)) = ⊥
-IsOkOrMemory (Err (errors.SignatureThreshold role threshold valid)) = ⊥
 IsOkOrMemory (Err errors.Memory) = ⊤
+IsOkOrMemory (Err _) = ⊥

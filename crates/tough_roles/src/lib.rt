@@ -25,7 +25,7 @@ mod write_signed;
 mod write_snapshot;
 pub mod write_timestamp;
 
-pub use error::Error;
+pub use error::{Error, Result};
 pub use keyring::KeysIter;
 pub use role::Role;
 pub use role_id::RoleId;
@@ -40,4 +40,3 @@ pub use tough_keys::{
     DemoSign, DemoVerify, EcdsaKey, EcdsaScheme, Ed25519Key, Ed25519Scheme, Key, KeyParseError,
     RsaKey, RsaScheme, Sign, SignError, Verify,
 };
-pub use verify::canonical_form;

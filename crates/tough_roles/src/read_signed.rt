@@ -1,4 +1,4 @@
-ghost use Rattle.std.specs.Prelude.{◌≡◌, Some};
+ghost use Rattle.std.specs.Prelude.{◌≡◌, Some, IfOk};
 ghost use Rattle.json.specs.Value.{value_view};
 ghost use Rattle.serde_json.specs.Data.{Data};
 ghost use Rattle.serde_json.specs.Read.{of_json};
@@ -54,7 +54,8 @@ pub(crate) fn signed_of<T: Role>(
     alloc: Global,
     document: Borrowed<'_>,
 ) -> Result<Signed<T>, ReadError>
-    ensures { (d : Data) → of_json (value_view document.entry) ≡ Some d → ReadsValue (IsSigned T.is_read) (IsNotSigned T.is_refused) result d }
+    ensures read { (d : Data) → of_json (value_view document.entry) ≡ Some d → ReadsValue (IsSigned T.is_read) (IsNotSigned T.is_refused) result d }
+    ensures fresh { IfOk result (λ s. T.is_fresh s.signed) }
 {
     let (role, signatures) = match parts_of(alloc, document) {
         Ok(parts) => parts,

@@ -6,6 +6,7 @@ ghost use Rattle.serde_json.specs.Read.{of_json};
 ghost use Rattle.serde_json.specs.View.{view};
 ghost use Rattle.tough_json.specs.Results.{Writes};
 ghost use Rattle.tough_json.specs.Pieces.{text_in};
+ghost use Rattle.tough_roles.specs.Chain.{text_by};
 ghost use Rattle.tough_roles.specs.Document.{ReadsValue};
 ghost use Rattle.tough_roles.specs.Head.{Head};
 ghost use Rattle.tough_roles.specs.RoleId.{RoleIdDoc, role_id_doc};
@@ -19,10 +20,12 @@ use std::num::NonZeroU64;
 use tough_json::borrowed::{Borrowed, value_in};
 use tough_json::error::{ReadError, WriteError};
 use tough_json::{Form, PieceError};
+use tough_keys::text_of;
 
 /// What a signed document holds. `is_read d x` says that the JSON `d` is read as `x`; `json x` is the JSON that is
-/// written for it, none where it can't be written; `is_kept x` says what else holds of each value that was read; `file x` is
-/// the name of its file, by whether snapshots are consistent.
+/// written for it, none where it can't be written; `is_kept x` says what else holds of each value that was read, and
+/// `is_fresh x` what holds of it until it is changed; `file x` is the name of its file, by whether snapshots are
+/// consistent.
 pub trait Role {
     ghost TYPE: { RoleKind };
 
@@ -36,6 +39,8 @@ pub trait Role {
 
     ghost is_kept: { Self → Type 0 };
 
+    ghost is_fresh: { Self → Type 0 };
+
     ghost file: { Self → Bool → List ℕ };
 
     ghost id: { Self → RoleIdDoc };
@@ -43,12 +48,14 @@ pub trait Role {
     /// The role that the value is; `Shape` where it is none.
     fn from_value(alloc: Global, value: Value) -> Result<Self, ReadError>
         ensures read { ReadsValue is_read is_refused result (view value) }
-        ensures kept { IfOk result is_kept };
+        ensures kept { IfOk result is_kept }
+        ensures fresh { IfOk result is_fresh };
 
     /// The role that the JSON is, as `from_value` reads it.
     fn from_borrowed(alloc: Global, value: Borrowed<'_>) -> Result<Self, ReadError>
         ensures read { (d : Data) → of_json (value_view value.entry) ≡ Some d → ReadsValue is_read is_refused result d }
         ensures kept { (d : Data) → of_json (value_view value.entry) ≡ Some d → IfOk result is_kept }
+        ensures fresh { IfOk result is_fresh }
     {
         match value_in(alloc, &value) {
             Ok(value) => Self::from_value(alloc, value),
@@ -67,6 +74,20 @@ pub trait Role {
         ensures { IfOk result (λ t. option_and_then (text_in form) (json self.now) ≡ Some t.items) }
     {
         Err(PieceError::Refused)
+    }
+
+    /// The canonical text of the role as it is kept, which is what is signed; `Unwritable` where it has none.
+    fn canonical_form(&self, alloc: Global) -> Result<Vec<u8>, WriteError>
+        ensures { Writes (λ t. t.items) result (text_by json self.now) }
+    {
+        match self.text_in_pieces(alloc, Form::Canonical) {
+            Ok(text) => Ok(text),
+            Err(PieceError::Memory) => Err(WriteError::Memory),
+            Err(PieceError::Refused) => {
+                let value = self.to_value(alloc)?;
+                text_of(alloc, &value)
+            }
+        }
     }
 
     /// The version of the document.

@@ -1,4 +1,4 @@
-ghost use Rattle.std.specs.Prelude.{◌≡◌, codes, Some, None};
+ghost use Rattle.std.specs.Prelude.{◌≡◌, codes, Some, None, ⊤};
 ghost use Rattle.std.proofs.Common.{rules};
 ghost use Rattle.tough_json.specs.Results.{ReadsBytes};
 ghost use Rattle.tough_roles.specs.Root.{root_doc, root_at, root_json, keys_doc, AreOwn};
@@ -65,6 +65,8 @@ impl Role for Root {
     ghost json = { λ x. root_json (root_doc x) };
 
     ghost is_kept = { λ x. AreOwn (keys_doc x.keys.entries) };
+
+    ghost is_fresh = { λ x. ⊤ };
 
     ghost file = { λ x consistent. versioned (root_doc x).head.version (codes "root.json") };
 

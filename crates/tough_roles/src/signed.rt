@@ -30,7 +30,8 @@ pub struct Signed<T> {
 impl<T: Role> Signed<T> {
     /// The document that the bytes are; `Json` where they are no JSON, `Shape` where that is no document.
     pub fn read(alloc: Global, bytes: &[u8]) -> Result<Signed<T>, ReadError>
-        ensures { ReadsText (IsSigned T.is_read) (IsNotSigned T.is_refused) result bytes.now }
+        ensures read { ReadsText (IsSigned T.is_read) (IsNotSigned T.is_refused) result bytes.now }
+        ensures fresh { IfOk result (λ s. T.is_fresh s.signed) }
     {
         let mut scratch = Scratch::new(alloc);
         match borrowed(alloc, bytes, &mut scratch) {

@@ -76,6 +76,8 @@ impl Role for Snapshot {
 
     ghost is_kept = { λ x. ⊤ };
 
+    ghost is_fresh = { λ x. ⊤ };
+
     ghost file = { λ x consistent. file_name consistent (snapshot_doc x).head.version (codes "snapshot.json") };
 
     ghost id = { λ x. standard types.Snapshot };

@@ -90,6 +90,8 @@ impl Role for Timestamp {
 
     ghost is_kept = { λ x. ⊤ };
 
+    ghost is_fresh = { λ x. ⊤ };
+
     ghost file = { λ x consistent. codes "timestamp.json" };
 
     ghost id = { λ x. standard types.Timestamp };

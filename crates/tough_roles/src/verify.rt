@@ -3,11 +3,10 @@
 ghost use Rattle.std.specs.Prelude.{◌≡◌, ◌≤◌, ◌<◌, ◌&&◌, Some, true, false, IfErr, IfOk, MatchOption, count_by, length};
 ghost use Rattle.std.specs.List.{list_any};
 ghost use Rattle.std.specs.Str.{bytes_eq};
-ghost use Rattle.tough_json.specs.Results.{Writes};
 ghost use Rattle.tough_roles.specs.Signature.{signature_doc, signatures_doc, signed_doc};
 ghost use Rattle.tough_roles.specs.Root.{root_doc, keys_doc, role_keys_doc};
 ghost use Rattle.tough_roles.specs.Policy.{policy, policy_of};
-ghost use Rattle.tough_roles.specs.Verdict.{verdict, Answers, Names, IsOkOrMemory, some_twice};
+ghost use Rattle.tough_roles.specs.Verdict.{verdict, Answers, Names, IsOkOrMemory, StandsAgain, some_twice};
 ghost use Rattle.tough_roles.specs.Counting.{bytes_of, key_of, under, is_valid};
 ghost use Rattle.tough_roles.specs.Chain.{text_by, ReachesUnder};
 
@@ -21,22 +20,7 @@ use std::alloc::{AllocError, Global};
 use std::collections::{BTreeMap, BTreeSet};
 use tough_base::{Decoded, Hex};
 use tough_json::error::WriteError;
-use tough_json::{Form, PieceError};
-use tough_keys::{Key, Verify, text_of};
-
-/// The canonical text of a role as it is kept, which is what is signed; `Unwritable` where it has none.
-pub fn canonical_form<T: Role>(alloc: Global, role: &T) -> Result<Vec<u8>, WriteError>
-    ensures { Writes (λ t. t.items) result (text_by T.json role.now) }
-{
-    match role.text_in_pieces(alloc, Form::Canonical) {
-        Ok(text) => Ok(text),
-        Err(PieceError::Memory) => Err(WriteError::Memory),
-        Err(PieceError::Refused) => {
-            let value = role.to_value(alloc)?;
-            text_of(alloc, &value)
-        }
-    }
-}
+use tough_keys::{Key, Verify};
 
 // Whether an identifier is listed.
 fn is_listed(keyids: &[Decoded<Hex>], keyid: &Decoded<Hex>) -> bool
@@ -89,9 +73,9 @@ fn valid_count<V: Verify>(
         .count()
 }
 
-// The place of an identifier that stood before; the cost grows as n log n for n signatures.
+// The place of the first identifier that stood before; the cost grows as n log n for n signatures.
 fn repeated(alloc: Global, signatures: &[Signature]) -> Result<Option<usize>, AllocError>
-    ensures { IfOk result (λ place. MatchOption place (some_twice (signatures_doc signatures.now) ≡ false) (λ i. (i < length signatures.now) × (some_twice (signatures_doc signatures.now) ≡ true))) }
+    ensures { IfOk result (λ place. MatchOption place (some_twice (signatures_doc signatures.now) ≡ false) (λ i. (i < length signatures.now) × StandsAgain (signatures_doc signatures.now) i × (some_twice (signatures_doc signatures.now) ≡ true))) }
 {
     let mut seen = BTreeSet::new(alloc);
     for (i, signature) in signatures.iter().enumerate() {
@@ -146,7 +130,7 @@ fn answer<T: Role, V: Verify>(
     let Some(keys) = root.roles.get(&T::TYPE) else {
         return Err(Error::MissingRole { role: T::TYPE });
     };
-    match canonical_form(alloc, &role.signed) {
+    match role.signed.canonical_form(alloc) {
         Ok(text) => {
             let text = text.as_slice();
             judge(
@@ -160,7 +144,7 @@ fn answer<T: Role, V: Verify>(
             )
         }
         Err(WriteError::Memory) => Err(Error::Memory),
-        Err(WriteError::Unwritable) => Err(Error::JsonSerialization { role: T::TYPE }),
+        Err(WriteError::Unwritable) => Err(Error::JsonSerialization { what: T::TYPE }),
     }
 }
 

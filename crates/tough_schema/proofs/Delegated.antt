@@ -50,14 +50,12 @@ reached_ok v holder name json s r =
 
 no_refusal : (e : Error) → IsRefusal e (Ok tt) → IsOkOrMemory (Err e)
 no_refusal (errors.RoleNotFound name) h = cc
-no_refusal (errors.TargetNotFound name) h = h
-no_refusal errors.NoDelegations h = h
-no_refusal errors.NoTargets h = h
 no_refusal (errors.MissingRole role) h = cc
 no_refusal (errors.JsonSerialization role) h = cc
 no_refusal (errors.DuplicateKeyId keyid) h = cc
 no_refusal (errors.SignatureThreshold role threshold valid) h = cc
 no_refusal errors.Memory h = tt
+no_refusal _ h = absurd h
 
 not_refused : (result : Result Unit Error) → Answers result (Ok tt) → IsOkOrMemory result
 not_refused (Ok u) h = tt
@@ -82,14 +80,12 @@ there v p text ss h = there_at (some_twice ss) (nat_le p.threshold (signer_count
 
 pub names-delegated : (name : List ℕ) (v : Verifies) (p : Policy) (text : List ℕ) (asked : RoleType) (ss : List SignatureDoc) (e : Error) → IsRefusal e (verdict v (Some p) (Some text) ss) → Names asked ss e → NamesDelegated name asked ss e
 names-delegated name v p text asked ss (errors.RoleNotFound role) r h = absurd h
-names-delegated name v p text asked ss (errors.TargetNotFound target) r h = h
-names-delegated name v p text asked ss errors.NoDelegations r h = h
-names-delegated name v p text asked ss errors.NoTargets r h = h
 names-delegated name v p text asked ss (errors.MissingRole role) r h = there v p text ss r
 names-delegated name v p text asked ss (errors.JsonSerialization role) r h = h
 names-delegated name v p text asked ss (errors.DuplicateKeyId keyid) r h = h
 names-delegated name v p text asked ss (errors.SignatureThreshold role threshold valid) r h = h
 names-delegated name v p text asked ss errors.Memory r h = h
+names-delegated name v p text asked ss _ r h = absurd h
 
 pub names-judged : (name : List ℕ) (v : Verifies) (p : Policy) (text : List ℕ) (asked : RoleType) (ss : List SignatureDoc) (result : Result Unit Error) → Answers result (verdict v (Some p) (Some text) ss) → IfErr result (λ e. Names asked ss e) → IfErr result (λ e. NamesDelegated name asked ss e)
 names-judged name v p text asked ss (Ok u) r h = tt

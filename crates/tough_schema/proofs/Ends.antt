@@ -5,8 +5,10 @@ use Rattle.std.proofs.lemmas.List.Elements.{filter-append, filter_map-append}
 use Rattle.std.specs.List.{cons_option}
 use Rattle.std.specs.Option.{option_or}
 use Rattle.tough_schema.specs.Target.{TargetDoc}
-use Rattle.tough_schema.specs.Tree.{Listing, Document, document, Roles, no_roles, bare, with_document, Occurrence, stop, preorder, preorder_below}
-use Rattle.tough_schema.specs.Search.{Names, is_new, add, reached_from, earlier, first_end, is_before, searched, listed, first_listed, listings}
+use Rattle.tough_schema.specs.Tree.{Listing}
+use Rattle.tough_schema.specs.Whole.{TreeDoc, tree, Branches, no_branches, unloaded, loaded}
+use Rattle.tough_schema.specs.Preorder.{Occurrence, stop, preorder, preorder_below}
+use Rattle.tough_schema.specs.Search.{Names, is_new, add, reached_from, earlier, first_end, is_before, searched, listed, first_listed, listings, listing_at}
 use Rattle.tough_schema.specs.Walk.{Answer, found, stopped, passed, at_end, ends}
 use Rattle.tough_names.specs.Named.{Named}
 
@@ -31,32 +33,32 @@ pub within-reached : (a b : ℕ) (name : Named) (skip : ℕ) (seen : Names) (xs 
 within-reached a b name skip seen [] x = tt
 within-reached a b name (suc skip) seen (o ∷ xs) x = within-reached a b name skip seen xs x.2
 within-reached a b name zero seen (o ∷ xs) x =
-    within-cond a b (is_new name seen o.entry) (o ∷ reached_from name zero (add o.entry.name seen) xs) (reached_from name o.below seen xs)
-    (x.0, x.1, within-reached a b name zero (add o.entry.name seen) xs x.2) (within-reached a b name o.below seen xs x.2)
+    within-cond a b (is_new name seen o.role.0) (o ∷ reached_from name zero (add o.role.0.name seen) xs) (reached_from name o.below seen xs)
+    (x.0, x.1, within-reached a b name zero (add o.role.0.name seen) xs x.2) (within-reached a b name o.below seen xs x.2)
 
 mutual
-  pub within-preorder : (k : ℕ) (rs : Roles) → Within k (k + length (preorder k rs)) (preorder k rs)
-  within-preorder k no_roles = tt
-  within-preorder k (bare e rs) = (omega arith, omega arith, within-weaker (k + 1) (k + 1 + length (preorder (k + 1) rs)) k (k + length (preorder k (bare e rs))) (preorder (k + 1) rs) (omega arith) (omega arith) (within-preorder (k + 1) rs))
-  within-preorder k (with_document e d rs) =
-      let inside = preorder_below (k + 1) d in
-      let rest = preorder (k + 1 + length inside) rs in
+  pub within-preorder : (k : ℕ) (bs : Branches) → Within k (k + length (preorder k bs)) (preorder k bs)
+  within-preorder k no_branches = tt
+  within-preorder k (unloaded e bs) = (omega arith, omega arith, within-weaker (k + 1) (k + 1 + length (preorder (k + 1) bs)) k (k + length (preorder k (unloaded e bs))) (preorder (k + 1) bs) (omega arith) (omega arith) (within-preorder (k + 1) bs))
+  within-preorder k (loaded e n signatures t bs) =
+      let inside = preorder_below (k + 1) t in
+      let rest = preorder (k + 1 + length inside) bs in
       let size = length-append inside rest in (
         omega arith,
         omega (arith, size),
-        within-append k (k + suc (length (inside ++ rest))) inside rest (within-weaker (k + 1) (k + 1 + length inside) k (k + suc (length (inside ++ rest))) inside (omega arith) (omega (arith, size)) (within-below (k + 1) d))
-            (within-weaker (k + 1 + length inside) (k + 1 + length inside + length rest) k (k + suc (length (inside ++ rest))) rest (omega arith) (omega (arith, size)) (within-preorder (k + 1 + length inside) rs)),
+        within-append k (k + suc (length (inside ++ rest))) inside rest (within-weaker (k + 1) (k + 1 + length inside) k (k + suc (length (inside ++ rest))) inside (omega arith) (omega (arith, size)) (within-below (k + 1) t))
+            (within-weaker (k + 1 + length inside) (k + 1 + length inside + length rest) k (k + suc (length (inside ++ rest))) rest (omega arith) (omega (arith, size)) (within-preorder (k + 1 + length inside) bs)),
       )
 
-  pub within-below : (k : ℕ) (d : Document) → Within k (k + length (preorder_below k d)) (preorder_below k d)
-  within-below k (document l rs) = within-preorder k rs
+  pub within-below : (k : ℕ) (t : TreeDoc) → Within k (k + length (preorder_below k t)) (preorder_below k t)
+  within-below k (tree o bs) = within-preorder k bs
 
 -- ---- the first end
 
 -- where the search stops: a permissive one does not
 abbrev pub end_of : Bool → List Occurrence → Option ℕ
 end_of permissive [] = None
-end_of permissive (o ∷ os) = if ends permissive o.entry then earlier (stop o) (end_of permissive os) else end_of permissive os
+end_of permissive (o ∷ os) = if ends permissive o.role.0 then earlier (stop o) (end_of permissive os) else end_of permissive os
 
 abbrev pub first_of : Option ℕ → Option ℕ → Option ℕ
 first_of None q = q
@@ -73,7 +75,7 @@ end-append-at false k p q r e = e
 
 pub end-append : (permissive : Bool) (xs ys : List Occurrence) → end_of permissive (xs ++ ys) ≡ first_of (end_of permissive xs) (end_of permissive ys)
 end-append permissive [] ys = refl
-end-append permissive (o ∷ xs) ys = end-append-at (ends permissive o.entry) (stop o) (end_of permissive xs) (end_of permissive ys) (end_of permissive (xs ++ ys)) (end-append permissive xs ys)
+end-append permissive (o ∷ xs) ys = end-append-at (ends permissive o.role.0) (stop o) (end_of permissive xs) (end_of permissive ys) (end_of permissive (xs ++ ys)) (end-append permissive xs ys)
 
 -- an end is after the first place, and not after the last end
 abbrev pub IsEndWithin : ℕ → ℕ → Option ℕ → Type 0
@@ -90,7 +92,7 @@ end-within-at false a b k q l h x = x
 
 pub end-within : (permissive : Bool) (a b : ℕ) (xs : List Occurrence) → Within a b xs → IsEndWithin a b (end_of permissive xs)
 end-within permissive a b [] x = tt
-end-within permissive a b (o ∷ xs) x = end-within-at (ends permissive o.entry) a b (stop o) (end_of permissive xs) (omega (arith, x.0)) x.1 (end-within permissive a b xs x.2)
+end-within permissive a b (o ∷ xs) x = end-within-at (ends permissive o.role.0) a b (stop o) (end_of permissive xs) (omega (arith, x.0)) x.1 (end-within permissive a b xs x.2)
 
 -- ---- what is before the end
 
@@ -147,10 +149,10 @@ outcome-append-at : (name : Named) (a b c : ℕ) (xs ys : List Occurrence) (p q 
     → outcome_of (first_listed name (listings (filter (is_before (first_of p q)) (xs ++ ys)))) (first_of p q)
     ≡ chain (outcome_of (first_listed name (listings (filter (is_before p) xs))) p) (outcome_of (first_listed name (listings (filter (is_before q) ys))) q)
 outcome-append-at name a b c xs ys None None x y h l =
-    rw (filter-all xs, filter-all ys, filter-all (xs ++ ys), filter_map-append (λ (o : Occurrence). o.listing) xs ys, first_listed-append name (listings xs) (listings ys))
+    rw (filter-all xs, filter-all ys, filter-all (xs ++ ys), filter_map-append listing_at xs ys, first_listed-append name (listings xs) (listings ys))
     (chain-goes_on (first_listed name (listings xs)) (first_listed name (listings ys)) None)
 outcome-append-at name a b c xs ys None (Some n) x y h l =
-    rw (filter-all xs, filter-append (is_before (Some n)) xs ys, filter-keeps a b n xs x (omega (arith, l.0)), filter_map-append (λ (o : Occurrence). o.listing) xs (filter (is_before (Some n)) ys), first_listed-append name (listings xs) (listings (filter (is_before (Some n)) ys)))
+    rw (filter-all xs, filter-append (is_before (Some n)) xs ys, filter-keeps a b n xs x (omega (arith, l.0)), filter_map-append listing_at xs (filter (is_before (Some n)) ys), first_listed-append name (listings xs) (listings (filter (is_before (Some n)) ys)))
     (chain-goes_on (first_listed name (listings xs)) (first_listed name (listings (filter (is_before (Some n)) ys))) (Some n))
 outcome-append-at name a b c xs ys (Some m) None x y h l =
     rw (filter-append (is_before (Some m)) xs ys, filter-drops b c m ys y h.1, append-nil (filter (is_before (Some m)) xs))
@@ -204,30 +206,30 @@ own-goes_on name (Some l) ls = own-goes_on-at (listed name l) (first_listed name
 
 outcome-subtree-at : (name : Named) (o : Occurrence) (k : ℕ) (inside : List Occurrence) (t : Bool) (q : Option ℕ) → o.start < k → Within (o.start + 1) k inside → IsEndWithin (o.start + 1) k q
     → outcome_of (first_listed name (listings (filter (is_before (if t then earlier k q else q)) (o ∷ inside)))) (if t then earlier k q else q)
-    ≡ at_end t (after_own name o.listing (outcome_of (first_listed name (listings (filter (is_before q) inside))) q))
+    ≡ at_end t (after_own name (listing_at o) (outcome_of (first_listed name (listings (filter (is_before q) inside))) q))
 outcome-subtree-at name o k inside true None s x h =
-    rw (lt-ltb o.start k s, filter-keeps (o.start + 1) k k inside x (omega arith), filter-all inside) (own-closes name o.listing (listings inside) k)
+    rw (lt-ltb o.start k s, filter-keeps (o.start + 1) k k inside x (omega arith), filter-all inside) (own-closes name (listing_at o) (listings inside) k)
 outcome-subtree-at name o k inside true (Some m) s x h =
     let least : earlier k (Some m) ≡ Some m = ap Some (omega (arith, h.1)) in
     let answer : Option ℕ → Answer = λ r. outcome_of (first_listed name (listings (filter (is_before r) (o ∷ inside)))) r in
-    ap answer least ∙ rw (lt-ltb o.start m (omega (arith, h.0))) (own-ends name true o.listing (listings (filter (is_before (Some m)) inside)) m)
-outcome-subtree-at name o k inside false None s x h = own-goes_on name o.listing (listings (filter (is_before None) inside))
+    ap answer least ∙ rw (lt-ltb o.start m (omega (arith, h.0))) (own-ends name true (listing_at o) (listings (filter (is_before (Some m)) inside)) m)
+outcome-subtree-at name o k inside false None s x h = own-goes_on name (listing_at o) (listings (filter (is_before None) inside))
 outcome-subtree-at name o k inside false (Some m) s x h =
-    rw (lt-ltb o.start m (omega (arith, h.0))) (own-ends name false o.listing (listings (filter (is_before (Some m)) inside)) m)
+    rw (lt-ltb o.start m (omega (arith, h.0))) (own-ends name false (listing_at o) (listings (filter (is_before (Some m)) inside)) m)
 
 pub outcome-subtree : (permissive : Bool) (name : Named) (o : Occurrence) (inside : List Occurrence) → Within (o.start + 1) (stop o) inside
-    → outcome permissive name (o ∷ inside) ≡ at_end (ends permissive o.entry) (after_own name o.listing (outcome permissive name inside))
-outcome-subtree permissive name o inside x = outcome-subtree-at name o (stop o) inside (ends permissive o.entry) (end_of permissive inside) (omega arith) x (end-within permissive (o.start + 1) (stop o) inside x)
+    → outcome permissive name (o ∷ inside) ≡ at_end (ends permissive o.role.0) (after_own name (listing_at o) (outcome permissive name inside))
+outcome-subtree permissive name o inside x = outcome-subtree-at name o (stop o) inside (ends permissive o.role.0) (end_of permissive inside) (omega arith) x (end-within permissive (o.start + 1) (stop o) inside x)
 
 -- ---- the definition's own words
 
 end_of-permissive : (xs : List Occurrence) → end_of true xs ≡ None
 end_of-permissive [] = refl
-end_of-permissive (o ∷ xs) = elim o.entry.terminating as (λ (b : Bool). (if b && false then earlier (stop o) (end_of true xs) else end_of true xs) ≡ None) [ true ↦ end_of-permissive xs | false ↦ end_of-permissive xs ]
+end_of-permissive (o ∷ xs) = elim o.role.0.terminating as (λ (b : Bool). (if b && false then earlier (stop o) (end_of true xs) else end_of true xs) ≡ None) [ true ↦ end_of-permissive xs | false ↦ end_of-permissive xs ]
 
 end_of-strict : (xs : List Occurrence) → end_of false xs ≡ first_end xs
 end_of-strict [] = refl
-end_of-strict (o ∷ xs) = rw (end_of-strict xs) (elim o.entry.terminating as (λ (b : Bool). (if b && true then earlier (stop o) (first_end xs) else first_end xs) ≡ (if b then earlier (stop o) (first_end xs) else first_end xs)) [ true ↦ refl | false ↦ refl ])
+end_of-strict (o ∷ xs) = rw (end_of-strict xs) (elim o.role.0.terminating as (λ (b : Bool). (if b && true then earlier (stop o) (first_end xs) else first_end xs) ≡ (if b then earlier (stop o) (first_end xs) else first_end xs)) [ true ↦ refl | false ↦ refl ])
 
 pub before_end-searched : (permissive : Bool) (xs : List Occurrence) → before_end permissive xs ≡ searched permissive xs
 before_end-searched true xs = rw (end_of-permissive xs) (filter-all xs)

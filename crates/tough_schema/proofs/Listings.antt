@@ -13,38 +13,36 @@ use Rattle.tough_schema.specs.declared.targets.DelegatedTargets.{DelegatedTarget
 use Rattle.tough_schema.specs.declared.targets.Targets.{Targets, out-Targets}
 use Rattle.tough_schema.specs.Target.{TargetDoc, target_doc}
 use Rattle.tough_schema.specs.Targets.{listing_doc}
-use Rattle.tough_schema.specs.Tree.{Listing, Entry, Document, listing_of}
-use Rattle.tough_schema.specs.View.{Role, view, view_role}
+use Rattle.tough_schema.specs.Tree.{Listing}
+use Rattle.tough_schema.specs.Whole.{TreeDoc, RoleTree, listing_of, tree_doc, role_tree, held_doc}
 use Rattle.tough_roles.specs.declared.error.Error.{Error}
 use Rattle.tough_roles.specs.declared.error.Error.TheVariants as errors
 use Rattle.tough_schema.specs.Search.{search, IsNotFound}
 use Rattle.tough_schema.specs.Entries.{listed_of, listed_in, all_listed, merged_into, IsListed, IsInvalid}
-use Rattle.tough_schema.specs.Gather.{placed, shown, listed_docs, map_docs}
-use Rattle.tough_schema.proofs.Views.{held_document, view-out, view_role-out, view_delegated-out}
+use Rattle.tough_schema.specs.Gather.{shown, listed_docs, map_docs}
+use Rattle.tough_schema.proofs.Wholes.{tree-out, role-held, held-below}
 
-pub listing-view : (t : Targets) → listing_of (view t) ≡ listing_doc (out-Targets t).targets.entries
-listing-view t = ap listing_of (view-out t)
+pub listing-tree : (t : Targets) → listing_of (tree_doc t) ≡ listing_doc (out-Targets t).targets.entries
+listing-tree t = ap listing_of (tree-out t)
 
 -- what the document of a role lists
-pub placed-none : (r : DelegatedRole) → (out-DelegatedRole r).targets ≡ None → listed_of (placed (view_role r)).1 ≡ []
-placed-none r h = ap (λ (x : Role). listed_of (option_map listing_of x.1)) (view_role-out r) ∙ ap (λ o. listed_of (option_map listing_of (held_document o))) h
+pub listed-none : (r : DelegatedRole) → (out-DelegatedRole r).targets ≡ None → listed_of (role_tree r).1 ≡ []
+listed-none r h = ap listed_of (role-held r ∙ ap (option_map held_doc) h)
 
-pub placed-some : (r : DelegatedRole) (s : Signed DelegatedTargets) → (out-DelegatedRole r).targets ≡ Some s → listed_of (placed (view_role r)).1 ≡ listing_doc (out-Targets (out-DelegatedTargets s.signed).targets).targets.entries
-placed-some r s h =
-    ap (λ (x : Role). listed_of (option_map listing_of x.1)) (view_role-out r) ∙ ap (λ o. listed_of (option_map listing_of (held_document o))) h
-    ∙ ap listing_of (view_delegated-out s.signed) ∙ listing-view (out-DelegatedTargets s.signed).targets
+pub listed-some : (r : DelegatedRole) (s : Signed DelegatedTargets) → (out-DelegatedRole r).targets ≡ Some s → listed_of (role_tree r).1 ≡ listing_doc (out-Targets (out-DelegatedTargets s.signed).targets).targets.entries
+listed-some r s h = ap listed_of (role-held r ∙ ap (option_map held_doc) h) ∙ ap listing_of (held-below s) ∙ listing-tree (out-DelegatedTargets s.signed).targets
 
-listed_in-append : (xs ys : List (Entry × Option Listing)) → listed_in (xs ++ ys) ≡ listed_in xs ++ listed_in ys
+listed_in-append : (xs ys : List RoleTree) → listed_in (xs ++ ys) ≡ listed_in xs ++ listed_in ys
 listed_in-append [] ys = refl
 listed_in-append (x ∷ xs) ys = ap (λ l. listed_of x.1 ++ l) (listed_in-append xs ys) ∙ sym (append_assoc (listed_of x.1) (listed_in xs) (listed_in ys))
 
 -- the entries up to i, and the one at i
 pub listed_in-more : (rs : List (Bor DelegatedRole)) (i : ℕ) (r : Bor DelegatedRole) → i < length rs → r ≡ get_or rs i r
-    → listed_in (shown (take (i + 1) rs)) ≡ listed_in (shown (take i rs)) ++ listed_of (placed (view_role r.now)).1
+    → listed_in (shown (take (i + 1) rs)) ≡ listed_in (shown (take i rs)) ++ listed_of (role_tree r.now).1
 listed_in-more rs i r h e =
     let here : take (i + 1) rs ≡ take i rs ++ r ∷ [] = take_more rs i r h ∙ ap (λ y. take i rs ++ y ∷ []) (sym e) in
-    ap (λ l. listed_in (shown l)) here ∙ ap listed_in (map-append (λ (x : Bor DelegatedRole). placed (view_role x.now)) (take i rs) (r ∷ [])) ∙ listed_in-append (shown (take i rs)) (placed (view_role r.now) ∷ [])
-    ∙ ap (λ l. listed_in (shown (take i rs)) ++ l) (append-nil (listed_of (placed (view_role r.now)).1))
+    ap (λ l. listed_in (shown l)) here ∙ ap listed_in (map-append (λ (x : Bor DelegatedRole). role_tree x.now) (take i rs) (r ∷ [])) ∙ listed_in-append (shown (take i rs)) (role_tree r.now ∷ [])
+    ∙ ap (λ l. listed_in (shown (take i rs)) ++ l) (append-nil (listed_of (role_tree r.now).1))
 
 -- ---- a map
 
@@ -96,13 +94,7 @@ pub is_some-some : {A : Type 0} (o : Option A) (a : A) → o ≡ Some a → is_s
 is_some-some None a h = cc
 is_some-some (Some b) a h = refl
 
-pub invalid-from : (d : Document) (name : Named) (t : TargetDoc) (e : Error) → IsAmong (name, t) (all_listed d) → IsNotFound name (search true name d) e → IsInvalid d e
+pub invalid-from : (d : TreeDoc) (name : Named) (t : TargetDoc) (e : Error) → IsAmong (name, t) (all_listed d) → IsNotFound name (search true name d) e → IsInvalid d e
 invalid-from d name t (errors.TargetNotFound n) among h = subst (λ m. IsListed m (all_listed d) × (search true m d ≡ None)) (sym h.0) ((t, among), h.1)
 invalid-from d name t errors.Memory among h = h
-invalid-from d name t (errors.RoleNotFound n) among h = h
-invalid-from d name t errors.NoDelegations among h = h
-invalid-from d name t errors.NoTargets among h = h
-invalid-from d name t (errors.MissingRole role) among h = h
-invalid-from d name t (errors.JsonSerialization role) among h = h
-invalid-from d name t (errors.DuplicateKeyId keyid) among h = h
-invalid-from d name t (errors.SignatureThreshold role threshold valid) among h = h
+invalid-from d name t _ among h = absurd h

@@ -1,91 +1,26 @@
 -- The documents that are taken over, a step at a time.
-use Rattle.std.proofs.Common.{◌≡◌, ℕ, ◌+◌, ◌<◌, List, [], ◌∷◌, ◌++◌, map, take, drop, length, get_or, Bool, true, false, Option, Some, None, option_map, option_and_then, if◌then◌else◌, string_bytes, refl, ap, sym, suc, ◌∙◌, append_assoc, append-nil}
-use Rattle.std.proofs.lemmas.List.{take_more, drop_more, map-append, length-map, with_items_is}
-use Rattle.std.specs.Option.{option_or}
-use Rattle.std.specs.Str.{bytes_eq}
+use Rattle.std.proofs.Common.{◌≡◌, ℕ, ◌+◌, ◌<◌, List, [], ◌∷◌, ◌++◌, map, take, length, get_or, Option, Some, None, option_map, refl, ap, sym, suc, ◌∙◌, append_assoc, append-nil}
+use Rattle.std.proofs.lemmas.List.{take_more, map-append, length-map, with_items_is}
 use Rattle.std.specs.Vec.{with_items}
 use Rattle.tough_roles.specs.Root.{keys_doc}
 use Rattle.tough_roles.specs.declared.signed.Signed.{Signed}
 use Rattle.tough_schema.specs.declared.delegations.DelegatedRole.{DelegatedRole, out-DelegatedRole}
 use Rattle.tough_schema.specs.declared.delegations.Delegations.{Delegations, out-Delegations, roll-Delegations}
-use Rattle.tough_schema.specs.declared.targets.DelegatedTargets.{DelegatedTargets, out-DelegatedTargets}
+use Rattle.tough_schema.specs.declared.targets.DelegatedTargets.{DelegatedTargets}
 use Rattle.tough_schema.specs.declared.targets.Targets.{Targets, out-Targets, roll-Targets}
 use Rattle.tough_schema.specs.Tree.{Entry}
-use Rattle.tough_schema.specs.Whole.{TreeDoc, tree, Branches, no_branches, HeldDoc, RoleTree, NamedTree, DelegationsTree, put_branch, branches_from, branches_of, tree_doc, delegations_tree, role_tree, held_doc, entries_in}
-use Rattle.tough_schema.specs.Seeking.{held_step, role_step}
-use Rattle.tough_schema.specs.Update.{role_sought, role_below, document_sought, given, updated_in, updated, listed_roles, needed, needed_at, documents_for, all_given, roles_at, roles_within, all_with, with_documents}
-use Rattle.tough_schema.proofs.Wholes.{own, tree-roll, tree-out, delegations-roll, delegations-out, role-out, named-out}
+use Rattle.tough_schema.specs.Whole.{TreeDoc, tree, Branches, no_branches, HeldDoc, RoleTree, DelegationsTree, put_branch, branches_from, branches_of, tree_doc, delegations_tree, role_tree, held_doc, entries_in}
+use Rattle.tough_schema.specs.Seek.{found, seek_in, document_of}
+use Rattle.tough_schema.specs.Update.{document_sought, given, updated_in, updated, listed_roles, needed, needed_at, documents_for, all_given, roles_at, roles_within, all_with, with_documents}
+use Rattle.tough_schema.proofs.Wholes.{own, tree-roll, tree-out, tree-under, delegations-roll, delegations-out, role-held, entries-put}
 
--- ---- the role of a name, with its document
+-- ---- the document of the role of a name
 
--- a role's answer, or else that of the rest
-abbrev pub or_rest : Option (Option RoleTree) → Option RoleTree → Option RoleTree
-or_rest None x = x
-or_rest (Some o) x = o
+pub document-some : (name : List ℕ) (t : Targets) (r : DelegatedRole) (s : Signed DelegatedTargets) → found (role_tree r) ≡ seek_in name (tree_doc t) → (out-DelegatedRole r).targets ≡ Some s → Some (held_doc s) ≡ document_sought name (tree_doc t)
+document-some name t r s h e = sym (role-held r ∙ ap (option_map held_doc) e) ∙ ap document_of h
 
-put_bare : (b : Bool) (r : RoleTree) (x : Option RoleTree) → (if b then Some r else None) ≡ or_rest (if b then Some (Some r) else Some None) x
-put_bare true r x = refl
-put_bare false r x = refl
-
-or_below : (o x : Option RoleTree) → option_or o x ≡ or_rest (option_map Some o) x
-or_below None x = refl
-or_below (Some r) x = refl
-
-put_loaded : (b : Bool) (r : RoleTree) (o x : Option RoleTree) → (if b then Some r else option_or o x) ≡ or_rest (if b then Some (Some r) else option_map Some o) x
-put_loaded true r o x = refl
-put_loaded false r o x = or_below o x
-
-pub sought-put : (name : List ℕ) (r : RoleTree) (bs : Branches) → role_sought name (put_branch r bs) ≡ or_rest (role_step name r) (role_sought name bs)
-sought-put name (e, None) bs = put_bare (bytes_eq e.name name) (e, None) (role_sought name bs)
-sought-put name (e, Some h) bs = put_loaded (bytes_eq e.name name) (e, Some h) (role_below name h.below) (role_sought name bs)
-
-branches-drop : (rs : List DelegatedRole) (i : ℕ) (r : DelegatedRole) → i < length rs → r ≡ get_or rs i r → branches_from (map role_tree (drop i rs)) ≡ put_branch (role_tree r) (branches_from (map role_tree (drop (i + 1) rs)))
-branches-drop rs i r h e = ap (λ (l : List DelegatedRole). branches_from (map role_tree l)) (drop_more rs i r h ∙ ap (λ y. y ∷ drop (i + 1) rs) (sym e))
-
-pub sought-next : (name : List ℕ) (rs : List DelegatedRole) (i : ℕ) (r : DelegatedRole) (o : Option (Option RoleTree)) → i < length rs → r ≡ get_or rs i r → o ≡ role_step name (role_tree r)
-    → role_sought name (branches_from (map role_tree (drop i rs))) ≡ or_rest o (role_sought name (branches_from (map role_tree (drop (i + 1) rs))))
-sought-next name rs i r o h e s =
-    ap (role_sought name) (branches-drop rs i r h e) ∙ sought-put name (role_tree r) (branches_from (map role_tree (drop (i + 1) rs)))
-    ∙ ap (λ x. or_rest x (role_sought name (branches_from (map role_tree (drop (i + 1) rs))))) (sym s)
-
-role-named : (r : DelegatedRole) → (role_tree r).0.name ≡ string_bytes (out-DelegatedRole r).name
-role-named r = ap (λ (x : RoleTree). x.0.name) (role-out r)
-
-role-held : (r : DelegatedRole) → (role_tree r).1 ≡ option_map held_doc (out-DelegatedRole r).targets
-role-held r = ap (λ (x : RoleTree). x.1) (role-out r)
-
-pub role_step-here : (name : List ℕ) (r : DelegatedRole) → bytes_eq (string_bytes (out-DelegatedRole r).name) name ≡ true → role_step name (role_tree r) ≡ Some (Some (role_tree r))
-role_step-here name r h = ap (λ b. if b then Some (Some (role_tree r)) else held_step name (role_tree r).1) (ap (λ n. bytes_eq n name) (role-named r) ∙ h)
-
-role_step-other : (name : List ℕ) (r : DelegatedRole) → bytes_eq (string_bytes (out-DelegatedRole r).name) name ≡ false → role_step name (role_tree r) ≡ held_step name (option_map held_doc (out-DelegatedRole r).targets)
-role_step-other name r h =
-    ap (λ b. if b then Some (Some (role_tree r)) else held_step name (role_tree r).1) (ap (λ n. bytes_eq n name) (role-named r) ∙ h) ∙ ap (held_step name) (role-held r)
-
-pub role_step-bare : (name : List ℕ) (r : DelegatedRole) → bytes_eq (string_bytes (out-DelegatedRole r).name) name ≡ false → (out-DelegatedRole r).targets ≡ None → role_step name (role_tree r) ≡ Some None
-role_step-bare name r h t = role_step-other name r h ∙ ap (λ o. held_step name (option_map held_doc o)) t
-
-pub role_step-below : (name : List ℕ) (r : DelegatedRole) (s : Signed DelegatedTargets) → bytes_eq (string_bytes (out-DelegatedRole r).name) name ≡ false → (out-DelegatedRole r).targets ≡ Some s
-    → role_step name (role_tree r) ≡ option_map Some (role_below name (tree_doc (out-DelegatedTargets s.signed).targets))
-role_step-below name r s h t =
-    role_step-other name r h ∙ ap (λ o. held_step name (option_map held_doc o)) t ∙ ap (λ (d : NamedTree). option_map Some (role_below name d.1)) (named-out s.signed)
-
-pub below-leaf : (name : List ℕ) (t : Targets) → (out-Targets t).delegations ≡ None → role_below name (tree_doc t) ≡ None
-below-leaf name t h = ap (role_below name) (tree-out t) ∙ ap (λ (o : Option Delegations). role_sought name (branches_of (option_map delegations_tree o))) h
-
-pub below-inner : (name : List ℕ) (t : Targets) (g : Delegations) → (out-Targets t).delegations ≡ Some g → role_below name (tree_doc t) ≡ role_sought name (branches_from (map role_tree (out-Delegations g).roles.items))
-below-inner name t g h =
-    ap (role_below name) (tree-out t) ∙ ap (λ (o : Option Delegations). role_sought name (branches_of (option_map delegations_tree o))) h ∙ ap (λ (d : DelegationsTree). role_sought name d.1) (delegations-out g)
-
--- ---- the document of that role
-
-pub document-some : (name : List ℕ) (t : Targets) (r : DelegatedRole) (s : Signed DelegatedTargets) → Some (role_tree r) ≡ role_below name (tree_doc t) → (out-DelegatedRole r).targets ≡ Some s → Some (held_doc s) ≡ document_sought name (tree_doc t)
-document-some name t r s h e = sym (role-held r ∙ ap (option_map held_doc) e) ∙ ap (option_and_then (λ (x : RoleTree). x.1)) h
-
-pub document-none : (name : List ℕ) (t : Targets) (r : DelegatedRole) → Some (role_tree r) ≡ role_below name (tree_doc t) → (out-DelegatedRole r).targets ≡ None → None ≡ document_sought name (tree_doc t)
-document-none name t r h e = sym (role-held r ∙ ap (option_map held_doc) e) ∙ ap (option_and_then (λ (x : RoleTree). x.1)) h
-
-pub document-missing : (name : List ℕ) (t : Targets) → None ≡ role_below name (tree_doc t) → None ≡ document_sought name (tree_doc t)
-document-missing name t h = ap (option_and_then (λ (x : RoleTree). x.1)) h
+pub document-none : (name : List ℕ) (t : Targets) (r : DelegatedRole) → found (role_tree r) ≡ seek_in name (tree_doc t) → (out-DelegatedRole r).targets ≡ None → None ≡ document_sought name (tree_doc t)
+document-none name t r h e = sym (role-held r ∙ ap (option_map held_doc) e) ∙ ap document_of h
 
 -- ---- the documents are given
 
@@ -125,21 +60,18 @@ given-in hs g new h =
     delegations-roll (record (out-Delegations g) { roles = with_items v new }) ∙ ap (λ l. shown (branches_from (map role_tree l))) items ∙ ap (λ l. shown (branches_from l)) h
     ∙ ap shown (with-from hs rs) ∙ ap (λ (d : DelegationsTree). let e : DelegationsTree = (d.0, all_with hs d.1) in e) (sym (delegations-out g))
 
-under-own : (t : Targets) (o : Option Delegations) → (out-Targets t).delegations ≡ o → tree_doc t ≡ tree (own (out-Targets t) (option_map delegations_tree o)) (branches_of (option_map delegations_tree o))
-under-own t o h = tree-out t ∙ ap (λ (x : Option Delegations). let p = option_map delegations_tree x in tree (own (out-Targets t) p) (branches_of p)) h
-
 pub given-under : (hs : List (Option HeldDoc)) (t : Targets) (g : Delegations) (new : List DelegatedRole) → (out-Targets t).delegations ≡ Some g
     → map role_tree new ≡ all_given (map role_tree (out-Delegations g).roles.items) hs
     → tree_doc (roll-Targets (record (out-Targets t) { delegations = Some (roll-Delegations (record (out-Delegations g) { roles = with_items (out-Delegations g).roles new })) })) ≡ with_documents hs (tree_doc t)
 given-under hs t g new under h =
     let after = roll-Delegations (record (out-Delegations g) { roles = with_items (out-Delegations g).roles new }) in
     let shown : DelegationsTree → TreeDoc = λ d. tree (own (out-Targets t) (Some d)) d.1 in
-    tree-roll (record (out-Targets t) { delegations = Some after }) ∙ ap shown (given-in hs g new h) ∙ sym (ap (with_documents hs) (under-own t (Some g) under))
+    tree-roll (record (out-Targets t) { delegations = Some after }) ∙ ap shown (given-in hs g new h) ∙ sym (ap (with_documents hs) (tree-under t (Some g) under))
 
 -- without delegations there is no list
 pub given-leaf : (hs : List (Option HeldDoc)) (t : Targets) → (out-Targets t).delegations ≡ None → tree_doc (roll-Targets (out-Targets t)) ≡ with_documents hs (tree_doc t)
 given-leaf hs t h =
-    let leaf = under-own t None h in
+    let leaf = tree-under t None h in
     tree-roll (out-Targets t) ∙ sym (tree-out t) ∙ leaf ∙ ap (tree (own (out-Targets t) None)) (with-leaf hs) ∙ sym (ap (with_documents hs) leaf)
 
 branches-within : (o : Option Delegations) → branches_of (option_map delegations_tree o) ≡ branches_from (map role_tree (roles_at o))
@@ -161,10 +93,6 @@ none-from None h = refl
 none-from (Some g) h = absurd (h g refl)
 
 -- ---- the names
-
-entries-put : (r : RoleTree) (bs : Branches) → entries_in (put_branch r bs) ≡ r.0 ∷ entries_in bs
-entries-put (e, None) bs = refl
-entries-put (e, Some h) bs = refl
 
 entries-of : (rs : List DelegatedRole) → entries_in (branches_from (map role_tree rs)) ≡ map (λ r. (role_tree r).0) rs
 entries-of [] = refl

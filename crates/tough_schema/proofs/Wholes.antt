@@ -13,7 +13,7 @@ use Rattle.tough_roles.specs.Root.{keys_doc}
 use Rattle.tough_schema.specs.Target.{TargetDoc, target_doc}
 use Rattle.tough_schema.specs.Targets.{TargetsDoc, listing_doc, targets_doc}
 use Rattle.tough_schema.specs.Tree.{Listing}
-use Rattle.tough_schema.specs.Whole.{OwnDoc, TreeDoc, tree, Branches, HeldDoc, RoleTree, NamedTree, DelegationsTree, put_branch, branches_from, branches_of, role_level, delegations_level, delegated_level, targets_level, tree_doc, delegations_tree, named_tree, role_tree, with_listing, cleared, all_cleared, role_cleared, documents_below, documents_in, documents_at, held_doc, held_docs, entries_in, top_doc}
+use Rattle.tough_schema.specs.Whole.{OwnDoc, TreeDoc, tree, Branches, no_branches, HeldDoc, RoleTree, NamedTree, DelegationsTree, put_branch, branches_from, branches_of, role_level, delegations_level, delegated_level, targets_level, tree_doc, delegations_tree, named_tree, role_tree, role_branches, with_listing, cleared, all_cleared, role_cleared, held_doc, held_docs, entries_in, top_doc}
 use Rattle.tough_schema.specs.Delegations.{DelegationsDoc, delegated_role_doc, delegations_doc}
 use Rattle.tough_roles.specs.Signature.{signatures_doc}
 use Rattle.tough_roles.specs.declared.signed.Signed.{Signed}
@@ -157,39 +157,39 @@ role-out r = fold_out-DelegatedRole RoleTree DelegationsTree NamedTree TreeDoc r
 pub named-out : (d : DelegatedTargets) → named_tree d ≡ (string_bytes (out-DelegatedTargets d).name, tree_doc (out-DelegatedTargets d).targets)
 named-out d = fold_out-DelegatedTargets RoleTree DelegationsTree NamedTree TreeDoc role_level delegations_level delegated_level targets_level d
 
--- ---- the documents, as they are gathered
+-- what a role's document is, with all below it
+pub held-below : (s : Signed DelegatedTargets) → (held_doc s).below ≡ tree_doc (out-DelegatedTargets s.signed).targets
+held-below s = ap (λ (x : NamedTree). x.1) (named-out s.signed)
 
-documents-put : (r : RoleTree) (bs : Branches) → documents_in (put_branch r bs) ≡ documents_at r.1 ++ documents_in bs
-documents-put (e, None) bs = refl
-documents-put (e, Some h) bs = refl
+pub role-named : (r : DelegatedRole) → (role_tree r).0.name ≡ string_bytes (out-DelegatedRole r).name
+role-named r = ap (λ (x : RoleTree). x.0.name) (role-out r)
 
--- the role at i, and those after it
-pub documents-next : (rs : List DelegatedRole) (i : ℕ) (r : DelegatedRole) → i < length rs → r ≡ get_or rs i r
-    → documents_in (branches_from (map role_tree (drop i rs))) ≡ documents_at (role_tree r).1 ++ documents_in (branches_from (map role_tree (drop (i + 1) rs)))
-documents-next rs i r h e =
-    let rest : drop i rs ≡ r ∷ drop (i + 1) rs = drop_more rs i r h ∙ ap (λ y. y ∷ drop (i + 1) rs) (sym e) in
-    ap (λ (l : List DelegatedRole). documents_in (branches_from (map role_tree l))) rest ∙ documents-put (role_tree r) (branches_from (map role_tree (drop (i + 1) rs)))
+pub role-held : (r : DelegatedRole) → (role_tree r).1 ≡ option_map held_doc (out-DelegatedRole r).targets
+role-held r = ap (λ (x : RoleTree). x.1) (role-out r)
 
-pub documents-none : (r : DelegatedRole) → (out-DelegatedRole r).targets ≡ None → documents_at (role_tree r).1 ≡ []
-documents-none r h = ap (λ (x : RoleTree). documents_at x.1) (role-out r) ∙ ap (λ o. documents_at (option_map held_doc o)) h
+-- the roles from i on
+pub branches-drop : (rs : List DelegatedRole) (i : ℕ) (r : DelegatedRole) → i < length rs → r ≡ get_or rs i r → role_branches (drop i rs) ≡ put_branch (role_tree r) (role_branches (drop (i + 1) rs))
+branches-drop rs i r h e = ap role_branches (drop_more rs i r h ∙ ap (λ y. y ∷ drop (i + 1) rs) (sym e))
 
-pub documents-some : (r : DelegatedRole) (s : Signed DelegatedTargets) → (out-DelegatedRole r).targets ≡ Some s → documents_at (role_tree r).1 ≡ held_doc s ∷ documents_below (tree_doc (out-DelegatedTargets s.signed).targets)
-documents-some r s h =
-    ap (λ (x : RoleTree). documents_at x.1) (role-out r) ∙ ap (λ o. documents_at (option_map held_doc o)) h ∙ ap (λ (x : NamedTree). held_doc s ∷ documents_below x.1) (named-out s.signed)
+-- ---- a document by its delegations
 
-pub documents-leaf : (t : Targets) → (out-Targets t).delegations ≡ None → documents_below (tree_doc t) ≡ []
-documents-leaf t h = ap documents_below (tree-out t) ∙ ap (λ (o : Option Delegations). documents_in (branches_of (option_map delegations_tree o))) h
+pub tree-under : (t : Targets) (o : Option Delegations) → (out-Targets t).delegations ≡ o → tree_doc t ≡ tree (own (out-Targets t) (option_map delegations_tree o)) (branches_of (option_map delegations_tree o))
+tree-under t o h = tree-out t ∙ ap (λ (x : Option Delegations). let p = option_map delegations_tree x in tree (own (out-Targets t) p) (branches_of p)) h
 
-pub documents-inner : (t : Targets) (g : Delegations) → (out-Targets t).delegations ≡ Some g → documents_below (tree_doc t) ≡ documents_in (branches_from (map role_tree (out-Delegations g).roles.items))
-documents-inner t g h =
-    ap documents_below (tree-out t) ∙ ap (λ (o : Option Delegations). documents_in (branches_of (option_map delegations_tree o))) h ∙ ap (λ (d : DelegationsTree). documents_in d.1) (delegations-out g)
+pub tree-leaf : (t : Targets) → (out-Targets t).delegations ≡ None → tree_doc t ≡ tree (own (out-Targets t) None) no_branches
+tree-leaf t h = tree-under t None h
+
+pub tree-inner : (t : Targets) (g : Delegations) → (out-Targets t).delegations ≡ Some g → tree_doc t ≡ tree (own (out-Targets t) (Some (delegations_shown (out-Delegations g)))) (role_branches (out-Delegations g).roles.items)
+tree-inner t g h = tree-under t (Some g) h ∙ ap (λ (d : DelegationsTree). tree (own (out-Targets t) (Some d)) d.1) (delegations-out g)
+
+-- ---- the documents of roles
 
 pub held-push : (old new : List (Bor (Signed DelegatedTargets))) (s : Bor (Signed DelegatedTargets)) → new ≡ old ++ s ∷ [] → held_docs new ≡ held_docs old ++ held_doc s.now ∷ []
 held-push old new s h = ap held_docs h ∙ map-append (λ (x : Bor (Signed DelegatedTargets)). held_doc x.now) old (s ∷ [])
 
 -- ---- what a document says for itself
 
-entries-put : (r : RoleTree) (bs : Branches) → entries_in (put_branch r bs) ≡ r.0 ∷ entries_in bs
+pub entries-put : (r : RoleTree) (bs : Branches) → entries_in (put_branch r bs) ≡ r.0 ∷ entries_in bs
 entries-put (e, None) bs = refl
 entries-put (e, Some h) bs = refl
 

@@ -1,14 +1,17 @@
 -- The length and the digest of a file, and the target that it is (TUF specification 1.0, section 4.5, TARGETS).
-use Rattle.std.specs.Prelude.{◌≡◌, ⊤, ℕ, ◌+◌, ◌-◌, ◌^◌, ◌≤◌, List, length, take, Option, Some, None, Result, Ok, Err}
+use Rattle.std.specs.Prelude.{◌≡◌, ⊤, ℕ, ◌+◌, ◌-◌, ◌^◌, ◌≤◌, List, length, take, Option, Some, None, Result, Ok, Err, String}
 use Rattle.sha2.specs.Sha256.{sha256}
 use Rattle.sha2.specs.Hashers.{Holds256}
 use Rattle.tough_files.specs.Contents.{Node, file, folder, link, Contents, followed}
+use Rattle.std.specs.declared.alloc.Global.{Global}
 use Rattle.tough_files.specs.declared.files.FilesError.{FilesError}
 use Rattle.tough_files.specs.declared.files.FilesError.TheVariants as fault
 use Rattle.tough_schema.specs.declared.file_digest.Measured.{Measured}
 use Rattle.tough_schema.specs.declared.file_digest.Reading.{Reading}
 use Rattle.tough_schema.specs.declared.file_digest.FileError.{FileError}
 use Rattle.tough_schema.specs.declared.file_digest.FileError.TheVariants as why
+use Rattle.tough_roles.specs.declared.error.Error.{Error}
+use Rattle.tough_roles.specs.declared.error.Error.TheVariants as errors
 
 -- what stands at the path, links followed
 abbrev pub there : List ℕ → Contents → Option Node
@@ -62,3 +65,10 @@ Feeds bytes old (Ok n) new = HasRead bytes new × (new.length ≡ old.length + n
 Feeds bytes old (Err fault.Memory) new = ⊤
 Feeds bytes old (Err fault.NotFound) new = 2 ^ 64 - 1 ≤ length bytes
 Feeds bytes old (Err fault.Failed) new = 2 ^ 64 - 1 ≤ length bytes
+
+-- the error of documents that a file's is, with its path
+abbrev pub file_error : FileError → String Global → Error
+file_error why.FileOpen path = errors.FileOpen path
+file_error why.TargetNotAFile path = errors.TargetNotAFile path
+file_error why.FileRead path = errors.FileRead path
+file_error why.Memory path = errors.Memory

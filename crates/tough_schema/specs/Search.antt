@@ -1,5 +1,5 @@
 -- Which entries a search for a name comes to, and what it finds (TUF specification 1.0, section 5.6.7).
-use Rattle.std.specs.Prelude.{◌≡◌, ⊤, ℕ, zero, suc, List, [], ◌∷◌, filter, Bool, true, false, ◌||◌, ◌&&◌, not, nat_lt, min, if◌then◌else◌, Option, Some, None}
+use Rattle.std.specs.Prelude.{◌≡◌, ⊤, ℕ, zero, suc, List, [], ◌∷◌, filter, Bool, true, false, ◌||◌, ◌&&◌, not, nat_lt, min, if◌then◌else◌, Option, Some, None, option_map}
 use Rattle.std.specs.List.{filter_map}
 use Rattle.std.specs.Option.{option_or}
 use Rattle.std.specs.Str.{bytes_eq}
@@ -10,7 +10,9 @@ use Rattle.tough_schema.specs.Target.{TargetDoc}
 use Rattle.tough_schema.specs.Matching.{paths_match}
 use Rattle.tough_roles.specs.declared.error.Error.{Error}
 use Rattle.tough_roles.specs.declared.error.Error.TheVariants as errors
-use Rattle.tough_schema.specs.Tree.{Listing, Entry, Document, Occurrence, stop, preorder, listing_of, roles_of}
+use Rattle.tough_schema.specs.Tree.{Listing, Entry}
+use Rattle.tough_schema.specs.Whole.{TreeDoc, listing_of}
+use Rattle.tough_schema.specs.Preorder.{Occurrence, stop, preorder_below}
 
 -- the entry's path set matches the resolved name
 abbrev pub matches : Named → Entry → Bool
@@ -35,10 +37,10 @@ abbrev pub reached_from : Named → ℕ → Names → List Occurrence → List O
 reached_from name skip seen [] = []
 reached_from name (suc skip) seen (o ∷ os) = reached_from name skip seen os
 reached_from name zero seen (o ∷ os) =
-    if is_new name seen o.entry then o ∷ reached_from name zero (add o.entry.name seen) os else reached_from name o.below seen os
+    if is_new name seen o.role.0 then o ∷ reached_from name zero (add o.role.0.name seen) os else reached_from name o.below seen os
 
-abbrev pub reached : Named → Document → List Occurrence
-reached name d = reached_from name 0 no_names (preorder 0 (roles_of d))
+abbrev pub reached : Named → TreeDoc → List Occurrence
+reached name t = reached_from name 0 no_names (preorder_below 0 t)
 
 -- where the first subtree of a terminating entry ends
 abbrev pub earlier : ℕ → Option ℕ → Option ℕ
@@ -47,7 +49,7 @@ earlier k (Some m) = Some (min k m)
 
 abbrev pub first_end : List Occurrence → Option ℕ
 first_end [] = None
-first_end (o ∷ os) = if o.entry.terminating then earlier (stop o) (first_end os) else first_end os
+first_end (o ∷ os) = if o.role.0.terminating then earlier (stop o) (first_end os) else first_end os
 
 abbrev pub is_before : Option ℕ → Occurrence → Bool
 is_before None o = true
@@ -68,20 +70,18 @@ abbrev pub first_listed : Named → List Listing → Option TargetDoc
 first_listed name [] = None
 first_listed name (l ∷ ls) = option_or (listed name l) (first_listed name ls)
 
-abbrev pub listings : List Occurrence → List Listing
-listings os = filter_map (λ o. o.listing) os
+-- what the role's document lists
+abbrev pub listing_at : Occurrence → Option Listing
+listing_at o = option_map (λ h. listing_of h.below) o.role.1
 
-abbrev pub search : Bool → Named → Document → Option TargetDoc
-search permissive name d = first_listed name (listing_of d ∷ listings (searched permissive (reached name d)))
+abbrev pub listings : List Occurrence → List Listing
+listings os = filter_map listing_at os
+
+abbrev pub search : Bool → Named → TreeDoc → Option TargetDoc
+search permissive name t = first_listed name (listing_of t ∷ listings (searched permissive (reached name t)))
 
 -- No document that the search comes to lists the name. Want of memory says nothing.
 abbrev pub IsNotFound : Named → Option TargetDoc → Error → Type 0
 IsNotFound asked answer (errors.TargetNotFound name) = (name ≡ asked) × (answer ≡ None)
 IsNotFound asked answer errors.Memory = ⊤
-IsNotFound asked answer (errors.RoleNotFound name) = ⊥
-IsNotFound asked answer errors.NoDelegations = ⊥
-IsNotFound asked answer errors.NoTargets = ⊥
-IsNotFound asked answer (errors.MissingRole role) = ⊥
-IsNotFound asked answer (errors.JsonSerialization role) = ⊥
-IsNotFound asked answer (errors.DuplicateKeyId keyid) = ⊥
-IsNotFound asked answer (errors.SignatureThreshold role threshold valid) = ⊥
+IsNotFound asked answer _ = ⊥

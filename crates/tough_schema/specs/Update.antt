@@ -1,29 +1,15 @@
 -- The documents of roles that are taken over from an older tree (TUF specification 1.0, section 4.5).
-use Rattle.std.specs.Prelude.{ℕ, List, [], ◌∷◌, ◌++◌, map, Option, Some, None, is_none, option_and_then, if◌then◌else◌}
-use Rattle.std.specs.Option.{option_or}
-use Rattle.std.specs.Str.{bytes_eq}
+use Rattle.std.specs.Prelude.{ℕ, List, [], ◌∷◌, ◌++◌, map, Option, Some, None, is_none, if◌then◌else◌}
 use Rattle.tough_schema.specs.Tree.{Entry}
 use Rattle.tough_schema.specs.Whole.{TreeDoc, tree, Branches, no_branches, unloaded, loaded, HeldDoc, RoleTree, put_branch, entries_in}
+use Rattle.tough_schema.specs.Seek.{seek_in, document_of}
 use Rattle.tough_schema.specs.declared.delegations.DelegatedRole.{DelegatedRole}
 use Rattle.tough_schema.specs.declared.delegations.Delegations.{Delegations, out-Delegations}
 use Rattle.tough_schema.specs.declared.targets.Targets.{Targets, out-Targets}
 
--- The role that `delegated_role` answers, with its document. The roles of a list are taken in order. One of the name is
--- the answer, else the role that is found below it. One of another name that has no document ends the search.
-abbrev mutual
-  pub role_sought : List ℕ → Branches → Option RoleTree
-  role_sought name no_branches = None
-  role_sought name (unloaded e bs) = if bytes_eq e.name name then Some (e, None) else None
-  role_sought name (loaded e n signatures t bs) =
-      if bytes_eq e.name name then Some (e, Some (record { name = n; signatures = signatures; below = t }))
-      else option_or (role_below name t) (role_sought name bs)
-
-  pub role_below : List ℕ → TreeDoc → Option RoleTree
-  role_below name (tree o bs) = role_sought name bs
-
--- the document of that role, if there is one
+-- the document of the role that is sought by the name, if it has one
 abbrev pub document_sought : List ℕ → TreeDoc → Option HeldDoc
-document_sought name old = option_and_then (λ r. r.1) (role_below name old)
+document_sought name old = document_of (seek_in name old)
 
 -- the role with that document, or else as it is
 abbrev pub given : RoleTree → Option HeldDoc → RoleTree

@@ -39,11 +39,8 @@ pub record ReachesDelegated {A : Type 0} (verifies : Verifies) (holder : Delegat
 -- An error names the role that isn't there, or the kind of role, or an identifier that stands twice.
 abbrev pub NamesDelegated : List ℕ → RoleType → List SignatureDoc → Error → Type 0
 NamesDelegated name asked signatures (errors.RoleNotFound role) = string_bytes role ≡ name
-NamesDelegated name asked signatures (errors.TargetNotFound target) = ⊥
-NamesDelegated name asked signatures errors.NoDelegations = ⊥
-NamesDelegated name asked signatures errors.NoTargets = ⊥
-NamesDelegated name asked signatures (errors.MissingRole role) = ⊥
 NamesDelegated name asked signatures (errors.JsonSerialization role) = role ≡ asked
 NamesDelegated name asked signatures (errors.DuplicateKeyId keyid) = Names asked signatures (errors.DuplicateKeyId keyid)
 NamesDelegated name asked signatures (errors.SignatureThreshold role threshold valid) = role ≡ asked
 NamesDelegated name asked signatures errors.Memory = ⊤
+NamesDelegated name asked signatures _ = ⊥

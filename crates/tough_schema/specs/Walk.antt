@@ -7,8 +7,8 @@ use Rattle.tough_schema.specs.declared.find.Found.{Found}
 use Rattle.tough_schema.specs.declared.find.Found.TheVariants.{Listed, Stopped, Passed}
 use Rattle.tough_names.specs.Named.{Named}
 use Rattle.tough_schema.specs.Target.{TargetDoc, target_doc}
-use Rattle.tough_schema.specs.Tree.{Entry, Document, document, Roles, no_roles, bare, with_document}
-use Rattle.tough_schema.specs.View.{Role}
+use Rattle.tough_schema.specs.Tree.{Entry}
+use Rattle.tough_schema.specs.Whole.{TreeDoc, tree, Branches, no_branches, unloaded, loaded, RoleTree}
 use Rattle.tough_schema.specs.Search.{Names, add, is_new, listed}
 
 pub data Answer : Type 0 where
@@ -41,29 +41,29 @@ abbrev pub ends : Bool → Entry → Bool
 ends permissive e = e.terminating && not permissive
 
 abbrev mutual
-  pub walk : Bool → Named → Names → Roles → Step
-  walk permissive name seen no_roles = record { answer = passed; visited = seen }
-  walk permissive name seen (bare e rs) =
+  pub walk : Bool → Named → Names → Branches → Step
+  walk permissive name seen no_branches = record { answer = passed; visited = seen }
+  walk permissive name seen (unloaded e bs) =
       if is_new name seen e
-      then and_then (at_end (ends permissive e) passed) (add e.name seen) (λ s. walk permissive name s rs)
-      else walk permissive name seen rs
-  walk permissive name seen (with_document e d rs) =
+      then and_then (at_end (ends permissive e) passed) (add e.name seen) (λ s. walk permissive name s bs)
+      else walk permissive name seen bs
+  walk permissive name seen (loaded e n signatures t bs) =
       if is_new name seen e
-      then (let below = walk_document permissive name (add e.name seen) d in
-      and_then (at_end (ends permissive e) below.answer) below.visited (λ s. walk permissive name s rs))
-      else walk permissive name seen rs
+      then (let below = walk_document permissive name (add e.name seen) t in
+      and_then (at_end (ends permissive e) below.answer) below.visited (λ s. walk permissive name s bs))
+      else walk permissive name seen bs
 
-  pub walk_document : Bool → Named → Names → Document → Step
-  walk_document permissive name seen (document l rs) = unless_listed (listed name l) seen (walk permissive name seen rs)
+  pub walk_document : Bool → Named → Names → TreeDoc → Step
+  walk_document permissive name seen (tree o bs) = unless_listed (listed name o.targets) seen (walk permissive name seen bs)
 
 -- what a role answers that has just been visited
-abbrev pub walk_below : Bool → Named → Names → Role → Step
+abbrev pub walk_below : Bool → Named → Names → RoleTree → Step
 walk_below permissive name seen (e, None) = record { answer = at_end (ends permissive e) passed; visited = seen }
-walk_below permissive name seen (e, Some d) =
-    let below = walk_document permissive name seen d in record { answer = at_end (ends permissive e) below.answer; visited = below.visited }
+walk_below permissive name seen (e, Some h) =
+    let below = walk_document permissive name seen h.below in record { answer = at_end (ends permissive e) below.answer; visited = below.visited }
 
 -- what a role answers
-abbrev pub walk_role : Bool → Named → Names → Role → Step
+abbrev pub walk_role : Bool → Named → Names → RoleTree → Step
 walk_role permissive name seen r = if is_new name seen r.0 then walk_below permissive name (add r.0.name seen) r else record { answer = passed; visited = seen }
 
 -- ---- what the private functions answer

@@ -1,6 +1,6 @@
 -- A document with the documents that were loaded for its roles, and for theirs, as plain data
 -- (TUF specification 1.0, section 4.5).
-use Rattle.std.specs.Prelude.{◌≡◌, ℕ, List, [], ◌∷◌, ◌++◌, map, Option, Some, None, option_map, string_bytes}
+use Rattle.std.specs.Prelude.{◌≡◌, ℕ, List, [], ◌∷◌, map, Option, Some, None, option_map, string_bytes}
 use Rattle.std.specs.Int.NonZero.{non_zero_u64_get}
 use Rattle.serde_json.specs.Data.{Members}
 use Rattle.serde_json.specs.View.{members_view}
@@ -37,6 +37,10 @@ mutual
     no_branches : Branches
     unloaded : Entry → Branches → Branches
     loaded : Entry → List ℕ → List SignatureDoc → TreeDoc → Branches → Branches
+
+-- what the document lists
+abbrev pub listing_of : TreeDoc → Listing
+listing_of (tree o bs) = o.targets
 
 -- a role's document, with its name and its signatures
 pub record HeldDoc : Type 0 where
@@ -103,6 +107,9 @@ named_tree = fold-DelegatedTargets RoleTree DelegationsTree NamedTree TreeDoc ro
 abbrev pub role_tree : DelegatedRole → RoleTree
 role_tree = fold-DelegatedRole RoleTree DelegationsTree NamedTree TreeDoc role_level delegations_level delegated_level targets_level
 
+abbrev pub role_branches : List DelegatedRole → Branches
+role_branches rs = branches_from (map role_tree rs)
+
 -- ---- changes
 
 -- another listing in the top document; all else as it is
@@ -125,21 +132,7 @@ held_cleared h = record h { below = cleared h.below }
 abbrev pub role_cleared : RoleTree → RoleTree
 role_cleared r = (r.0, option_map held_cleared r.1)
 
--- ---- the documents of the roles, in preorder
-
-abbrev mutual
-  pub documents_below : TreeDoc → List HeldDoc
-  documents_below (tree o bs) = documents_in bs
-
-  pub documents_in : Branches → List HeldDoc
-  documents_in no_branches = []
-  documents_in (unloaded e bs) = documents_in bs
-  documents_in (loaded e name signatures t bs) = record { name = name; signatures = signatures; below = t } ∷ (documents_below t ++ documents_in bs)
-
--- a role's document, and those below it
-abbrev pub documents_at : Option HeldDoc → List HeldDoc
-documents_at None = []
-documents_at (Some h) = h ∷ documents_below h.below
+-- ---- the documents of the roles
 
 abbrev pub held_doc : Signed DelegatedTargets → HeldDoc
 held_doc s = record { name = (named_tree s.signed).0; signatures = signatures_doc s.signatures.items; below = (named_tree s.signed).1 }

@@ -1,9 +1,9 @@
 //! The entries of a tree in preorder.
 
 ghost use Rattle.std.specs.Prelude.{◌≡◌, ◌++◌, IfOk, OnOk, map};
-ghost use Rattle.tough_schema.specs.View.{view, view_role, view_roles};
+ghost use Rattle.tough_schema.specs.Whole.{tree_doc, role_tree, role_branches};
 ghost use Rattle.tough_schema.specs.Entries.{entries, entry_names};
-ghost use Rattle.tough_schema.specs.Gather.{below, below_in, gathered, shown};
+ghost use Rattle.tough_schema.specs.Gather.{roles_in, gathered, shown};
 
 use crate::delegations::DelegatedRole;
 use crate::targets::Targets;
@@ -15,7 +15,7 @@ fn add_below<'a>(
     document: &'a Targets,
     found: &mut Vec<&'a DelegatedRole>,
 ) -> Result<(), AllocError>
-    ensures { OnOk result (shown found.new.items ≡ shown found.old.items ++ below_in (view document.now)) }
+    ensures { OnOk result (shown found.new.items ≡ shown found.old.items ++ entries (tree_doc document.now)) }
 {
     if let Some(delegations) = &document.delegations {
         add_roles(&delegations.roles, found)?;
@@ -29,7 +29,7 @@ fn add_roles<'a>(
     roles: &'a [DelegatedRole],
     found: &mut Vec<&'a DelegatedRole>,
 ) -> Result<(), AllocError>
-    ensures { OnOk result (shown found.new.items ≡ shown found.old.items ++ below (view_roles roles.now)) }
+    ensures { OnOk result (shown found.new.items ≡ shown found.old.items ++ roles_in (role_branches roles.now)) }
 {
     for role in roles {
         add_role(role, found)?;
@@ -43,7 +43,7 @@ fn add_role<'a>(
     role: &'a DelegatedRole,
     found: &mut Vec<&'a DelegatedRole>,
 ) -> Result<(), AllocError>
-    ensures { OnOk result (shown found.new.items ≡ shown found.old.items ++ gathered (view_role role.now)) }
+    ensures { OnOk result (shown found.new.items ≡ shown found.old.items ++ gathered (role_tree role.now)) }
 {
     found.push(role)?;
     if let Some(signed) = &role.targets {
@@ -55,7 +55,7 @@ fn add_role<'a>(
 impl Targets {
     /// The entries of the tree below this document, in preorder.
     pub fn entries(&self, alloc: Global) -> Result<Vec<&DelegatedRole>, AllocError>
-        ensures { IfOk result (λ v. shown v.items ≡ entries (view self.now)) }
+        ensures { IfOk result (λ v. shown v.items ≡ entries (tree_doc self.now)) }
     {
         let mut found = Vec::new(alloc);
         add_below(self, &mut found)?;
@@ -64,7 +64,7 @@ impl Targets {
 
     /// The names of the entries of the tree below this document, in preorder.
     pub fn role_names(&self, alloc: Global) -> Result<Vec<&str>, AllocError>
-        ensures { IfOk result (λ v. map (λ n. n.now) v.items ≡ entry_names (view self.now)) }
+        ensures { IfOk result (λ v. map (λ n. n.now) v.items ≡ entry_names (tree_doc self.now)) }
     {
         let entries = self.entries(alloc)?;
         let mut names = Vec::new(alloc);

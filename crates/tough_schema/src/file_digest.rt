@@ -2,12 +2,13 @@
 
 ghost use Rattle.std.specs.Prelude.{◌≡◌, ◌≤◌, List, ℕ, Some, true, IfOk};
 ghost use Rattle.tough_files.specs.Contents.{file, Same};
-ghost use Rattle.tough_schema.specs.FileDigest.{there, Stands, HasRead, Feeds, Measures, MeasuresFile};
+ghost use Rattle.tough_schema.specs.FileDigest.{file_error, there, Stands, HasRead, Feeds, Measures, MeasuresFile};
 
 use sha2::{Digest, Sha256};
 use std::alloc::AllocError;
 use thiserror::Error;
 use tough_base::{FileKind, Files, FilesError};
+use tough_roles as schema;
 
 /// The length of a file, and the SHA-256 of its bytes.
 #[derive(Drop)]
@@ -31,6 +32,20 @@ pub enum FileError {
     /// A request for memory was refused.
     #[error("out of memory")]
     Memory,
+}
+
+impl FileError {
+    /// The same for documents, with the path of the file.
+    pub fn at(self, path: String) -> schema::Error
+        ensures { result ≡ file_error self path }
+    {
+        match self {
+            FileError::FileOpen => schema::Error::FileOpen { path },
+            FileError::TargetNotAFile => schema::Error::TargetNotAFile { path },
+            FileError::FileRead => schema::Error::FileRead { path },
+            FileError::Memory => schema::Error::Memory,
+        }
+    }
 }
 
 // What was read of a file so far.

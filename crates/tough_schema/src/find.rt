@@ -1,7 +1,7 @@
 //! The search for a target.
 
 ghost use Rattle.std.specs.Prelude.{◌≡◌, Some, None, IfOk, IfErr, string_bytes};
-ghost use Rattle.tough_schema.specs.View.{view, view_roles, view_role};
+ghost use Rattle.tough_schema.specs.Whole.{tree_doc, role_tree, role_branches};
 ghost use Rattle.tough_schema.specs.Target.{target_doc};
 ghost use Rattle.tough_schema.specs.Search.{matches, search, IsNotFound};
 ghost use Rattle.tough_schema.specs.Walk.{walk, walk_document, walk_below, walk_role, names_in, IsStep};
@@ -23,7 +23,7 @@ enum Found<'a> {
 
 impl DelegatedRole {
     fn matches(&self, name: &TargetName) -> bool
-        ensures { result ≡ matches name.now (view_role self.now).0 }
+        ensures { result ≡ matches name.now (role_tree self.now).0 }
     {
         self.paths.matches(name)
     }
@@ -38,7 +38,7 @@ fn find_in<'a>(
     permissive: bool,
     visited: &mut BTreeSet<String>,
 ) -> Result<Found<'a>, AllocError>
-    ensures { IsStep result visited.new (walk_document permissive name.now (names_in visited.old) (view document.now)) }
+    ensures { IsStep result visited.new (walk_document permissive name.now (names_in visited.old) (tree_doc document.now)) }
 {
     if let Some(target) = document.targets.get(name) {
         return Ok(Found::Listed(target));
@@ -58,7 +58,7 @@ fn find_among<'a>(
     permissive: bool,
     visited: &mut BTreeSet<String>,
 ) -> Result<Found<'a>, AllocError>
-    ensures { IsStep result visited.new (walk permissive name.now (names_in visited.old) (view_roles roles.now)) }
+    ensures { IsStep result visited.new (walk permissive name.now (names_in visited.old) (role_branches roles.now)) }
 {
     for role in roles {
         match find_at(alloc, role, name, permissive, visited)? {
@@ -78,7 +78,7 @@ fn find_at<'a>(
     permissive: bool,
     visited: &mut BTreeSet<String>,
 ) -> Result<Found<'a>, AllocError>
-    ensures { IsStep result visited.new (walk_role permissive name.now (names_in visited.old) (view_role role.now)) }
+    ensures { IsStep result visited.new (walk_role permissive name.now (names_in visited.old) (role_tree role.now)) }
 {
     if !role.matches(name) || visited.contains(role.name.as_str()) {
         return Ok(Found::Passed);
@@ -96,7 +96,7 @@ fn find_below<'a>(
     permissive: bool,
     visited: &mut BTreeSet<String>,
 ) -> Result<Found<'a>, AllocError>
-    ensures { IsStep result visited.new (walk_below permissive name.now (names_in visited.old) (view_role role.now)) }
+    ensures { IsStep result visited.new (walk_below permissive name.now (names_in visited.old) (role_tree role.now)) }
 {
     if let Some(signed) = &role.targets {
         match find_in(alloc, &signed.signed.targets, name, permissive, visited)? {
@@ -119,8 +119,8 @@ impl Targets {
         name: &TargetName,
         permissive: bool,
     ) -> Result<&Target, Error>
-        ensures found { IfOk result (λ t. search permissive name.now (view self.now) ≡ Some (target_doc t.now)) }
-        ensures missing { IfErr result (λ e. IsNotFound name.now (search permissive name.now (view self.now)) e) }
+        ensures found { IfOk result (λ t. search permissive name.now (tree_doc self.now) ≡ Some (target_doc t.now)) }
+        ensures missing { IfErr result (λ e. IsNotFound name.now (search permissive name.now (tree_doc self.now)) e) }
     {
         let mut visited = BTreeSet::new(alloc);
         match find_in(alloc, self, name, permissive, &mut visited)? {

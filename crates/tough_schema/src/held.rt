@@ -1,7 +1,9 @@
 //! The documents of the roles of a tree.
 
-ghost use Rattle.std.specs.Prelude.{◌≡◌, ◌++◌, IfOk, OnOk, map};
-ghost use Rattle.tough_schema.specs.Whole.{tree_doc, role_tree, branches_from, documents_below, documents_in, documents_at, held_docs};
+ghost use Rattle.std.specs.Prelude.{◌≡◌, ◌++◌, IfOk, OnOk};
+ghost use Rattle.tough_schema.specs.Whole.{tree_doc, role_tree, role_branches, held_docs};
+ghost use Rattle.tough_schema.specs.Entries.{documents_of, documents_below};
+ghost use Rattle.tough_schema.specs.Gather.{roles_in, gathered};
 
 use crate::delegations::DelegatedRole;
 use crate::targets::{DelegatedTargets, Targets};
@@ -28,7 +30,7 @@ fn add_roles<'a>(
     roles: &'a [DelegatedRole],
     found: &mut Vec<&'a Signed<DelegatedTargets>>,
 ) -> Result<(), AllocError>
-    ensures { OnOk result (held_docs found.new.items ≡ held_docs found.old.items ++ documents_in (branches_from (map role_tree roles.now))) }
+    ensures { OnOk result (held_docs found.new.items ≡ held_docs found.old.items ++ documents_of (roles_in (role_branches roles.now))) }
 {
     for role in roles {
         add_role(role, found)?;
@@ -42,7 +44,7 @@ fn add_role<'a>(
     role: &'a DelegatedRole,
     found: &mut Vec<&'a Signed<DelegatedTargets>>,
 ) -> Result<(), AllocError>
-    ensures { OnOk result (held_docs found.new.items ≡ held_docs found.old.items ++ documents_at (role_tree role.now).1) }
+    ensures { OnOk result (held_docs found.new.items ≡ held_docs found.old.items ++ documents_of (gathered (role_tree role.now))) }
 {
     if let Some(document) = &role.targets {
         found.push(document)?;

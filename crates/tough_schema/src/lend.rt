@@ -1,10 +1,9 @@
 //! Delegated roles by name, lent for writing.
 
-ghost use Rattle.std.specs.Prelude.{◌≡◌, None, IfOk, IfErr, IfSome, IfNone, option_map};
-ghost use Rattle.tough_schema.specs.Targets.{targets_doc};
-ghost use Rattle.tough_schema.specs.View.{view, view_role, view_roles, view_delegated};
-ghost use Rattle.tough_schema.specs.Seek.{found, seek, seek_in, sought, IsUnsought, HasDocument, IsUnheld};
-ghost use Rattle.tough_schema.specs.Seeking.{step_at, role_of, role_at, IsPlace};
+ghost use Rattle.std.specs.Prelude.{◌≡◌, Some, None, IfOk, IfErr, IfSome, IfNone, option_map};
+ghost use Rattle.tough_schema.specs.Whole.{tree_doc, role_tree, role_branches, held_doc};
+ghost use Rattle.tough_schema.specs.Seek.{found, seek, seek_in, sought, role_of, document_of, IsUnsought, IsUnheld};
+ghost use Rattle.tough_schema.specs.Seeking.{step_at, role_at, IsPlace};
 
 use crate::delegations::DelegatedRole;
 use crate::seek::{Seen, seek_at};
@@ -15,7 +14,7 @@ use tough_roles::{Error, Signed};
 // The place of the role of the list that has the name, or below which one has it.
 fn place_of(roles: &[DelegatedRole], name: &str) -> Option<usize>
     ensures there { IfSome result (λ i. IsPlace name.now roles.now i) }
-    ensures none { IfNone result (role_of (seek name.now (view_roles roles.now)) ≡ None) }
+    ensures none { IfNone result (role_of (seek name.now (role_branches roles.now)) ≡ None) }
 {
     for (i, role) in roles.iter().enumerate() {
         match seek_at(role, name) {
@@ -29,7 +28,7 @@ fn place_of(roles: &[DelegatedRole], name: &str) -> Option<usize>
 
 #[cycle(lend)]
 fn lend_in<'a>(document: &'a mut Targets, name: &str) -> Option<&'a mut DelegatedRole>
-    ensures { option_map (λ r. view_role r.now) result ≡ role_of (seek_in name.now (view document.old)) }
+    ensures { option_map (λ r. role_tree r.now) result ≡ role_of (seek_in name.now (tree_doc document.old)) }
 {
     let Some(delegations) = &mut document.delegations else {
         return None;
@@ -45,7 +44,7 @@ fn lend_in<'a>(document: &'a mut Targets, name: &str) -> Option<&'a mut Delegate
 
 #[cycle(lend)]
 fn lend_at<'a>(role: &'a mut DelegatedRole, name: &str) -> Option<&'a mut DelegatedRole>
-    ensures { option_map (λ r. view_role r.now) result ≡ role_at (step_at name.now (view_role role.old)) }
+    ensures { option_map (λ r. role_tree r.now) result ≡ role_at (step_at name.now (role_tree role.old)) }
 {
     if role.name.as_str() == name {
         return Some(role);
@@ -63,8 +62,8 @@ impl Targets {
         alloc: Global,
         name: &str,
     ) -> Result<&mut DelegatedRole, Error>
-        ensures found { IfOk result (λ r. sought name.now (targets_doc self.old).delegations (view self.old) ≡ found (view_role r.now)) }
-        ensures refused { IfErr result (λ e. IsUnsought name.now (sought name.now (targets_doc self.old).delegations (view self.old)) e) }
+        ensures found { IfOk result (λ r. sought name.now (tree_doc self.old) ≡ found (role_tree r.now)) }
+        ensures refused { IfErr result (λ e. IsUnsought name.now (sought name.now (tree_doc self.old)) e) }
     {
         if let Err(error) = self.delegated_role(alloc, name) {
             return Err(error);
@@ -81,8 +80,8 @@ impl Targets {
         alloc: Global,
         name: &str,
     ) -> Result<&mut Signed<DelegatedTargets>, Error>
-        ensures found { IfOk result (λ s. HasDocument (sought name.now (targets_doc self.old).delegations (view self.old)) (view_delegated s.now.signed)) }
-        ensures refused { IfErr result (λ e. IsUnheld name.now (sought name.now (targets_doc self.old).delegations (view self.old)) e) }
+        ensures found { IfOk result (λ s. document_of (sought name.now (tree_doc self.old)) ≡ Some (held_doc s.now)) }
+        ensures refused { IfErr result (λ e. IsUnheld name.now (sought name.now (tree_doc self.old)) e) }
     {
         match self.delegated_role_mut(alloc, name) {
             Err(error) => Err(error),

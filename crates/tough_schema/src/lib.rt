@@ -10,6 +10,7 @@ mod file_digest;
 mod find;
 mod from_path;
 mod held;
+mod key_holder;
 pub mod laws;
 mod lend;
 mod listing;
@@ -29,12 +30,12 @@ mod write_targets;
 
 pub use delegations::{DelegatedRole, Delegations, PathSet};
 pub use file_digest::FileError;
+pub use key_holder::KeyHolder;
 pub use target::Target;
 pub use targets::{DelegatedTargets, Targets};
 pub use tough_json::{CjsonError, canonical};
 pub use tough_roles::{
     DemoSign, DemoVerify, EcdsaKey, EcdsaScheme, Ed25519Key, Ed25519Scheme, Error, Hashes, Key,
-    KeyParseError, KeysIter, Metafile, ReadError, Role, RoleId, RoleKeys, RoleType, Root, RsaKey,
-    RsaScheme, Sign, SignError, Signature, Signed, Snapshot, Timestamp, Verify, WriteError,
-    canonical_form,
+    KeyParseError, KeysIter, Metafile, ReadError, Result, Role, RoleId, RoleKeys, RoleType, Root,
+    RsaKey, RsaScheme, Sign, SignError, Signature, Signed, Snapshot, Timestamp, Verify, WriteError,
 };

@@ -3,9 +3,9 @@
 ghost use Rattle.std.specs.Prelude.{◌≡◌, ◌++◌, [], IfOk, IfErr, OnOk, map};
 ghost use Rattle.tough_schema.specs.Target.{target_doc};
 ghost use Rattle.tough_schema.specs.Targets.{listing_doc};
-ghost use Rattle.tough_schema.specs.View.{view, view_role};
+ghost use Rattle.tough_schema.specs.Whole.{tree_doc, role_tree};
 ghost use Rattle.tough_schema.specs.Entries.{all_listed, listed_of, merged_into, IsValid, IsInvalid};
-ghost use Rattle.tough_schema.specs.Gather.{placed, listed_docs, map_docs};
+ghost use Rattle.tough_schema.specs.Gather.{listed_docs, map_docs};
 
 use crate::delegations::DelegatedRole;
 use crate::target::Target;
@@ -33,7 +33,7 @@ fn add_document<'a>(
     role: &'a DelegatedRole,
     found: &mut Vec<(&'a TargetName, &'a Target)>,
 ) -> Result<(), AllocError>
-    ensures { OnOk result (listed_docs found.new.items ≡ listed_docs found.old.items ++ listed_of (placed (view_role role.now)).1) }
+    ensures { OnOk result (listed_docs found.new.items ≡ listed_docs found.old.items ++ listed_of (role_tree role.now).1) }
 {
     if let Some(signed) = &role.targets {
         add_listing(&signed.signed.targets.targets, found)?;
@@ -45,7 +45,7 @@ impl Targets {
     /// What the documents of the tree list: this one before all, then those of the entries in preorder, each in the
     /// order of its names.
     pub fn targets_iter(&self, alloc: Global) -> Result<Vec<(&TargetName, &Target)>, AllocError>
-        ensures { IfOk result (λ v. listed_docs v.items ≡ all_listed (view self.now)) }
+        ensures { IfOk result (λ v. listed_docs v.items ≡ all_listed (tree_doc self.now)) }
     {
         let entries = self.entries(alloc)?;
         let mut found = Vec::new(alloc);
@@ -58,7 +58,7 @@ impl Targets {
 
     /// The same as a map, where a later listing takes the place of an earlier one.
     pub fn targets_map(&self, alloc: Global) -> Result<BTreeMap<TargetName, &Target>, AllocError>
-        ensures { IfOk result (λ m. map_docs m.entries ≡ merged_into [] (all_listed (view self.now))) }
+        ensures { IfOk result (λ m. map_docs m.entries ≡ merged_into [] (all_listed (tree_doc self.now))) }
     {
         let listed = self.targets_iter(alloc)?;
         let mut found = BTreeMap::new(alloc);
@@ -71,8 +71,8 @@ impl Targets {
 
     /// Whether each listed name is found by the permissive search; else `TargetNotFound` with a name that isn't.
     pub fn validate(&self, alloc: Global) -> Result<(), Error>
-        ensures ok { IfOk result (λ u. IsValid (view self.now)) }
-        ensures refused { IfErr result (λ e. IsInvalid (view self.now) e) }
+        ensures ok { IfOk result (λ u. IsValid (tree_doc self.now)) }
+        ensures refused { IfErr result (λ e. IsInvalid (tree_doc self.now) e) }
     {
         let listed = self.targets_iter(alloc)?;
         for entry in &listed {

@@ -1,10 +1,11 @@
 //! Delegations, read from JSON.
 
-ghost use Rattle.std.specs.Prelude.{◌≡◌, map, option_map, string_bytes};
+ghost use Rattle.std.specs.Prelude.{◌≡◌, map, option_map, string_bytes, IfOk};
 ghost use Rattle.serde_json.specs.View.{view, items_view, members_view};
 ghost use Rattle.tough_json.specs.Reading.{required, optional, listing, all_at, text};
 ghost use Rattle.tough_json.specs.Results.{Reads, Takes};
 ghost use Rattle.tough_schema.specs.Paths.{paths_doc, if_pattern, pattern, either_at, paths_at};
+ghost use Rattle.tough_schema.specs.Fresh.{HasNoDocument, AreUnloaded, DelegateUnloaded, MayDelegateUnloaded};
 ghost use Rattle.tough_schema.specs.Delegations.{delegated_role_doc, delegations_doc, delegated_role_at, delegations_at};
 
 use crate::delegations::{DelegatedRole, Delegations, PathSet};
@@ -99,7 +100,8 @@ fn paths(alloc: Global, members: &mut Map<String, Value>) -> Result<PathSet, Rea
 
 #[tactic(auto, unfolding(crate::specs::Delegations::delegated_role_at))]
 fn delegated_role_of(alloc: Global, value: Value) -> Result<DelegatedRole, ReadError>
-    ensures { Reads delegated_role_doc result (delegated_role_at (view value)) }
+    ensures read { Reads delegated_role_doc result (delegated_role_at (view value)) }
+    ensures fresh { IfOk result HasNoDocument }
 {
     let Value::Object(mut members) = value else {
         return Err(shape(alloc, "roles"));
@@ -121,7 +123,8 @@ fn delegated_role_of(alloc: Global, value: Value) -> Result<DelegatedRole, ReadE
 
 // Each item as a role.
 fn roles_of(alloc: Global, values: Vec<Value>) -> Result<Vec<DelegatedRole>, ReadError>
-    ensures { Reads (λ v. map delegated_role_doc v.items) result (all_at delegated_role_at (items_view values.items)) }
+    ensures read { Reads (λ v. map delegated_role_doc v.items) result (all_at delegated_role_at (items_view values.items)) }
+    ensures fresh { IfOk result (λ v. AreUnloaded v.items) }
 {
     let mut roles = Vec::new(alloc);
     for value in values {
@@ -137,7 +140,8 @@ fn roles(
     members: &mut Map<String, Value>,
     name: &str,
 ) -> Result<Vec<DelegatedRole>, ReadError>
-    ensures { Takes (λ v. map delegated_role_doc v.items) result (members_view members.new.entries) (required name.now (listing delegated_role_at) (members_view members.old.entries)) }
+    ensures read { Takes (λ v. map delegated_role_doc v.items) result (members_view members.new.entries) (required name.now (listing delegated_role_at) (members_view members.old.entries)) }
+    ensures fresh { IfOk result (λ v. AreUnloaded v.items) }
 {
     match take(members, name) {
         Some(Value::Array(items)) => roles_of(alloc, items),
@@ -147,7 +151,8 @@ fn roles(
 
 #[tactic(auto, unfolding(crate::specs::Delegations::delegations_at))]
 fn delegations_of(alloc: Global, value: Value) -> Result<Delegations, ReadError>
-    ensures { Reads delegations_doc result (delegations_at (view value)) }
+    ensures read { Reads delegations_doc result (delegations_at (view value)) }
+    ensures fresh { IfOk result DelegateUnloaded }
 {
     let Value::Object(mut members) = value else {
         return Err(shape(alloc, "delegations"));
@@ -163,7 +168,8 @@ pub(crate) fn delegations(
     members: &mut Map<String, Value>,
     name: &str,
 ) -> Result<Option<Delegations>, ReadError>
-    ensures { Takes (option_map delegations_doc) result (members_view members.new.entries) (optional name.now delegations_at (members_view members.old.entries)) }
+    ensures read { Takes (option_map delegations_doc) result (members_view members.new.entries) (optional name.now delegations_at (members_view members.old.entries)) }
+    ensures fresh { IfOk result MayDelegateUnloaded }
 {
     match present(members, name) {
         None => Ok(None),

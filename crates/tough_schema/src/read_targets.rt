@@ -1,6 +1,6 @@
 //! Targets, read from JSON.
 
-ghost use Rattle.std.specs.Prelude.{◌≡◌, [], Some};
+ghost use Rattle.std.specs.Prelude.{◌≡◌, [], Some, IfOk};
 ghost use Rattle.json.specs.Value.{value_view};
 ghost use Rattle.serde_json.specs.Data.{Data, Members};
 ghost use Rattle.serde_json.specs.Read.{of_json};
@@ -8,6 +8,7 @@ ghost use Rattle.serde_json.specs.View.{view, members_view};
 ghost use Rattle.tough_json.specs.Borrowed.{listed};
 ghost use Rattle.tough_json.specs.Reading.{required};
 ghost use Rattle.tough_json.specs.Results.{Reads, Takes};
+ghost use Rattle.tough_schema.specs.Fresh.{IsFresh};
 ghost use Rattle.tough_schema.specs.Target.{target_doc};
 ghost use Rattle.tough_schema.specs.Targets.{entry_at, listing_doc, listing_from, listing_at, targets_doc, targets_at, targets_around};
 
@@ -70,7 +71,8 @@ fn listing(
 /// The targets that the value is; `Shape` where it is none.
 #[tactic(auto, unfolding(crate::specs::Targets::targets_at))]
 pub(crate) fn targets_of(alloc: Global, value: Value) -> Result<Targets, ReadError>
-    ensures { Reads targets_doc result (targets_at (view value)) }
+    ensures read { Reads targets_doc result (targets_at (view value)) }
+    ensures fresh { IfOk result IsFresh }
 {
     let Value::Object(mut members) = value else {
         return Err(shape(alloc, "targets"));
@@ -140,7 +142,8 @@ fn targets_around(
     targets: BTreeMap<TargetName, Target>,
     others: Map<String, Value>,
 ) -> Result<Targets, ReadError>
-    ensures { Reads targets_doc result (targets_around (listing_doc targets.entries) (members_view others.entries)) }
+    ensures read { Reads targets_doc result (targets_around (listing_doc targets.entries) (members_view others.entries)) }
+    ensures fresh { IfOk result IsFresh }
 {
     let mut others = others;
     let (spec_version, version, expires) = head_of(alloc, &mut others)?;
@@ -158,7 +161,8 @@ fn targets_around(
 #[tactic(auto, unfolding(crate::specs::Targets::targets_at))]
 /// The targets that the JSON is; `Shape` where it is none. A value is made of one target at a time.
 pub(crate) fn targets_in(alloc: Global, value: Borrowed<'_>) -> Result<Targets, ReadError>
-    ensures { (d : Data) → of_json (value_view value.entry) ≡ Some d → Reads targets_doc result (targets_at d) }
+    ensures read { (d : Data) → of_json (value_view value.entry) ≡ Some d → Reads targets_doc result (targets_at d) }
+    ensures fresh { IfOk result IsFresh }
 {
     let Borrowed::Object(members) = value else {
         return Err(shape(alloc, "targets"));

@@ -1,13 +1,9 @@
 //! Delegated roles by name.
 
-ghost use Rattle.std.specs.Prelude.{◌≡◌, Some, IfOk, IfErr, map, option_map, option_and_then};
-ghost use Rattle.tough_schema.specs.Targets.{targets_doc};
-ghost use Rattle.tough_schema.specs.Tree.{Roles};
-ghost use Rattle.tough_schema.specs.View.{view, view_role, view_roles, view_delegated, view_delegations};
-ghost use Rattle.tough_schema.specs.Seek.{found, if_found, seek, seek_in, sought, IsUnsought, HasDocument, IsUnheld, standing, standing_in, first_named, parent, IsOrphan};
-ghost use Rattle.tough_schema.specs.Seeking.{seen_of, role_seen, step_at, role_step, place_of, standing_at};
-ghost use Rattle.tough_schema.specs.Update.{role_sought, role_below, document_sought};
-ghost use Rattle.tough_schema.specs.Whole.{tree_doc, role_tree, held_doc, branches_from};
+ghost use Rattle.std.specs.Prelude.{◌≡◌, Some, IfOk, IfErr, option_map};
+ghost use Rattle.tough_schema.specs.Whole.{DelegationsTree, tree_doc, delegations_tree, role_tree, role_branches, held_doc};
+ghost use Rattle.tough_schema.specs.Seek.{found, if_found, seek, seek_in, sought, document_of, IsUnsought, IsUnheld, standing, standing_in, first_named, parent, IsOrphan};
+ghost use Rattle.tough_schema.specs.Seeking.{seen_of, step_at, place_of, standing_at};
 
 use crate::delegations::{DelegatedRole, Delegations};
 use crate::targets::{DelegatedTargets, Targets};
@@ -31,8 +27,7 @@ enum Place<'a> {
 
 // A role that was found below.
 fn if_found<'a>(seen: Seen<'a>) -> Option<Seen<'a>>
-    ensures seen { option_map seen_of result ≡ if_found (seen_of seen.entry) }
-    ensures role { option_map role_seen result ≡ option_map Some (role_seen seen.entry) }
+    ensures { option_map seen_of result ≡ if_found (seen_of seen.entry) }
 {
     match seen {
         Seen::Found(role) => Some(Seen::Found(role)),
@@ -44,8 +39,7 @@ fn if_found<'a>(seen: Seen<'a>) -> Option<Seen<'a>>
 // What seeking the name comes to in a document.
 #[cycle(seek)]
 pub fn seek_in<'a>(document: &'a Targets, name: &str) -> Seen<'a>
-    ensures seen { seen_of result ≡ seek_in name.now (view document.now) }
-    ensures role { role_seen result ≡ role_below name.now (tree_doc document.now) }
+    ensures { seen_of result ≡ seek_in name.now (tree_doc document.now) }
 {
     match &document.delegations {
         None => Seen::Missing,
@@ -55,8 +49,7 @@ pub fn seek_in<'a>(document: &'a Targets, name: &str) -> Seen<'a>
 
 #[cycle(seek)]
 fn seek_among<'a>(roles: &'a [DelegatedRole], name: &str) -> Seen<'a>
-    ensures seen { seen_of result ≡ seek name.now (view_roles roles.now) }
-    ensures role { role_seen result ≡ role_sought name.now (branches_from (map role_tree roles.now)) }
+    ensures { seen_of result ≡ seek name.now (role_branches roles.now) }
 {
     for role in roles {
         match seek_at(role, name) {
@@ -69,8 +62,7 @@ fn seek_among<'a>(roles: &'a [DelegatedRole], name: &str) -> Seen<'a>
 
 #[cycle(seek)]
 pub fn seek_at<'a>(role: &'a DelegatedRole, name: &str) -> Option<Seen<'a>>
-    ensures seen { option_map seen_of result ≡ step_at name.now (view_role role.now) }
-    ensures role { option_map role_seen result ≡ role_step name.now (role_tree role.now) }
+    ensures { option_map seen_of result ≡ step_at name.now (role_tree role.now) }
 {
     if role.name.as_str() == name {
         return Some(Seen::Found(role));
@@ -83,7 +75,7 @@ pub fn seek_at<'a>(role: &'a DelegatedRole, name: &str) -> Option<Seen<'a>>
 
 #[cycle(parent)]
 fn parent_in<'a>(document: &'a Targets, name: &str) -> Option<&'a Delegations>
-    ensures { option_map (λ g. view_delegations g.now) result ≡ first_named name.now (standing_in (view document.now)) }
+    ensures { option_map (λ g. delegations_tree g.now) result ≡ first_named name.now (standing_in (tree_doc document.now)) }
 {
     let Some(delegations) = &document.delegations else {
         return None;
@@ -97,7 +89,7 @@ fn parent_in<'a>(document: &'a Targets, name: &str) -> Option<&'a Delegations>
 
 #[cycle(parent)]
 fn parent_among<'a>(roles: &'a [DelegatedRole], name: &str) -> Option<Place<'a>>
-    ensures { (all : Roles) → option_map (place_of all) result ≡ first_named name.now (standing all (view_roles roles.now)) }
+    ensures { (all : DelegationsTree) → option_map (place_of all) result ≡ first_named name.now (standing all (role_branches roles.now)) }
 {
     for role in roles {
         match parent_at(role, name) {
@@ -110,7 +102,7 @@ fn parent_among<'a>(roles: &'a [DelegatedRole], name: &str) -> Option<Place<'a>>
 
 #[cycle(parent)]
 fn parent_at<'a>(role: &'a DelegatedRole, name: &str) -> Option<Place<'a>>
-    ensures { (all : Roles) → option_map (place_of all) result ≡ first_named name.now (standing_at all (view_role role.now)) }
+    ensures { (all : DelegationsTree) → option_map (place_of all) result ≡ first_named name.now (standing_at all (role_tree role.now)) }
 {
     if role.name.as_str() == name {
         return Some(Place::Here);
@@ -129,8 +121,8 @@ impl Targets {
     /// refusals: `NoDelegations` without delegations, `NoTargets` at a role of the own list that has another name and
     /// no document, else `RoleNotFound`.
     pub fn delegated_role(&self, alloc: Global, name: &str) -> Result<&DelegatedRole, Error>
-        ensures found { IfOk result (λ r. sought name.now (targets_doc self.now).delegations (view self.now) ≡ found (view_role r.now)) }
-        ensures refused { IfErr result (λ e. IsUnsought name.now (sought name.now (targets_doc self.now).delegations (view self.now)) e) }
+        ensures found { IfOk result (λ r. sought name.now (tree_doc self.now) ≡ found (role_tree r.now)) }
+        ensures refused { IfErr result (λ e. IsUnsought name.now (sought name.now (tree_doc self.now)) e) }
     {
         let Some(delegations) = &self.delegations else {
             return Err(Error::NoDelegations);
@@ -150,8 +142,8 @@ impl Targets {
         alloc: Global,
         name: &str,
     ) -> Result<&Signed<DelegatedTargets>, Error>
-        ensures found { IfOk result (λ s. HasDocument (sought name.now (targets_doc self.now).delegations (view self.now)) (view_delegated s.now.signed)) }
-        ensures refused { IfErr result (λ e. IsUnheld name.now (sought name.now (targets_doc self.now).delegations (view self.now)) e) }
+        ensures found { IfOk result (λ s. document_of (sought name.now (tree_doc self.now)) ≡ Some (held_doc s.now)) }
+        ensures refused { IfErr result (λ e. IsUnheld name.now (sought name.now (tree_doc self.now)) e) }
     {
         match self.delegated_role(alloc, name) {
             Err(error) => Err(error),
@@ -164,8 +156,8 @@ impl Targets {
 
     /// The delegations in which the first entry of the name stands, in preorder; else `RoleNotFound`.
     pub fn parent_of(&self, alloc: Global, name: &str) -> Result<&Delegations, Error>
-        ensures found { IfOk result (λ g. parent name.now (view self.now) ≡ Some (view_delegations g.now)) }
-        ensures refused { IfErr result (λ e. IsOrphan name.now (parent name.now (view self.now)) e) }
+        ensures found { IfOk result (λ g. parent name.now (tree_doc self.now) ≡ Some (delegations_tree g.now)) }
+        ensures refused { IfErr result (λ e. IsOrphan name.now (parent name.now (tree_doc self.now)) e) }
     {
         match parent_in(self, name) {
             Some(delegations) => Ok(delegations),

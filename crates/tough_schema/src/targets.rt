@@ -1,10 +1,11 @@
-ghost use Rattle.std.specs.Prelude.{◌≡◌, ◌++◌, codes, Some, None, string_bytes};
+ghost use Rattle.std.specs.Prelude.{◌≡◌, ◌++◌, codes, Some, None, IfOk, string_bytes};
 ghost use Rattle.std.proofs.Common.{rules};
 ghost use Rattle.std.specs.Int.NonZero.{non_zero_u64_get};
 ghost use Rattle.tough_json.specs.Results.{ReadsBytes};
 ghost use Rattle.tough_roles.specs.Names.{file_name};
 ghost use Rattle.tough_roles.specs.RoleId.{standard};
 ghost use Rattle.tough_roles.specs.declared.role_type.RoleType.TheVariants as types;
+ghost use Rattle.tough_schema.specs.Fresh.{IsFresh, IsFreshDelegated};
 ghost use Rattle.tough_schema.specs.Targets.{targets_doc, delegated_doc, delegated_name, delegated_file, delegated_id, targets_at, targets_json, bare_targets, IsKept};
 
 use crate::delegations::Delegations;
@@ -66,11 +67,29 @@ impl Targets {
 impl Targets {
     /// The targets that the bytes are; `Json` where they are no JSON, `Shape` where that is none.
     pub fn read(alloc: Global, bytes: &[u8]) -> Result<Targets, ReadError>
-        ensures { ReadsBytes targets_doc result bytes.now targets_at }
+        ensures read { ReadsBytes targets_doc result bytes.now targets_at }
+        ensures fresh { IfOk result IsFresh }
     {
         let mut scratch = Scratch::new(alloc);
         match borrowed(alloc, bytes, &mut scratch) {
             Ok(value) => targets_in(alloc, value),
+            Err(error) => Err(error),
+        }
+    }
+}
+
+impl DelegatedTargets {
+    /// The document of a delegated role that the bytes are, under the empty name, since the JSON hasn't the name;
+    /// `Json` where they are no JSON, `Shape` where that is none.
+    pub fn read(alloc: Global, bytes: &[u8]) -> Result<DelegatedTargets, ReadError>
+        ensures read { ReadsBytes delegated_doc result bytes.now targets_at }
+        ensures fresh { IfOk result IsFreshDelegated }
+    {
+        match Targets::read(alloc, bytes) {
+            Ok(targets) => Ok(DelegatedTargets {
+                name: String::new(alloc),
+                targets,
+            }),
             Err(error) => Err(error),
         }
     }
@@ -90,6 +109,8 @@ impl Role for Targets {
     ghost json = { λ x. targets_json (targets_doc x) };
 
     ghost is_kept = { λ x. IsKept (targets_doc x).delegations };
+
+    ghost is_fresh = { IsFresh };
 
     ghost file = { λ x consistent. file_name consistent (targets_doc x).head.version (codes "targets.json") };
 
@@ -150,6 +171,8 @@ impl Role for DelegatedTargets {
     ghost json = { λ x. targets_json (delegated_doc x) };
 
     ghost is_kept = { λ x. IsKept (delegated_doc x).delegations };
+
+    ghost is_fresh = { IsFreshDelegated };
 
     ghost file = { λ x consistent. file_name consistent (delegated_doc x).head.version (delegated_file (delegated_name x)) };
 

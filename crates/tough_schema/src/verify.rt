@@ -14,7 +14,7 @@ use std::alloc::{AllocError, Global};
 use tough_json::error::WriteError;
 use tough_keys::Verify;
 use tough_roles::verify::judge;
-use tough_roles::{Error, Role, RoleKeys, Signed, canonical_form};
+use tough_roles::{Error, Role, RoleKeys, Signed};
 
 impl DelegatedRole {
     /// The identifiers that the role lists, and how many of them must sign.
@@ -58,7 +58,7 @@ fn answer<T: Role, V: Verify>(
         });
     };
     let keys = role.keys(alloc)?;
-    match canonical_form(alloc, &document.signed) {
+    match document.signed.canonical_form(alloc) {
         Ok(text) => {
             let text = text.as_slice();
             judge(
@@ -72,7 +72,7 @@ fn answer<T: Role, V: Verify>(
             )
         }
         Err(WriteError::Memory) => Err(Error::Memory),
-        Err(WriteError::Unwritable) => Err(Error::JsonSerialization { role: T::TYPE }),
+        Err(WriteError::Unwritable) => Err(Error::JsonSerialization { what: T::TYPE }),
     }
 }
 

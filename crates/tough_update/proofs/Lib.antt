@@ -7,3 +7,7 @@ pub mod Settling
 pub mod Alike
 pub mod Loads
 pub mod Clears
+pub mod Prefixes
+pub mod History
+pub mod Noting
+pub mod Counting

@@ -20,9 +20,9 @@ failed r ParseUrl h = inl (sym (ap settled h))
 failed r JoinUrl h = inl (sym (ap settled h))
 failed r Transport h = inl (sym (ap settled h))
 failed r (Checked reason) h = inl (sym (ap settled h))
-failed r DatastoreOpen h = inl (sym (ap settled h))
-failed r DatastoreCreate h = inl (sym (ap settled h))
-failed r DatastoreRemove h = inl (sym (ap settled h))
+failed r (DatastoreOpen path) h = inl (sym (ap settled h))
+failed r (DatastoreCreate path) h = inl (sym (ap settled h))
+failed r (DatastoreRemove path) h = inl (sym (ap settled h))
 
 pub goes : (v : Verifies) (old : CoreDoc) (trusted : List ℕ) (stage : StageDoc) (a : AnswerDoc) (new : StageDoc) → trusted ≡ old.setting.trusted → stage ≡ old.stage
     → Settles (stage_after v (record { trusted = trusted; limits = old.setting.limits; enforced = old.setting.enforced }) stage a) new

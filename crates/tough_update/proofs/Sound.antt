@@ -116,6 +116,13 @@ bare-read bytes d h =
     let n = if-ok (not (lists_roles r.0.role.delegations)) r.0 d (ParseMetadata role.Targets) r.2 in
     r.1 ∙ ap Some n.1
 
+-- and they list no roles
+pub bare-none : (bytes : List ℕ) (d : SignedDoc TargetsDoc) → bare_targets bytes ≡ Ok d → lists_roles d.role.delegations ≡ false
+bare-none bytes d h =
+    let r = if_read-ok (ParseMetadata role.Targets) (targets_in bytes) (λ x. unless (ParseMetadata role.Targets) (not (lists_roles x.role.delegations)) (Ok x)) d h in
+    let n = if-ok (not (lists_roles r.0.role.delegations)) r.0 d (ParseMetadata role.Targets) r.2 in
+    subst (λ (x : SignedDoc TargetsDoc). lists_roles x.role.delegations ≡ false) n.1 (not-true _ n.0)
+
 unless-ok : {A : Type 0} (f : Failure) (b : Bool) (r : Result A Failure) (a : A) → unless f b r ≡ Ok a → IsTrue b × (r ≡ Ok a)
 unless-ok f true r a h = (refl, h)
 unless-ok f false r a h = cc
@@ -180,7 +187,7 @@ module _ (verifies : Verifies) (s : SettingDoc) (N : ℤ → Type 0) (E : Signed
   AskedBy entries name limit listed r = (m : MetafileDoc) × (metafile_in entries name ≡ Some m) × (listed ≡ m.version) × (r.max_size ≡ bound m.length limit) × (r.sha256 ≡ stated_digest m.hashes)
 
   abbrev pub TargetsFine : KnownDoc → SignedDoc TargetsDoc → Type 0
-  TargetsFine k d = ReachesUnder verifies k.root.role role.Targets targets_json d × Lists targets_in k.snapshot.role.meta targets_file d.role.head.version d × InTime k.start d.role.head.expires
+  TargetsFine k d = ReachesUnder verifies k.root.role role.Targets targets_json d × Lists targets_in k.snapshot.role.meta targets_file d.role.head.version d × InTime k.start d.role.head.expires × (lists_roles d.role.delegations ≡ false)
 
   abbrev pub HoldsWanted : WantedDoc → RequestDoc → Type 0
   HoldsWanted (at.Root w) r = N w.start × Chain verifies s.trusted w.last × (r ≡ root_request s.limits (w.last.role.head.version + 1))
@@ -289,7 +296,7 @@ module _ (verifies : Verifies) (s : SettingDoc) (N : ℤ → Type 0) (E : Signed
         and_then-fine Holds bad (targets_checked verifies s.enforced k listed d) (λ u. Ok (at.Step (at.PutTargets k d))) (λ u passed.
         let c = checked-ok verifies s.enforced k listed d u passed in
         let named = named-by targets_in k.snapshot.role.meta targets_file s.limits.max_targets_size listed r bytes d (bare-read bytes d is) fit h.1 in
-        (h.0, (ok-reaches verifies k.root.role role.Targets targets_json d (Ok (tt {0})) c.0, subst (λ n. Lists targets_in k.snapshot.role.meta targets_file n d) (sym c.1) named, c.2))))
+        (h.0, (ok-reaches verifies k.root.role role.Targets targets_json d (Ok (tt {0})) c.0, subst (λ n. Lists targets_in k.snapshot.role.meta targets_file n d) (sym c.1) named, c.2, bare-none bytes d is))))
 
     read-fine : (w : WantedDoc) (r : RequestDoc) (bytes : List ℕ) → Holds (at.Fetch w r) → Heard (at.Fetch w r) (got.Bytes bytes) → Fine Holds bad (read_wanted verifies s.enforced w bytes)
     read-fine (at.Root w) r bytes h l = new_root-fine w bytes h.0 h.1
@@ -310,4 +317,4 @@ module _ (verifies : Verifies) (s : SettingDoc) (N : ℤ → Type 0) (E : Signed
 
     -- each answer keeps what holds of a stage
     pub answer-fine : (stage : StageDoc) (a : AnswerDoc) → Holds stage → Heard stage a → Fine Holds bad (stage_after verifies s stage a)
-    answer-fine = keeps-answer verifies s Holds bad Heard (record { moment = λ now. tt; read = read-fine; ends = λ w r a e h l. (h.0, h.1, l.1 h.2 e); step = step-fine })
+    answer-fine = keeps-answer verifies s Holds Holds bad Heard (record { moment = λ now h l. tt; read = read-fine; ends = λ w r a e h l. (h.0, h.1, l.1 h.2 e); step = step-fine; same = λ stage a _ e h l. h })

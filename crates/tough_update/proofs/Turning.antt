@@ -40,21 +40,33 @@ stream-ends NotFound h = tt
 stream-ends Faulty h = cc
 stream-ends NoMemory h = cc
 
-module _ (verifies : Verifies) (s : SettingDoc) (P : StageDoc → Type 0) (bad : (f : Failure) → P (at.Done (Err f))) (Heard : StageDoc → AnswerDoc → Type 0) where
-  -- what is to be shown of a fact, with what is heard of each answer
-  pub record Kept : Type 0 where
-    pub moment : (now : ℤ) → P (at.Step (at.NoteTime now))
-    pub read : (w : WantedDoc) (r : RequestDoc) (bytes : List ℕ) → P (at.Fetch w r) → Heard (at.Fetch w r) (got.Bytes bytes) → Fine P bad (read_wanted verifies s.enforced w bytes)
-    pub ends : (w : WalkDoc) (r : RequestDoc) (a : AnswerDoc) → EndsWalk a → P (at.Fetch (at.Root w) r) → Heard (at.Fetch (at.Root w) r) a → P (at.Step (at.PutLast w))
-    pub step : (p : PendingDoc) → P (at.Step p) → Heard (at.Step p) (got.Step (Ok (tt {0}))) → Fine P bad (after verifies s p)
+-- the answer is of the kind that the stage waits for
+abbrev pub waits : StageDoc → AnswerDoc → Bool
+waits at.Moment (got.Moment now) = true
+waits (at.Fetch w r) (got.Bytes bytes) = true
+waits (at.Fetch w r) (got.NotStarted f) = true
+waits (at.Fetch w r) (got.Cut f) = true
+waits (at.Step p) (got.Step r) = true
+waits _ _ = false
 
-  pub keeps-answer : Kept → (stage : StageDoc) (a : AnswerDoc) → P stage → Heard stage a → Fine P bad (stage_after verifies s stage a)
-  keeps-answer k at.Moment (got.Moment now) h l = k.moment now
+-- what holds of a stage before an answer (P), and of the one that the answer makes (Q)
+module _ (verifies : Verifies) (s : SettingDoc) (P Q : StageDoc → Type 0) (bad : (f : Failure) → Q (at.Done (Err f))) (Heard : StageDoc → AnswerDoc → Type 0) where
+  -- what is to be shown, with what is heard of each answer
+  pub record Kept : Type 0 where
+    pub moment : (now : ℤ) → P at.Moment → Heard at.Moment (got.Moment now) → Q (at.Step (at.NoteTime now))
+    pub read : (w : WantedDoc) (r : RequestDoc) (bytes : List ℕ) → P (at.Fetch w r) → Heard (at.Fetch w r) (got.Bytes bytes) → Fine Q bad (read_wanted verifies s.enforced w bytes)
+    pub ends : (w : WalkDoc) (r : RequestDoc) (a : AnswerDoc) → EndsWalk a → P (at.Fetch (at.Root w) r) → Heard (at.Fetch (at.Root w) r) a → Q (at.Step (at.PutLast w))
+    pub step : (p : PendingDoc) → P (at.Step p) → Heard (at.Step p) (got.Step (Ok (tt {0}))) → Fine Q bad (after verifies s p)
+    -- an answer that isn't waited for
+    pub same : (stage : StageDoc) (a : AnswerDoc) → waits stage a ≡ false → stage_after verifies s stage a ≡ Ok stage → P stage → Heard stage a → Q stage
+
+  pub keeps-answer : Kept → (stage : StageDoc) (a : AnswerDoc) → P stage → Heard stage a → Fine Q bad (stage_after verifies s stage a)
+  keeps-answer k at.Moment (got.Moment now) h l = k.moment now h l
   keeps-answer k (at.Fetch w r) (got.Bytes bytes) h l = k.read w r bytes h l
-  keeps-answer k (at.Fetch (at.Root w) r) (got.NotStarted f) h l = if-fine P bad (ends_start f) (Ok (at.Step (at.PutLast w))) (Err (fault_failure f)) (λ e. k.ends w r (got.NotStarted f) (start-ends f e) h l) (bad (fault_failure f))
-  keeps-answer k (at.Fetch (at.Root w) r) (got.Cut f) h l = if-fine P bad (ends_stream f) (Ok (at.Step (at.PutLast w))) (Err (fault_failure f)) (λ e. k.ends w r (got.Cut f) (stream-ends f e) h l) (bad (fault_failure f))
+  keeps-answer k (at.Fetch (at.Root w) r) (got.NotStarted f) h l = if-fine Q bad (ends_start f) (Ok (at.Step (at.PutLast w))) (Err (fault_failure f)) (λ e. k.ends w r (got.NotStarted f) (start-ends f e) h l) (bad (fault_failure f))
+  keeps-answer k (at.Fetch (at.Root w) r) (got.Cut f) h l = if-fine Q bad (ends_stream f) (Ok (at.Step (at.PutLast w))) (Err (fault_failure f)) (λ e. k.ends w r (got.Cut f) (stream-ends f e) h l) (bad (fault_failure f))
   keeps-answer k (at.Fetch w r) (got.NotStarted f) h l = bad (fault_failure f)
   keeps-answer k (at.Fetch w r) (got.Cut f) h l = bad (fault_failure f)
   keeps-answer k (at.Step p) (got.Step (Ok u)) h l = k.step p h l
   keeps-answer k (at.Step p) (got.Step (Err f)) h l = bad f
-  keeps-answer k stage a h l = h
+  keeps-answer k stage a h l = k.same stage a refl refl h l

@@ -11,34 +11,37 @@ use Rattle.tough_update.specs.Answered.{AnswerDoc}
 use Rattle.tough_update.specs.Answered as got
 use Rattle.tough_update.specs.Machine.{question, answered, settled, stage_after}
 use Rattle.tough_update.specs.Runs.{run, Along, HasNoted, IsLast, IsFresh, Loaded}
+use Rattle.tough_update.proofs.Prefixes.{in_stage, run-last, over-append}
+use Rattle.tough_update.proofs.History.{tells-at}
+use Rattle.tough_update.proofs.Noting.{once}
 use Rattle.tough_update.proofs.Sound.{Holds, Told, KnownFine, answer-fine, in-time}
 
-run-last : (v : Verifies) (h : List AnswerDoc) (c : CoreDoc) (a : AnswerDoc) → run v c (h ++ a ∷ []) ≡ answered v (run v c h) a
-run-last v [] c a = refl
-run-last v (x ∷ h) c a = run-last v h (answered v c x) a
-
-over-append : (h : List AnswerDoc) (a : AnswerDoc) (rest : List AnswerDoc) → h ++ a ∷ rest ≡ (h ++ a ∷ []) ++ rest
-over-append [] a rest = refl
-over-append (x ∷ h) a rest = ap (λ r. x ∷ r) (over-append h a rest)
-
-module _ (v : Verifies) (c : CoreDoc) (all : List AnswerDoc) where
+module _ (v : Verifies) (c : CoreDoc) (fresh : IsFresh c) (all : List AnswerDoc) where
   abbrev Last : SignedDoc RootDoc → Type 0
   Last = IsLast v c all
-
-  abbrev in_stage : StageDoc → CoreDoc
-  in_stage st = record { setting = c.setting; stage = st }
 
   abbrev Noted : ℤ → Type 0
   Noted = HasNoted v c all
 
+  -- this moment was noted
+  noted : (h rest : List AnswerDoc) (now : ℤ) → all ≡ h ++ got.Step (Ok (tt {0})) ∷ rest → run v c h ≡ in_stage c (at.Step (at.NoteTime now)) → Noted now
+  noted h rest now is stands = record {
+    before = h;
+    after = rest;
+    all = is;
+    asked = ap question stands;
+    told = tells-at v c fresh h (at.Step (at.NoteTime now)) stands;
+    once = λ k t other e f. once v c k h t rest other now (sym e ∙ is) f (ap question stands);
+  }
+
   -- the first root that wasn't there ends the walk, and the moment that was noted is the start
-  told : (h rest : List AnswerDoc) (a : AnswerDoc) (st : StageDoc) → all ≡ h ++ a ∷ rest → run v c h ≡ in_stage st → Told v c.setting Noted Last st a
+  told : (h rest : List AnswerDoc) (a : AnswerDoc) (st : StageDoc) → all ≡ h ++ a ∷ rest → run v c h ≡ in_stage c st → Told v c.setting Noted Last st a
   told h rest a (at.Fetch (at.Root w) r) is stands = λ f ends. inl (record { before = h; answer = a; after = rest; all = is; asked = ap question stands ∙ ap ask.Fetch f; ends = ends })
-  told h rest a (at.Step (at.NoteTime now)) is stands = λ f. record { before = h; after = rest; all = is ∙ ap (λ x. h ++ x ∷ rest) f; asked = ap question stands }
+  told h rest a (at.Step (at.NoteTime now)) is stands = λ f. noted h rest now (is ∙ ap (λ x. h ++ x ∷ rest) f) stands
   told h rest a _ is stands = tt
 
-  along-holds : (rest h : List AnswerDoc) (st : StageDoc) → all ≡ h ++ rest → run v c h ≡ in_stage st → Along v (in_stage st) rest
-      → Holds v c.setting Noted Last st → Holds v c.setting Noted Last (run v (in_stage st) rest).stage
+  along-holds : (rest h : List AnswerDoc) (st : StageDoc) → all ≡ h ++ rest → run v c h ≡ in_stage c st → Along v (in_stage c st) rest
+      → Holds v c.setting Noted Last st → Holds v c.setting Noted Last (run v (in_stage c st) rest).stage
   along-holds [] h st is stands keeps holds = holds
   along-holds (a ∷ rest) h st is stands keeps holds =
       along-holds rest (h ++ a ∷ []) (settled (stage_after v c.setting st a))
@@ -51,7 +54,7 @@ pub loaded : (v : Verifies) (c : CoreDoc) (answers : List AnswerDoc) (l : Loaded
 loaded v c answers l fresh keeps is =
     let both : Holds v c.setting (HasNoted v c answers) (IsLast v c answers) (at.Done (Ok l)) =
     subst (Holds v c.setting (HasNoted v c answers) (IsLast v c answers)) is
-    (along-holds v c answers answers [] c.stage refl refl keeps (subst (Holds v c.setting (HasNoted v c answers) (IsLast v c answers)) (sym fresh) tt)) in
+    (along-holds v c fresh answers answers [] c.stage refl refl keeps (subst (Holds v c.setting (HasNoted v c answers) (IsLast v c answers)) (sym fresh) tt)) in
     let known : KnownFine v c.setting (HasNoted v c answers) (IsLast v c answers) l.known = both.0 in
     record {
       trusted = record {
@@ -71,4 +74,5 @@ loaded v c answers l fresh keeps is =
       };
       noted = known.root.0;
       last = known.root.2;
+      bare = both.1.3;
     }

@@ -26,9 +26,10 @@ pub data Failure : Type 0 where
   Transport : Failure
   -- a check refused
   Checked : Reason → Failure
-  DatastoreOpen : Failure
-  DatastoreCreate : Failure
-  DatastoreRemove : Failure
+  -- the store couldn't read, write or remove the file of this name
+  DatastoreOpen : List ℕ → Failure
+  DatastoreCreate : List ℕ → Failure
+  DatastoreRemove : List ℕ → Failure
   Memory : Failure
 
 abbrev pub failure_of : Error → Failure
@@ -36,7 +37,7 @@ failure_of (error.ParseTrustedMetadata source) = ParseTrustedMetadata
 failure_of (error.VerifyTrustedMetadata source) = VerifyTrustedMetadata (refused source)
 failure_of (error.ParseMetadata role source) = ParseMetadata role
 failure_of (error.MaxUpdatesExceeded n) = MaxUpdatesExceeded n
-failure_of (error.ParseUrl source) = ParseUrl
+failure_of (error.ParseUrl url source) = ParseUrl
 failure_of (error.JoinUrl path source) = JoinUrl
 failure_of (error.Transport source) = Transport
 failure_of (error.SystemTimeSteppedBackward now later) = Checked (check.SystemTimeSteppedBackward now.nanosecond later.nanosecond)
@@ -51,9 +52,9 @@ failure_of (error.OlderSnapshotInTimestamp a b c d) = Checked (check.OlderSnapsh
 failure_of (error.SnapshotRoleMissing name old new) = Checked (check.SnapshotRoleMissing (string_bytes name) old new)
 failure_of (error.SnapshotRoleRollback name was old now new) = Checked (check.SnapshotRoleRollback (string_bytes name) was old now new)
 failure_of (error.ExpiredMetadata role) = Checked (check.ExpiredMetadata role)
-failure_of error.DatastoreOpen = DatastoreOpen
-failure_of error.DatastoreCreate = DatastoreCreate
-failure_of error.DatastoreRemove = DatastoreRemove
+failure_of (error.DatastoreOpen path) = DatastoreOpen (string_bytes path)
+failure_of (error.DatastoreCreate path) = DatastoreCreate (string_bytes path)
+failure_of (error.DatastoreRemove path) = DatastoreRemove (string_bytes path)
 failure_of error.Memory = Memory
 
 -- a refusal is this failure; want of memory may come in its place
@@ -69,7 +70,7 @@ Gives view answer (Err e) = IsRefused (failure_of e) answer
 -- the failure that a refused step is
 abbrev pub step_failure : StepError → Failure
 step_failure (steps.Refused r) = Checked (reason_of r)
-step_failure steps.DatastoreOpen = DatastoreOpen
-step_failure steps.DatastoreCreate = DatastoreCreate
-step_failure steps.DatastoreRemove = DatastoreRemove
+step_failure (steps.DatastoreOpen path) = DatastoreOpen (string_bytes path)
+step_failure (steps.DatastoreCreate path) = DatastoreCreate (string_bytes path)
+step_failure (steps.DatastoreRemove path) = DatastoreRemove (string_bytes path)
 step_failure steps.Memory = Memory

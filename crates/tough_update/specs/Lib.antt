@@ -13,3 +13,4 @@ pub mod Promises
 pub mod Trusted
 pub mod Runs
 pub mod Loadable
+pub mod Asking

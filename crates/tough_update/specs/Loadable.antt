@@ -1,67 +1,124 @@
--- Files that serve documents, and the answers of an honest transport, clock and store.
-use Rattle.std.specs.Prelude.{◌≡◌, ℕ, ℤ, ◌+◌, ◌-◌, ◌^◌, ◌<◌, List, [], ◌∷◌, Option, Some, None, Bool, false, ⊤, Ok}
+-- Files that serve documents, and the answers of an honest transport, clock and store (TUF specification 1.0, section 5).
+use Rattle.std.specs.Prelude.{◌≡◌, ◌≢◌, ℕ, ℤ, ◌+◌, ◌-◌, ◌^◌, ◌<◌, ◌≤◌, List, [], ◌∷◌, length, Option, Some, None, Bool, true, false, ⊤, Ok, Err}
 use Rattle.tough_keys.specs.Same.{Verifies}
 use Rattle.tough_roles.specs.Root.{root_json}
-use Rattle.tough_roles.specs.Timestamp.{MetafileDoc}
+use Rattle.tough_roles.specs.Timestamp.{MetafileDoc, timestamp_json}
+use Rattle.tough_roles.specs.Snapshot.{snapshot_json}
 use Rattle.tough_roles.specs.Chain.{ReachesUnder}
 use Rattle.tough_roles.specs.declared.role_type.RoleType.TheVariants as role
 use Rattle.tough_schema.specs.Targets.{targets_json}
-use Rattle.tough_vault.specs.Checks.{is_expired}
-use Rattle.tough_vault.specs.Documents.{timestamp_in, snapshot_in, metafile_in}
+use Rattle.tough_vault.specs.Checks.{Reason, or_else, is_expired}
+use Rattle.tough_vault.specs.Documents.{root_text, timestamp_in, snapshot_in, metafile_in}
+use Rattle.tough_vault.specs.Journal.{Last}
+use Rattle.tough_vault.specs.Step.{Step}
+use Rattle.tough_vault.specs.Steps.{time_text, time_step, root_step, timestamp_step, snapshot_step, document_step}
+use Rattle.tough_vault.specs.Act.{Act}
+use Rattle.tough_vault.specs.Act as act
 use Rattle.tough_vault.specs.Files.{snapshot_file, targets_file}
 use Rattle.tough_update.specs.Walk.{root_in}
-use Rattle.tough_update.specs.Requests.{root_request, timestamp_request, snapshot_request, targets_request}
-use Rattle.tough_update.specs.Listed.{targets_in, lists_roles}
-use Rattle.tough_update.specs.Stages.{LoadedDoc, SettingDoc, CoreDoc}
+use Rattle.tough_update.specs.Requests.{RequestDoc, fits_request, root_request, timestamp_request, snapshot_request, targets_request}
+use Rattle.tough_update.specs.Listed.{targets_in, targets_text, lists_roles}
+use Rattle.tough_update.specs.Failure.{Checked}
+use Rattle.tough_update.specs.Stages.{LoadedDoc, SettingDoc, CoreDoc, Done}
 use Rattle.tough_update.specs.Questions.{Question}
 use Rattle.tough_update.specs.Questions as ask
-use Rattle.tough_update.specs.Answered.{NotFound, AnswerDoc}
+use Rattle.tough_update.specs.Answered.{NotFound, Faulty, AnswerDoc}
 use Rattle.tough_update.specs.Answered as got
 use Rattle.tough_update.specs.Machine.{question, answered}
+use Rattle.tough_update.specs.Runs.{run}
 
 -- what the files under these names hold
 abbrev pub Files : Type 0
 Files = List ℕ → Option (List ℕ)
 
--- what an honest transport answers: the file's bytes, or that there is none
-abbrev pub Gets : Option (List ℕ) → AnswerDoc → Type 0
-Gets None a = a ≡ got.NotStarted NotFound
-Gets (Some bytes) a = a ≡ got.Bytes bytes
+-- ---- honest answers
 
--- the answers of these files, of a clock at this moment, and of a store that refuses no step
-abbrev pub Honest : Files → ℤ → Question → AnswerDoc → Type 0
-Honest files now ask.Moment a = a ≡ got.Moment now
-Honest files now (ask.Fetch r) a = Gets (files r.name) a
-Honest files now (ask.Step act) a = a ≡ got.Step (Ok (tt {0}))
-Honest files now ask.Ready a = ⊥
+-- the bytes, where they fit what was asked
+abbrev pub delivered : Bool → List ℕ → AnswerDoc
+delivered true bytes = got.Bytes bytes
+delivered false bytes = got.Cut Faulty
+
+-- what an honest transport answers: the file's bytes where they fit, or that there is no file
+abbrev pub Gets : RequestDoc → Option (List ℕ) → AnswerDoc → Type 0
+Gets r None a = a ≡ got.NotStarted NotFound
+Gets r (Some bytes) a = a ≡ delivered (fits_request r bytes) bytes
+
+-- nothing was accepted yet
+abbrev pub nothing : Last
+nothing = record { time = None; timestamp = None; snapshot = None }
+
+-- the first check that refuses, where the step's file isn't there
+abbrev pub refusal_of : Step → Option Reason
+refusal_of step = or_else step.before (step.after None)
+
+-- the same of each step, on a store that held nothing
+abbrev pub refusal_at_first : Verifies → Act → Option Reason
+refusal_at_first verifies (act.NoteTime now) = refusal_of (time_step nothing now)
+refusal_at_first verifies (act.PutRoot root) = refusal_of (root_step root)
+refusal_at_first verifies act.ClearRotated = None
+refusal_at_first verifies (act.AdvanceTimestamp root t start enforced) = refusal_of (timestamp_step verifies root nothing t start enforced)
+refusal_at_first verifies (act.AdvanceSnapshot root listed s start enforced) = refusal_of (snapshot_step verifies root nothing listed s start enforced)
+refusal_at_first verifies (act.PutDocument name text) = refusal_of (document_step name text)
+
+-- an honest store refuses where a check does
+abbrev pub step_answer : Option Reason → AnswerDoc
+step_answer None = got.Step (Ok (tt {0}))
+step_answer (Some reason) = got.Step (Err (Checked reason))
+
+-- the answers of these files, of a clock at this moment, and of a store that held nothing
+abbrev pub Honest : Verifies → Files → ℤ → Question → AnswerDoc → Type 0
+Honest verifies files now ask.Moment a = a ≡ got.Moment now
+Honest verifies files now (ask.Fetch r) a = Gets r (files r.name) a
+Honest verifies files now (ask.Step act) a = a ≡ step_answer (refusal_at_first verifies act)
+Honest verifies files now ask.Ready a = ⊥
 
 -- each answer is an honest one
 abbrev pub AllHonest : Verifies → Files → ℤ → CoreDoc → List AnswerDoc → Type 0
 AllHonest verifies files now c [] = ⊤
-AllHonest verifies files now c (a ∷ rest) = Honest files now (question c) a × AllHonest verifies files now (answered verifies c a) rest
+AllHonest verifies files now c (a ∷ rest) = Honest verifies files now (question c) a × AllHonest verifies files now (answered verifies c a) rest
 
--- the file holds bytes that are this document
-pub record IsServed {D : Type 0} (files : Files) (name : List ℕ) (reads : List ℕ → Option D) (doc : D) : Type 0 where
+-- ---- documents that can be loaded
+
+-- the file that is asked for holds bytes that fit and are this document
+pub record IsServed {D : Type 0} (files : Files) (r : RequestDoc) (reads : List ℕ → Option D) (doc : D) : Type 0 where
   pub bytes : List ℕ
-  pub served : files name ≡ Some bytes
+  pub served : files r.name ≡ Some bytes
+  pub fits : fits_request r bytes ≡ true
   pub reading : reads bytes ≡ Some doc
 
--- Documents that are served, from one root, and that vouch for one another. The targets delegate to no role.
+-- Documents that are served, from one root, that vouch for one another and haven't expired, and that can be stored. The targets delegate to
+-- no role.
 pub record Loadable (verifies : Verifies) (files : Files) (s : SettingDoc) (l : LoadedDoc) : Type 0 where
+  pub start_text : time_text l.known.start ≢ None
   pub root : root_in s.trusted ≡ Some l.known.root
   pub root_signed : ReachesUnder verifies l.known.root.role role.Root root_json l.known.root
   pub root_low : l.known.root.role.head.version < 2 ^ 64 - 1
   pub no_next : files (root_request s.limits (l.known.root.role.head.version + 1)).name ≡ None
   pub one_update : 0 < s.limits.max_root_updates
   pub root_in_time : is_expired s.enforced l.known.start l.known.root.role.head.expires ≡ false
-  pub timestamp : IsServed files (timestamp_request s.limits).name timestamp_in l.known.timestamp
+  pub root_stored : root_text l.known.root ≢ None
+  pub timestamp : IsServed files (timestamp_request s.limits) timestamp_in l.known.timestamp
+  pub timestamp_signed : ReachesUnder verifies l.known.root.role role.Timestamp timestamp_json l.known.timestamp
+  pub timestamp_in_time : is_expired s.enforced l.known.start l.known.timestamp.role.head.expires ≡ false
+  -- the timestamp lists the snapshot alone
+  pub alone : length l.known.timestamp.role.meta ≡ 1
   pub entry : MetafileDoc
   pub listed : metafile_in l.known.timestamp.role.meta snapshot_file ≡ Some entry
-  pub snapshot : IsServed files (snapshot_request s.limits l.known.root.role.consistent_snapshot entry).name snapshot_in l.known.snapshot
+  pub snapshot : IsServed files (snapshot_request s.limits l.known.root.role.consistent_snapshot entry) snapshot_in l.known.snapshot
+  pub snapshot_signed : ReachesUnder verifies l.known.root.role role.Snapshot snapshot_json l.known.snapshot
+  pub snapshot_version : l.known.snapshot.role.head.version ≡ entry.version
+  pub snapshot_in_time : is_expired s.enforced l.known.start l.known.snapshot.role.head.expires ≡ false
   pub targets_entry : MetafileDoc
   pub targets_listed : metafile_in l.known.snapshot.role.meta targets_file ≡ Some targets_entry
-  pub targets : IsServed files (targets_request s.limits l.known.root.role.consistent_snapshot targets_entry).name targets_in l.targets
+  pub targets : IsServed files (targets_request s.limits l.known.root.role.consistent_snapshot targets_entry) targets_in l.targets
   pub targets_signed : ReachesUnder verifies l.known.root.role role.Targets targets_json l.targets
   pub targets_version : l.targets.role.head.version ≡ targets_entry.version
   pub targets_in_time : is_expired s.enforced l.known.start l.targets.role.head.expires ≡ false
+  pub targets_stored : targets_text l.targets ≢ None
   pub no_roles : lists_roles l.targets.role.delegations ≡ false
+
+-- It is ready after ten answers, and not before; and then it has ended with these documents.
+pub record IsLoaded (verifies : Verifies) (c : CoreDoc) (answers : List AnswerDoc) (l : LoadedDoc) : Type 0 where
+  pub within : length answers ≤ 10
+  pub soon : length answers ≡ 10 → question (run verifies c answers) ≡ ask.Ready
+  pub ends : question (run verifies c answers) ≡ ask.Ready → (run verifies c answers).stage ≡ Done (Ok l)

@@ -1,11 +1,14 @@
 -- Runs of an update, over any answers.
-use Rattle.std.specs.Prelude.{◌≡◌, ◌⊎◌, ℕ, ℤ, ◌+◌, ◌-◌, ◌^◌, List, [], ◌∷◌, ◌++◌, Option, Some, None, Bool, true, IsTrue, ⊤, Result, Ok, Err}
+use Rattle.std.specs.Prelude.{◌≡◌, ◌⊎◌, ℕ, ℤ, ◌+◌, ◌-◌, ◌^◌, List, [], ◌∷◌, ◌++◌, Option, Some, None, Bool, true, false, IsTrue, ⊤, Result, Ok, Err, if◌then◌else◌}
 use Rattle.tough_keys.specs.Same.{Verifies}
 use Rattle.tough_roles.specs.Signature.{SignedDoc}
 use Rattle.tough_roles.specs.Root.{RootDoc}
-use Rattle.tough_vault.specs.Act.{NoteTime, HasChecked}
-use Rattle.tough_update.specs.Requests.{fits_request, root_request}
-use Rattle.tough_update.specs.Stages.{LoadedDoc, CoreDoc, Moment}
+use Rattle.tough_vault.specs.Checks.{is_expired}
+use Rattle.tough_vault.specs.Act.{NoteTime, ClearRotated, HasChecked}
+use Rattle.tough_update.specs.Requests.{fits_request, root_request, timestamp_request}
+use Rattle.tough_update.specs.Listed.{lists_roles}
+use Rattle.tough_update.specs.Stages.{WalkDoc, LoadedDoc, CoreDoc, Moment}
+use Rattle.tough_update.specs.Stages as at
 use Rattle.tough_update.specs.Questions.{Question}
 use Rattle.tough_update.specs.Questions as ask
 use Rattle.tough_update.specs.Answered.{FaultDoc, NotFound, Faulty, AnswerDoc}
@@ -51,12 +54,21 @@ pub record AskedNext (verifies : Verifies) (c : CoreDoc) (answers : List AnswerD
 abbrev pub IsLast : Verifies → CoreDoc → List AnswerDoc → SignedDoc RootDoc → Type 0
 IsLast verifies c answers r = AskedNext verifies c answers r ⊎ (r.role.head.version ≡ 2 ^ 64 - 1)
 
--- this moment was noted: it was asked for, and the step succeeded
+-- the clock told this moment where it was asked for
+pub record WasTold (verifies : Verifies) (c : CoreDoc) (answers : List AnswerDoc) (now : ℤ) : Type 0 where
+  pub before : List AnswerDoc
+  pub after : List AnswerDoc
+  pub all : answers ≡ before ++ got.Moment now ∷ after
+  pub asked : question (run verifies c before) ≡ ask.Moment
+
+-- This moment was noted: the clock told it, it was asked for, and the step succeeded. No other moment was noted.
 pub record HasNoted (verifies : Verifies) (c : CoreDoc) (answers : List AnswerDoc) (start : ℤ) : Type 0 where
   pub before : List AnswerDoc
   pub after : List AnswerDoc
   pub all : answers ≡ before ++ got.Step (Ok (tt {0})) ∷ after
   pub asked : question (run verifies c before) ≡ ask.Step (NoteTime start)
+  pub told : WasTold verifies c before start
+  pub once : (h t : List AnswerDoc) (now : ℤ) → answers ≡ h ++ got.Step (Ok (tt {0})) ∷ t → question (run verifies c h) ≡ ask.Step (NoteTime now) → h ≡ before
 
 -- what an update that succeeds promises
 pub record Loaded (verifies : Verifies) (c : CoreDoc) (answers : List AnswerDoc) (l : LoadedDoc) : Type 0 where
@@ -64,15 +76,31 @@ pub record Loaded (verifies : Verifies) (c : CoreDoc) (answers : List AnswerDoc)
   pub unexpired : c.setting.enforced ≡ true → Unexpired l.known l.targets
   pub noted : HasNoted verifies c answers l.known.start
   pub last : IsLast verifies c answers l.known.root
+  -- targets that delegate to a role aren't taken yet
+  pub bare : lists_roles l.targets.role.delegations ≡ false
 
 -- nothing was answered yet
 abbrev pub IsFresh : CoreDoc → Type 0
 IsFresh c = c.stage ≡ Moment
 
--- the keys of timestamp or snapshot differ between the root that was handed in and one that ends a chain from it
-pub record WasRotated (verifies : Verifies) (trusted : List ℕ) : Type 0 where
-  pub first : SignedDoc RootDoc
-  pub handed_in : root_in trusted ≡ Some first
-  pub last : SignedDoc RootDoc
-  pub chain : Chain verifies trusted last
-  pub rotated : is_rotated first.role last.role ≡ true
+-- The walk's last root is about to be stored: it ends a chain from the one that was handed in, and no root follows it. Where it hasn't
+-- expired, timestamp and snapshot are forgotten next exactly if their keys differ between these two roots.
+pub record EndsWalking (verifies : Verifies) (c : CoreDoc) (answers : List AnswerDoc) (w : WalkDoc) : Type 0 where
+  pub handed_in : root_in c.setting.trusted ≡ Some w.first
+  pub chain : Chain verifies c.setting.trusted w.last
+  pub no_later : IsLast verifies c answers w.last
+  pub next : is_expired c.setting.enforced w.start w.last.role.head.expires ≡ false
+      → question (answered verifies (run verifies c answers) (got.Step (Ok (tt {0}))))
+      ≡ (if is_rotated w.first.role w.last.role then ask.Step ClearRotated else ask.Fetch (timestamp_request c.setting.limits))
+
+-- The walk of this run ended: its last root was stored, and its keys for timestamp or snapshot differ from those of the root that was
+-- handed in. Since then nothing came that was waited for.
+pub record WasRotated (verifies : Verifies) (c : CoreDoc) (answers : List AnswerDoc) : Type 0 where
+  pub walk : WalkDoc
+  pub before : List AnswerDoc
+  pub after : List AnswerDoc
+  pub all : answers ≡ before ++ got.Step (Ok (tt {0})) ∷ after
+  pub last : (run verifies c before).stage ≡ at.Step (at.PutLast walk)
+  pub walked : EndsWalking verifies c before walk
+  pub rotated : is_rotated walk.first.role walk.last.role ≡ true
+  pub since : run verifies c answers ≡ run verifies c (before ++ got.Step (Ok (tt {0})) ∷ [])

@@ -34,14 +34,16 @@ pub enum Error {
         source: ReadError,
     },
     /// More new roots than the limit allows.
-    #[error("Maximum root updates exceeded: {max_root_updates}")]
+    #[error("Maximum root updates {max_root_updates} exceeded")]
     MaxUpdatesExceeded {
         /// The limit.
         max_root_updates: u64,
     },
     /// A base URL can't be parsed.
-    #[error("Failed to parse a URL: {source}")]
+    #[error("Failed to parse URL \"{url}\": {source}")]
     ParseUrl {
+        /// The URL's text.
+        url: String,
         /// What was wrong.
         source: ParseError,
     },
@@ -68,7 +70,7 @@ pub enum Error {
         latest_known_time: Instant,
     },
     /// What is to be stored has no JSON text.
-    #[error("Failed to serialize metadata to JSON for the datastore")]
+    #[error("Failed to serialize metadata to JSON for the store")]
     DatastoreSerialize,
     /// The document isn't signed as the root demands.
     #[error("Failed to verify {} metadata: {source}", .role.name())]
@@ -161,14 +163,23 @@ pub enum Error {
         role: RoleType,
     },
     /// The store couldn't read a file.
-    #[error("Failed to open a file of the datastore")]
-    DatastoreOpen,
+    #[error("Failed to open {path} in the store")]
+    DatastoreOpen {
+        /// The file's name.
+        path: String,
+    },
     /// The store couldn't write a file.
-    #[error("Failed to write a file of the datastore")]
-    DatastoreCreate,
+    #[error("Failed to write {path} in the store")]
+    DatastoreCreate {
+        /// The file's name.
+        path: String,
+    },
     /// The store couldn't remove a file.
-    #[error("Failed to remove a file of the datastore")]
-    DatastoreRemove,
+    #[error("Failed to remove {path} from the store")]
+    DatastoreRemove {
+        /// The file's name.
+        path: String,
+    },
     /// A request for memory was refused.
     #[error("out of memory")]
     Memory,
@@ -286,9 +297,9 @@ impl From<StepError> for Error {
     fn from(error: StepError) -> Error {
         match error {
             StepError::Refused(refusal) => Error::from(refusal),
-            StepError::DatastoreOpen => Error::DatastoreOpen,
-            StepError::DatastoreCreate => Error::DatastoreCreate,
-            StepError::DatastoreRemove => Error::DatastoreRemove,
+            StepError::DatastoreOpen { path } => Error::DatastoreOpen { path },
+            StepError::DatastoreCreate { path } => Error::DatastoreCreate { path },
+            StepError::DatastoreRemove { path } => Error::DatastoreRemove { path },
             StepError::Memory => Error::Memory,
         }
     }

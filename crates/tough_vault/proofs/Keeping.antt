@@ -64,24 +64,26 @@ module _ {S : Type 0} (tells : Bool) (files : S → Files) (count : S → ℕ) w
       let fits = f found t.done.1.passes in
       noted (step.entry found) old new s t.done.1.noted fits.follows fits.free
       (λ told b. ∥∥₁_map (s.holds told (unbroken-before old.notes (step.entry found) b)) (λ h. fits.holds h (t.elsewhere told) (t.stored.1 told) t.stored.0))
-  kept step old new (Err DatastoreCreate) s f t = broke old new s (t.broken refl)
-  kept step old new (Err (Refused c)) s f t = let e = t.same (λ x. cc) in unchanged old new s e.0 e.1 e.2
-  kept step old new (Err DatastoreOpen) s f t = let e = t.same (λ x. cc) in unchanged old new s e.0 e.1 e.2
-  kept step old new (Err DatastoreRemove) s f t = let e = t.same (λ x. cc) in unchanged old new s e.0 e.1 e.2
-  kept step old new (Err Memory) s f t = let e = t.same (λ x. cc) in unchanged old new s e.0 e.1 e.2
+  kept step old new (Err (DatastoreCreate path)) s f t = broke old new s (t.broken tt)
+  kept step old new (Err (Refused c)) s f t = let e = t.same (λ x. x) in unchanged old new s e.0 e.1 e.2
+  kept step old new (Err (DatastoreOpen path)) s f t = let e = t.same (λ x. x) in unchanged old new s e.0 e.1 e.2
+  kept step old new (Err (DatastoreRemove path)) s f t = let e = t.same (λ x. x) in unchanged old new s e.0 e.1 e.2
+  kept step old new (Err Memory) s f t = let e = t.same (λ x. x) in unchanged old new s e.0 e.1 e.2
 
   -- a removal of both files, however it ended
-  ended : (old new : Parts S) (outcome : Result Unit StoreError) (result : Result Receipt StepError) → Sound old
+  ended : (old new : Parts S) (first second : Result Unit StoreError) (result : Result Receipt StepError) → Sound old
       → (tells ≡ true → (name : List ℕ) → name ≢ timestamp_file → name ≢ snapshot_file → files new.store name ≡ files old.store name)
-      → EndsRemoval tells files count outcome old new result → Sound new
-  ended old new (Ok u) (Ok r) s same e =
+      → EndsRemoval tells files count first second old new result → Sound new
+  ended old new (Ok u) (Ok v) (Ok r) s same e =
       noted Cleared old new s e.0 tt (λ name x. absurd (cc (x)))
       (λ told b. ∥∥₁_map (s.holds told (unbroken-before old.notes Cleared b)) (λ h. holds_cleared (files old.store) (files new.store) old.notes old.tip h s.free (same told)))
-  ended old new (Err fault) (Err x) s same e = broke old new s e.0
-  ended old new (Ok u) (Err x) s same e = absurd e
-  ended old new (Err fault) (Ok r) s same e = absurd e
+  ended old new (Err fault) second (Err x) s same e = broke old new s e.0
+  ended old new (Ok u) (Err fault) (Err x) s same e = broke old new s e.0
+  ended old new (Ok u) (Ok v) (Err x) s same e = absurd e
+  ended old new (Err fault) second (Ok r) s same e = absurd e
+  ended old new (Ok u) (Err fault) (Ok r) s same e = absurd e
 
   pub kept_cleared : (old new : Parts S) (result : Result Receipt StepError) → Sound old → Clears tells files count old new result → Sound new
   kept_cleared old new result s (inl untried) = subst (λ (p : Parts S). Sound p) (sym untried.1) s
   kept_cleared old new result s (inr t) =
-      ended old new t.outcome result s (λ told name a b. t.removes.snapshot.elsewhere told name b ∙ t.removes.timestamp.elsewhere told name a) t.ends
+      ended old new t.first t.second result s (λ told name a b. t.removes.snapshot.elsewhere told name b ∙ t.removes.timestamp.elsewhere told name a) t.ends

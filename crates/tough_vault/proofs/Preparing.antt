@@ -17,9 +17,9 @@ use Rattle.tough_vault.specs.Parts.{Carries, Prepares}
 pub checked_more : (a b : Option Reason) (e : StepError) → Checked {A = Unit {0}} a (Err e) → Checked {A = Unit {0}} (or_else a b) (Err e)
 checked_more a b (Refused r) h = ap (λ x. or_else x b) h
 checked_more a b Memory h = tt
-checked_more a b DatastoreOpen h = h
-checked_more a b DatastoreCreate h = h
-checked_more a b DatastoreRemove h = h
+checked_more a b (DatastoreOpen path) h = h
+checked_more a b (DatastoreCreate path) h = h
+checked_more a b (DatastoreRemove path) h = h
 
 pub or_none : (a b : Option Reason) → a ≡ None → b ≡ None → or_else a b ≡ None
 or_none a b p q = ap (λ x. or_else x b) p ∙ q
@@ -31,11 +31,11 @@ module _ {S : Type 0} (tells : Bool) (files : S → Files) (count : S → ℕ) (
   -- a check after the read refused
   pub refused_after : (found : Option (List ℕ)) (e : StepError) → Finds tells (files old) step.file found → step.before ≡ None → Checked {A = Unit {0}} (step.after found) (Err e)
       → (tells ≡ true → SameFiles (files old) (files new)) → Prepares tells files count step old new (Err e)
-  refused_after found (Refused r) f b h s = record { ready = tt; why = inr (b, (found, f, h)); early = λ x. cc; quiet = tt; same = s }
-  refused_after found Memory f b h s = record { ready = tt; why = tt; early = λ x. cc; quiet = tt; same = s }
-  refused_after found DatastoreOpen f b h s = absurd h
-  refused_after found DatastoreCreate f b h s = absurd h
-  refused_after found DatastoreRemove f b h s = absurd h
+  refused_after found (Refused r) f b h s = record { ready = tt; why = inr (b, (found, f, h)); early = λ x. x; quiet = tt; same = s }
+  refused_after found Memory f b h s = record { ready = tt; why = tt; early = λ x. x; quiet = tt; same = s }
+  refused_after found (DatastoreOpen path) f b h s = absurd h
+  refused_after found (DatastoreCreate path) f b h s = absurd h
+  refused_after found (DatastoreRemove path) f b h s = absurd h
 
   -- all checks passed
   pub prepared : (found : Option (List ℕ)) (p : Prepared) → Finds tells (files old) step.file found → step.before ≡ None → step.after found ≡ None

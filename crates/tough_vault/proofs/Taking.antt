@@ -18,7 +18,7 @@ module _ {S : Type 0} (tells : Bool) (files : S → Files) (count : S → ℕ) (
     done = tt;
     stored = tt;
     why = p.why;
-    broken = λ x. absurd (p.early (cc (x)));
+    broken = λ x. absurd (p.early x);
     same = λ n. (refl, refl, p.same);
     elsewhere = λ t name ne. p.same t name;
   }
@@ -44,18 +44,18 @@ module _ {S : Type 0} (tells : Bool) (files : S → Files) (count : S → ℕ) (
         );
         stored = (λ x. cc (x, carries.bytes), λ t. w.stored t ∙ sym carries.bytes);
         why = tt;
-        broken = λ x. absurd (cc);
+        broken = tt;
         same = tt;
         elsewhere = λ t name ne. w.elsewhere t name ne ∙ p.same t name;
       }
-  takes (Ok q) (Err DatastoreCreate) p c =
+  takes (Ok q) (Err (DatastoreCreate path)) p c =
       let w = c.written in
       record {
         done = tt;
         stored = tt;
-        why = ((p.ready.0, p.ready.1), λ x. w.fault (x ∙ sym p.quiet));
-        broken = λ x. let b = w.broken refl in record { notes = b.notes; tip = b.tip };
-        same = λ n. absurd (n refl);
+        why = (w.fault.0, (p.ready.0, p.ready.1), λ x. w.fault.1 (x ∙ sym p.quiet));
+        broken = λ x. let b = w.broken tt in record { notes = b.notes; tip = b.tip };
+        same = λ n. absurd (n tt);
         elsewhere = λ t name ne. w.elsewhere t name ne ∙ p.same t name;
       }
   takes (Ok q) (Err Memory) p c =
@@ -65,10 +65,10 @@ module _ {S : Type 0} (tells : Bool) (files : S → Files) (count : S → ℕ) (
         done = tt;
         stored = tt;
         why = tt;
-        broken = λ x. absurd (cc);
+        broken = λ x. absurd x;
         same = λ n. (s.0, s.1, λ t name. s.2 t name ∙ p.same t name);
         elsewhere = λ t name ne. w.elsewhere t name ne ∙ p.same t name;
       }
   takes (Ok q) (Err (Refused r)) p c = absurd c.written.fault
-  takes (Ok q) (Err DatastoreOpen) p c = absurd c.written.fault
-  takes (Ok q) (Err DatastoreRemove) p c = absurd c.written.fault
+  takes (Ok q) (Err (DatastoreOpen path)) p c = absurd c.written.fault
+  takes (Ok q) (Err (DatastoreRemove path)) p c = absurd c.written.fault

@@ -178,14 +178,11 @@ time_after stored tip now = first_of (later stored now ∷ later tip now ∷ [])
 -- what verification refused, in an error
 abbrev pub refused : Error → Option Refused
 refused (error.RoleNotFound name) = Some MissingRole
-refused (error.TargetNotFound name) = None
-refused error.NoDelegations = None
-refused error.NoTargets = None
 refused (error.MissingRole role) = Some MissingRole
 refused (error.JsonSerialization role) = Some JsonSerialization
 refused (error.DuplicateKeyId keyid) = Some DuplicateKeyId
 refused (error.SignatureThreshold role threshold valid) = Some (SignatureThreshold threshold valid)
-refused error.Memory = None
+refused _ = None
 
 -- a refusal, with the names in it as bytes and the instants in nanoseconds
 abbrev pub reason_of : Refusal → Reason

@@ -1,5 +1,5 @@
 -- What a vault holds, and the parts of a step's work.
-use Rattle.std.specs.Prelude.{◌≡◌, ◌≢◌, ℕ, ℤ, List, length, Option, None, Some, Result, Err, Bool, true, IfOk, IfErr, OnOk, IsErrOf, slice_get}
+use Rattle.std.specs.Prelude.{◌≡◌, ◌≢◌, ℕ, ℤ, List, length, Option, None, Some, Result, Err, Bool, true, IfOk, IfErr, OnOk, IsErrOf, slice_get, string_bytes}
 use Rattle.tough_roles.specs.Signature.{SignedDoc}
 use Rattle.tough_roles.specs.Root.{RootDoc}
 use Rattle.tough_roles.specs.Timestamp.{TimestampDoc}
@@ -10,11 +10,12 @@ use Rattle.tough_vault.specs.declared.entry.Entry.{Entry}
 use Rattle.tough_vault.specs.declared.entry.Tip.{Tip}
 use Rattle.tough_vault.specs.declared.parts.Prepared.{Prepared}
 use Rattle.tough_vault.specs.declared.checks.StepError.{StepError}
-use Rattle.tough_vault.specs.declared.checks.StepError.TheVariants.{DatastoreCreate, Memory}
+use Rattle.tough_vault.specs.declared.checks.StepError.TheVariants.{DatastoreOpen, DatastoreCreate, Memory}
+use Rattle.tough_vault.specs.declared.store.StoreError.{StoreError}
 use Rattle.tough_vault.specs.Files.{time_file, root_file, timestamp_file, snapshot_file, IsFree}
 use Rattle.tough_vault.specs.Documents.{root_text, timestamp_text, snapshot_text}
 use Rattle.tough_vault.specs.Journal.{Pair, Roles, Note, Document, Broken, Last, note_of, notes_of, tip_of, last_root}
-use Rattle.tough_vault.specs.Step.{Step, Parts, IsNoted, IsReceipt, Passes, Why}
+use Rattle.tough_vault.specs.Step.{Step, Parts, IsNoted, IsReceipt, Finds, IsUnwritten, Passes, Why}
 use Rattle.tough_vault.specs.Steps.{time_text, versions_in, roles_in}
 
 abbrev pub parts : {S : Type 0} → S → List Entry → Tip → Parts S
@@ -43,26 +44,32 @@ pub record Carries (note : Note) (text : Option (List ℕ)) (p : Prepared) : Typ
   pub bytes : text ≡ Some p.bytes.items
 
 module _ {S : Type 0} (tells : Bool) (files : S → Files) (count : S → ℕ) where
+  -- A read of this file, as a step tells it: what it finds, or the store's fault with the file's name.
+  abbrev pub IsReadFault : List ℕ → S → S → StepError → Type 0
+  IsReadFault file old new (DatastoreOpen path) = (string_bytes path ≡ file) × (count new ≢ count old)
+  IsReadFault file old new Memory = Unit {0}
+  IsReadFault file old new _ = ⊥
+
   -- The first part of a step: it reads and checks, and writes nothing.
   pub record Prepares (step : Step) (old new : S) (result : Result Prepared StepError) : Type 0 where
     pub ready : IfOk result (λ p. (found : Option (List ℕ)) × Passes tells files count step old found × Carries (step.entry found) step.bytes p)
     pub why : IfErr result (Why tells files count step old new)
-    pub early : IfErr result (λ e. e ≢ DatastoreCreate)
+    pub early : IfErr result (λ e. IsUnwritten e → ⊥)
     pub quiet : OnOk result (count new ≡ count old)
     pub same : tells ≡ true → SameFiles (files old) (files new)
 
-  -- a fault of a write
-  abbrev pub IsFault : S → S → StepError → Type 0
-  IsFault old new Memory = Unit {0}
-  IsFault old new DatastoreCreate = count new ≢ count old
-  IsFault old new _ = ⊥
+  -- a fault of a write of this file
+  abbrev pub IsFault : List ℕ → S → S → StepError → Type 0
+  IsFault file old new Memory = Unit {0}
+  IsFault file old new (DatastoreCreate path) = (string_bytes path ≡ file) × (count new ≢ count old)
+  IsFault file old new _ = ⊥
 
   -- The last part of a step: it writes what was prepared, and notes it.
   pub record Writes (file : List ℕ) (p : Prepared) (old new : Parts S) (result : Result Receipt StepError) : Type 0 where
     pub done : IfOk result (λ r. IsNoted (note_of p.entry) old new × IsReceipt (length old.notes) (note_of p.entry) r)
     pub stored : OnOk result (tells ≡ true → files new.store file ≡ Some p.bytes.items)
-    pub fault : IfErr result (IsFault old.store new.store)
-    pub broken : IsErrOf result DatastoreCreate → IsNoted Broken old new
+    pub fault : IfErr result (IsFault file old.store new.store)
+    pub broken : IfErr result (λ e. IsUnwritten e → IsNoted Broken old new)
     pub same : IsErrOf result Memory → (new.notes ≡ old.notes) × (new.tip ≡ old.tip) × (tells ≡ true → SameFiles (files old.store) (files new.store))
     pub elsewhere : tells ≡ true → SameElsewhere file (files old.store) (files new.store)
 

@@ -1,6 +1,5 @@
 -- What a step is, and what it does to the parts of a vault.
-use Rattle.std.specs.Prelude.{◌≡◌, ◌≢◌, ◌⊎◌, ℕ, List, [], ◌∷◌, ◌++◌, length, Option, None, Some, Result, Ok, Err, Bool, true, IfOk, IfErr, OnOk, IsErrOf}
-use Rattle.std.specs.Result.{result_and}
+use Rattle.std.specs.Prelude.{◌≡◌, ◌≢◌, ◌⊎◌, ℕ, List, [], ◌∷◌, ◌++◌, length, Option, None, Some, Result, Ok, Err, Bool, true, IfOk, IfErr, OnOk, IsErrOf, string_bytes}
 use Rattle.tough_vault.specs.Stored.{Files, SameFiles, SameElsewhere, HasCause}
 use Rattle.tough_vault.specs.declared.store.StoreError.{StoreError}
 use Rattle.tough_vault.specs.declared.store.StoreError.TheVariants as device
@@ -36,10 +35,16 @@ pub record IsReceipt (k : ℕ) (note : Note) (r : Receipt) : Type 0 where
   pub number : number_of r ≡ k
   pub entry : note_of (entry_of r) ≡ note
 
--- the fault of a removal, as a step tells it
-abbrev pub removal_fault : StoreError → StepError
-removal_fault device.Failed = DatastoreRemove
-removal_fault device.Memory = Memory
+-- a step tells the fault of this file's removal
+abbrev pub TellsRemoval : List ℕ → StoreError → StepError → Type 0
+TellsRemoval file device.Failed (DatastoreRemove path) = string_bytes path ≡ file
+TellsRemoval file device.Memory Memory = Unit {0}
+TellsRemoval file _ _ = ⊥
+
+-- the write failed
+abbrev pub IsUnwritten : StepError → Type 0
+IsUnwritten (DatastoreCreate path) = Unit {0}
+IsUnwritten _ = ⊥
 
 -- a read of this file may find this: where the store tells its files, what it holds
 abbrev pub Finds : Bool → Files → List ℕ → Option (List ℕ) → Type 0
@@ -61,9 +66,9 @@ module _ {S : Type 0} (tells : Bool) (files : S → Files) (count : S → ℕ) w
   -- why a step was refused, with the store before and after
   abbrev pub Why : Step → S → S → StepError → Type 0
   Why step old new (Refused c) = IsFirst step old (reason_of c)
-  Why step old new DatastoreOpen = (step.reads ≡ true) × (step.before ≡ None) × (count new ≢ count old)
-  Why step old new DatastoreCreate = ((found : Option (List ℕ)) × Passes step old found) × (count new ≢ count old)
-  Why step old new DatastoreRemove = ⊥
+  Why step old new (DatastoreOpen path) = (string_bytes path ≡ step.file) × (step.reads ≡ true) × (step.before ≡ None) × (count new ≢ count old)
+  Why step old new (DatastoreCreate path) = (string_bytes path ≡ step.file) × ((found : Option (List ℕ)) × Passes step old found) × (count new ≢ count old)
+  Why step old new (DatastoreRemove path) = ⊥
   Why step old new Memory = Unit {0}
 
   -- what a success does, by what the file held
@@ -81,9 +86,9 @@ module _ {S : Type 0} (tells : Bool) (files : S → Files) (count : S → ℕ) w
     -- refusal: the first check that refuses, or a device's fault in its place, or want of memory
     pub why : IfErr result (Why step old.store new.store)
     -- a failed write notes Broken, and the tip stays
-    pub broken : IsErrOf result DatastoreCreate → IsNoted Broken old new
+    pub broken : IfErr result (λ e. IsUnwritten e → IsNoted Broken old new)
     -- any other refusal changes nothing
-    pub same : IfErr result (λ e. e ≢ DatastoreCreate → (new.notes ≡ old.notes) × (new.tip ≡ old.tip) × (tells ≡ true → SameFiles (files old.store) (files new.store)))
+    pub same : IfErr result (λ e. (IsUnwritten e → ⊥) → (new.notes ≡ old.notes) × (new.tip ≡ old.tip) × (tells ≡ true → SameFiles (files old.store) (files new.store)))
     -- no other file changes
     pub elsewhere : tells ≡ true → SameElsewhere step.file (files old.store) (files new.store)
 
@@ -102,20 +107,19 @@ module _ {S : Type 0} (tells : Bool) (files : S → Files) (count : S → ℕ) w
     pub snapshot : Removes snapshot_file between new second
 
   -- How the step ends: where both removals succeeded, Cleared is noted, and the receipt tells it; else Broken is noted,
-  -- and the answer is the fault.
-  abbrev pub EndsRemoval : Result Unit StoreError → Parts S → Parts S → Result Receipt StepError → Type 0
-  EndsRemoval (Ok u) old new (Ok r) = IsNoted Cleared old new × IsReceipt (length old.notes) Cleared r
-  EndsRemoval (Err fault) old new (Err e) = IsNoted Broken old new × (e ≡ removal_fault fault)
-  EndsRemoval _ old new result = ⊥
+  -- and the answer is the fault of the first that failed.
+  abbrev pub EndsRemoval : Result Unit StoreError → Result Unit StoreError → Parts S → Parts S → Result Receipt StepError → Type 0
+  EndsRemoval (Err fault) second old new (Err e) = IsNoted Broken old new × TellsRemoval timestamp_file fault e
+  EndsRemoval (Ok u) (Err fault) old new (Err e) = IsNoted Broken old new × TellsRemoval snapshot_file fault e
+  EndsRemoval (Ok u) (Ok v) old new (Ok r) = IsNoted Cleared old new × IsReceipt (length old.notes) Cleared r
+  EndsRemoval _ _ old new result = ⊥
 
   -- Both removals were tried, and the step ended by the first that failed.
   pub record Tried (old new : Parts S) (result : Result Receipt StepError) : Type 0 where
     pub first : Result Unit StoreError
     pub second : Result Unit StoreError
     pub removes : RemovesBoth old.store new.store first second
-    pub outcome : Result Unit StoreError
-    pub is : outcome ≡ result_and first second
-    pub ends : EndsRemoval outcome old new result
+    pub ends : EndsRemoval first second old new result
 
   -- The contract of `clear_rotated`: both removals are tried; only want of memory before the first changes nothing.
   abbrev pub Clears : Parts S → Parts S → Result Receipt StepError → Type 0

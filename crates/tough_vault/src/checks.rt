@@ -52,9 +52,10 @@ impl From<ExpirationEnforcement> for bool {
 }
 
 /// A check of a step that refused (TUF specification 5.3 to 5.6).
-#[derive(Debug, Drop)]
+#[derive(Debug, Drop, thiserror::Error)]
 pub enum Refusal {
     /// A later time than this moment was noted before.
+    #[error("System time stepped backward: {sys_time} is before {latest_known_time}")]
     SystemTimeSteppedBackward {
         /// This moment.
         sys_time: Instant,
@@ -62,8 +63,10 @@ pub enum Refusal {
         latest_known_time: Instant,
     },
     /// What is to be stored has no JSON text.
+    #[error("Failed to serialize metadata to JSON for the store")]
     DatastoreSerialize,
     /// The document isn't signed as the root demands.
+    #[error("Failed to verify {} metadata: {source}", .role.name())]
     VerifyMetadata {
         /// The document's role.
         role: RoleType,
@@ -71,6 +74,7 @@ pub enum Refusal {
         source: Error,
     },
     /// The document hasn't the version under which it is listed.
+    #[error("{} metadata version mismatch: fetched {fetched}, expected {expected}", .role.name())]
     VersionMismatch {
         /// The document's role.
         role: RoleType,
@@ -80,6 +84,7 @@ pub enum Refusal {
         expected: u64,
     },
     /// A timestamp doesn't list exactly one name.
+    #[error("Timestamp version {version} meta length {meta_length} is not exactly one")]
     TimestampMetaLength {
         /// The timestamp's version.
         version: u64,
@@ -87,16 +92,19 @@ pub enum Refusal {
         meta_length: usize,
     },
     /// A timestamp doesn't list `snapshot.json`.
+    #[error("No snapshot meta in timestamp.json version {version}")]
     MissingSnapshotMeta {
         /// The timestamp's version.
         version: u64,
     },
     /// A snapshot doesn't list `targets.json`.
+    #[error("Snapshot version {version} does not contain targets.json")]
     SnapshotTargetsMetaMissing {
         /// The snapshot's version.
         version: u64,
     },
     /// The document is older than one that was accepted before.
+    #[error("Found version {new_version} of {} metadata when we had previously fetched version {current_version}", .role.name())]
     OlderMetadata {
         /// The document's role.
         role: RoleType,
@@ -106,6 +114,7 @@ pub enum Refusal {
         new_version: u64,
     },
     /// The timestamp names an older snapshot than one that was accepted before.
+    #[error("Snapshot version {snapshot_new} in timestamp {timestamp_new} is less than {snapshot_old} in timestamp {timestamp_old}")]
     OlderSnapshotInTimestamp {
         /// The snapshot's version in the new timestamp.
         snapshot_new: u64,
@@ -117,6 +126,7 @@ pub enum Refusal {
         timestamp_old: u64,
     },
     /// A name that the old snapshot lists is missing from the new one.
+    #[error("Role {role} appears in snapshot version {old_version} but not version {new_version}")]
     SnapshotRoleMissing {
         /// The name.
         role: String,
@@ -126,6 +136,7 @@ pub enum Refusal {
         new_version: u64,
     },
     /// The new snapshot lists a lower version for a name.
+    #[error("Role {role} version {old_role_version} in snapshot {old_snapshot_version} is greater than version {new_role_version} in snapshot {new_snapshot_version}")]
     SnapshotRoleRollback {
         /// The name.
         role: String,
@@ -139,6 +150,7 @@ pub enum Refusal {
         new_snapshot_version: u64,
     },
     /// The document expired before the update began.
+    #[error("{} metadata is expired", .role.name())]
     ExpiredMetadata {
         /// The document's role.
         role: RoleType,
@@ -146,17 +158,31 @@ pub enum Refusal {
 }
 
 /// Why a step was refused.
-#[derive(Debug, Drop)]
+#[derive(Debug, Drop, thiserror::Error)]
 pub enum StepError {
     /// A check refused.
+    #[error("{0}")]
     Refused(Refusal),
-    /// The store couldn't read the file.
-    DatastoreOpen,
-    /// The store couldn't write the file.
-    DatastoreCreate,
-    /// The store couldn't remove the file.
-    DatastoreRemove,
+    /// The store couldn't read a file.
+    #[error("Failed to open {path} in the store")]
+    DatastoreOpen {
+        /// The file's name.
+        path: String,
+    },
+    /// The store couldn't write a file.
+    #[error("Failed to write {path} in the store")]
+    DatastoreCreate {
+        /// The file's name.
+        path: String,
+    },
+    /// The store couldn't remove a file.
+    #[error("Failed to remove {path} from the store")]
+    DatastoreRemove {
+        /// The file's name.
+        path: String,
+    },
     /// A request for memory was refused.
+    #[error("out of memory")]
     Memory,
 }
 

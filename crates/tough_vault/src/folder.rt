@@ -25,6 +25,7 @@ pub struct DirStore<R> {
     rt: R,
     folder: String,
     failures: u64,
+    fault: Option<io::Error>,
 }
 
 impl<R: rt::Files + AllocGlobal + Drop> DirStore<R> {
@@ -38,15 +39,22 @@ impl<R: rt::Files + AllocGlobal + Drop> DirStore<R> {
             rt,
             folder,
             failures: 0,
+            fault: None,
         }
     }
 
-    // Counts a failure.
-    fn fail(&mut self) -> StoreError
+    /// What the operating system said when a call last failed, if one did.
+    pub fn into_fault(self) -> Option<io::Error> {
+        self.fault
+    }
+
+    // Counts a failure, and keeps what was said of it.
+    fn fail(&mut self, error: io::Error) -> StoreError
         ensures result { result ≡ StoreError.Failed }
         ensures count { store_failures self.new ≡ (store_failures self.old + 1) % 2 ^ 64 }
     {
         self.failures = self.failures.wrapping_add(1);
+        self.fault = Some(error);
         StoreError::Failed
     }
 
@@ -128,7 +136,7 @@ impl<R: rt::Files + AllocGlobal + Drop> Store for DirStore<R> {
             Err(e) => match e.kind() {
                 ErrorKind::NotFound => Ok(None),
                 ErrorKind::OutOfMemory => Err(StoreError::Memory),
-                _ => Err(self.fail()),
+                _ => Err(self.fail(e)),
             },
         }
     }
@@ -138,14 +146,14 @@ impl<R: rt::Files + AllocGlobal + Drop> Store for DirStore<R> {
         ensures cause { HasCause (store_failures self.old) (store_failures self.new) result }
     {
         if !is_plain(name) {
-            return Err(self.fail());
+            return Err(self.fail(io::Error::from(ErrorKind::InvalidInput)));
         }
         let (Ok(fresh), Ok(path)) = (self.path_of(TEMPORARY), self.path_of(name)) else {
             return Err(StoreError::Memory);
         };
         match replace(&self.rt, self.folder.as_str(), &fresh, &path, bytes) {
             Ok(()) => Ok(()),
-            Err(_) => Err(self.fail()),
+            Err(e) => Err(self.fail(e)),
         }
     }
 
@@ -161,7 +169,7 @@ impl<R: rt::Files + AllocGlobal + Drop> Store for DirStore<R> {
         };
         match remove(&self.rt, self.folder.as_str(), path.as_str()) {
             Ok(()) => Ok(()),
-            Err(_) => Err(self.fail()),
+            Err(e) => Err(self.fail(e)),
         }
     }
 

@@ -33,6 +33,9 @@ pub(crate) fn conclude<S: Store>(
             let (Ok(receipt), Ok(accepted)) = (entry.copy(alloc), entry.copy(alloc)) else {
                 return Err(StepError::Memory);
             };
+            let Ok(path) = String::from_str(alloc, name) else {
+                return Err(StepError::Memory);
+            };
             if journal.reserve(1).is_err() {
                 return Err(StepError::Memory);
             }
@@ -43,7 +46,7 @@ pub(crate) fn conclude<S: Store>(
                 }
                 Err(StoreError::Failed) => {
                     note(journal, Entry::Broken, Entry::Broken);
-                    Err(StepError::DatastoreCreate)
+                    Err(StepError::DatastoreCreate { path })
                 }
                 Err(StoreError::Memory) => Err(StepError::Memory),
             }

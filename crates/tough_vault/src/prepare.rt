@@ -1,17 +1,18 @@
 //! The first part of each step: it reads and checks, and makes all that the write needs.
 
-ghost use Rattle.std.specs.Prelude.{◌≡◌, IfOk, Some};
+ghost use Rattle.std.specs.Prelude.{◌≡◌, IfOk, IfErr, OnOk, Some, true};
 ghost use Rattle.tough_roles.specs.Signature.{signed_doc};
 ghost use Rattle.tough_roles.specs.Root.{root_doc};
 ghost use Rattle.tough_roles.specs.Timestamp.{timestamp_doc};
-ghost use Rattle.tough_vault.specs.Stored.{content};
+ghost use Rattle.tough_vault.specs.Stored.{content, SameFiles};
+ghost use Rattle.tough_vault.specs.Step.{Finds};
 ghost use Rattle.tough_vault.specs.Journal.{tip_of, time_where};
 ghost use Rattle.tough_vault.specs.Checks.{timestamp_where, enforces};
 ghost use Rattle.tough_vault.specs.Documents.{role_text};
 ghost use Rattle.tough_vault.specs.DocumentName.{name_of};
 ghost use Rattle.tough_vault.specs.Steps.{time_step, root_step, timestamp_step, document_step, stored_timestamp, stored_time, time_text};
 ghost use Rattle.tough_json.specs.Results.{Writes};
-ghost use Rattle.tough_vault.specs.Parts.{Prepares};
+ghost use Rattle.tough_vault.specs.Parts.{Prepares, IsReadFault};
 
 use crate::checks::{
     ExpirationEnforcement, Refusal, StepError, check_time, check_timestamp, check_timestamp_late,
@@ -36,6 +37,27 @@ pub(crate) const ROOT: &str = "root.json";
 pub(crate) const TIMESTAMP: &str = "timestamp.json";
 
 pub(crate) const SNAPSHOT: &str = "snapshot.json";
+
+// A file's bytes, if it is there, or the store's fault as a step tells it.
+pub(crate) fn read_file<S: Store>(
+    alloc: Global,
+    store: &mut S,
+    name: &str,
+) -> Result<Option<Vec<u8>>, StepError>
+    ensures found { IfOk result (λ found. Finds S.tells (S.files store.old) name.now (content found)) }
+    ensures same { S.tells ≡ true → SameFiles (S.files store.old) (S.files store.new) }
+    ensures quiet { OnOk result (S.count store.new ≡ S.count store.old) }
+    ensures fault { IfErr result (IsReadFault S.tells S.files S.count name.now store.old store.new) }
+{
+    match store.read(alloc, name) {
+        Ok(found) => Ok(found),
+        Err(StoreError::Failed) => match String::from_str(alloc, name) {
+            Ok(path) => Err(StepError::DatastoreOpen { path }),
+            Err(_) => Err(StepError::Memory),
+        },
+        Err(StoreError::Memory) => Err(StepError::Memory),
+    }
+}
 
 // The stored timestamp, where the file reads and the root verifies it. The only refusal is want of memory.
 fn read_timestamp<V: Verify>(
@@ -102,10 +124,9 @@ pub(crate) fn prepare_time<S: Store>(
 ) -> Result<Prepared, StepError>
     ensures { Prepares S.tells S.files S.count (time_step (tip_of tip.now) now.nanosecond) store.old store.new result }
 {
-    let found = match store.read(alloc, TIME) {
+    let found = match read_file(alloc, store, TIME) {
         Ok(found) => found,
-        Err(StoreError::Failed) => return Err(StepError::DatastoreOpen),
-        Err(StoreError::Memory) => return Err(StepError::Memory),
+        Err(error) => return Err(error),
     };
     let Ok(stored) = read_time(alloc, &found) else {
         return Err(StepError::Memory);
@@ -157,10 +178,9 @@ pub(crate) fn prepare_timestamp<S: Store, V: Verify>(
     if let Err(error) = check_timestamp(alloc, verifier, root, new) {
         return Err(error);
     }
-    let found = match store.read(alloc, TIMESTAMP) {
+    let found = match read_file(alloc, store, TIMESTAMP) {
         Ok(found) => found,
-        Err(StoreError::Failed) => return Err(StepError::DatastoreOpen),
-        Err(StoreError::Memory) => return Err(StepError::Memory),
+        Err(error) => return Err(error),
     };
     let Ok(old) = read_timestamp(alloc, verifier, root, &found) else {
         return Err(StepError::Memory);

@@ -1,7 +1,7 @@
 //! Forgetting what rotated keys had signed.
 
-ghost use Rattle.std.specs.Prelude.{◌≡◌};
-ghost use Rattle.tough_vault.specs.Step.{RemovesBoth, Clears, removal_fault};
+ghost use Rattle.std.specs.Prelude.{◌≡◌, string_bytes};
+ghost use Rattle.tough_vault.specs.Step.{RemovesBoth, Clears, TellsRemoval};
 ghost use Rattle.tough_vault.specs.Parts.{parts};
 
 use crate::checks::StepError;
@@ -27,28 +27,35 @@ pub(crate) fn clear<S: Store>(
 ) -> Result<Receipt, StepError>
     ensures { Clears S.tells S.files S.count (parts store.old journal.old.items tip.old) (parts store.new journal.new.items tip.new) result }
 {
+    let alloc = *journal.allocator();
+    let (Ok(first), Ok(second)) = (
+        String::from_str(alloc, TIMESTAMP),
+        String::from_str(alloc, SNAPSHOT),
+    ) else {
+        return Err(StepError::Memory);
+    };
     if journal.reserve(1).is_err() {
         return Err(StepError::Memory);
     }
     let (timestamp, snapshot) = remove_both(store);
-    match timestamp.and(snapshot) {
-        Ok(()) => {
-            tip.apply(Entry::Cleared);
-            Ok(note(journal, Entry::Cleared, Entry::Cleared))
-        }
-        Err(fault) => {
-            note(journal, Entry::Broken, Entry::Broken);
-            Err(step_error(fault))
-        }
+    if let Err(fault) = timestamp {
+        note(journal, Entry::Broken, Entry::Broken);
+        return Err(removal_error(fault, first));
     }
+    if let Err(fault) = snapshot {
+        note(journal, Entry::Broken, Entry::Broken);
+        return Err(removal_error(fault, second));
+    }
+    tip.apply(Entry::Cleared);
+    Ok(note(journal, Entry::Cleared, Entry::Cleared))
 }
 
-// The fault of a removal, as the step tells it.
-fn step_error(fault: StoreError) -> StepError
-    ensures { result ≡ removal_fault fault }
+// The fault of a file's removal, as the step tells it.
+fn removal_error(fault: StoreError, path: String) -> StepError
+    ensures { TellsRemoval (string_bytes path) fault result }
 {
     match fault {
-        StoreError::Failed => StepError::DatastoreRemove,
+        StoreError::Failed => StepError::DatastoreRemove { path },
         StoreError::Memory => StepError::Memory,
     }
 }

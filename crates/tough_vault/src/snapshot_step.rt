@@ -14,9 +14,9 @@ use crate::checks::{ExpirationEnforcement, StepError};
 use crate::document::document_bytes;
 use crate::entry::{Entry, Tip};
 use crate::parts::Prepared;
-use crate::prepare::SNAPSHOT;
+use crate::prepare::{SNAPSHOT, read_file};
 use crate::snapshot_checks::{check_snapshot, check_snapshot_late, versions_of};
-use crate::store::{Store, StoreError};
+use crate::store::Store;
 use jiff::Timestamp as Instant;
 use std::alloc::{AllocError, Global};
 use tough_roles::{Error, ReadError, Root, Signed, Snapshot, Verify};
@@ -61,10 +61,9 @@ pub(crate) fn prepare_snapshot<S: Store, V: Verify>(
     if let Err(error) = check_snapshot(alloc, verifier, root, listed, new) {
         return Err(error);
     }
-    let found = match store.read(alloc, SNAPSHOT) {
+    let found = match read_file(alloc, store, SNAPSHOT) {
         Ok(found) => found,
-        Err(StoreError::Failed) => return Err(StepError::DatastoreOpen),
-        Err(StoreError::Memory) => return Err(StepError::Memory),
+        Err(error) => return Err(error),
     };
     let Ok(old) = read_snapshot(alloc, verifier, root, &found) else {
         return Err(StepError::Memory);

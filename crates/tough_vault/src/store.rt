@@ -41,10 +41,12 @@ pub trait Store {
 }
 
 /// Why a store didn't do what it was asked.
-#[derive(Clone, Copy, Debug, PartialEq, Eq, Drop)]
+#[derive(Clone, Copy, Debug, PartialEq, Eq, Drop, thiserror::Error)]
 pub enum StoreError {
     /// The device failed.
+    #[error("the store failed")]
     Failed,
     /// A request for memory was refused.
+    #[error("out of memory")]
     Memory,
 }

@@ -8,8 +8,9 @@ use std::alloc::{AllocError, Global};
 use std::{env, fs, process, str};
 use tough::{
     Cause, FilesystemTransport, HttpError, IntoVec, MemoryTransport, Transport, TransportError,
-    TransportErrorKind, fetch_max_size, fetch_sha256, fetch_whole,
+    TransportErrorKind, fetch_max_size, fetch_sha256,
 };
+use tough_net::fetch_whole;
 use trials_values::case::{number, text};
 use url::Url;
 

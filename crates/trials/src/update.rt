@@ -62,7 +62,10 @@ fn answer(alloc: Global, given: &Value) -> Result<Answer> {
         "bytes" => Answer::Bytes(Vec::from_slice(alloc, said.as_bytes())?),
         "missing" => Answer::NotStarted(fault(alloc, TransportErrorKind::FileNotFound)?),
         "cut" => Answer::Cut(fault(alloc, TransportErrorKind::Other)?),
-        "refused" => Answer::Step(Err(StepError::DatastoreOpen)),
+        "refused" => {
+            let path = String::from_str(alloc, said)?;
+            Answer::Step(Err(StepError::DatastoreOpen { path }))
+        }
         _ => Answer::Step(Ok(())),
     })
 }

@@ -10,7 +10,7 @@ use tough_base::TargetName;
 use tough_json::Form;
 use tough_schema::{
     DelegatedTargets, Delegations, DemoVerify, Error, ReadError, Role, RoleType, Root, Signed,
-    Snapshot, Targets, Timestamp, canonical_form,
+    Snapshot, Targets, Timestamp,
 };
 use trials_values::case::{list, number, text};
 
@@ -103,7 +103,7 @@ fn rewritten(alloc: Global, form: &str, document: &str) -> Result<String> {
     match form {
         "canonical pieces" => in_pieces(alloc, &targets, Form::Canonical),
         "compact pieces" => in_pieces(alloc, &targets, Form::Compact),
-        "canonical" => Ok(String::from_utf8(canonical_form(alloc, &targets)?)?),
+        "canonical" => Ok(String::from_utf8(targets.canonical_form(alloc)?)?),
         _ => Ok(targets.to_value(alloc)?.to_string(alloc)?),
     }
 }

@@ -7,8 +7,8 @@ use Rattle.tough_client.proofs.Trusts.{vouched}
 use Rattle.tough_client.proofs.laws.loads_are_trusted.Goals as goal
 
 pub returns : goal.returns
-returns g c = λ from l d begun h.
+returns g c = λ from l d left kept begun h.
     vouched g.T.Transport.refuses g.T.Transport.serves g.K.Keeper.keeps g.T.Stream.Stream.yields g.met.K.Keeper.checks
     g.V.Verify.verifies (part.base_of l) (part.verifier_of l) (verifier_of from) (part.transport_of l) (transport_of from)
-    (core_doc (part.core_of l)) (first_core (settings_of from)) (part.keeper_of l) (keeper_of from) (part.fetch_of l) (Ok d) h.0 h.1
-    begun.verifier begun.transport begun.core begun.keeper begun.fetch refl h.2
+    (core_doc (part.core_of l)) (first_core (settings_of from)) (part.keeper_of l) (keeper_of from) (part.fetch_of l) (Ok d) left kept
+    begun.verifier begun.transport begun.core begun.keeper begun.fetch refl h

@@ -1,10 +1,10 @@
 use Rattle.tough_roles.proofs.SignedLemmas.{no-parts, no-role}
 use Rattle.tough_roles.proofs.read_signed.signed_of.Goals as goal
 
-pub returns-in-Err : goal.returns-in-Err
-returns-in-Err g c = λ d h. no-parts g.T.Role.is_refused c.in-Err.error d (c.in-Err.ensures d h)
+pub returns-in-Err-clause-read : goal.returns-in-Err-clause-read
+returns-in-Err-clause-read g c = λ d h. no-parts g.T.Role.is_refused c.in-Err.error d (c.in-Err.ensures d h)
 
-pub returns-in-Err-from_borrowed : goal.returns-in-Err-from_borrowed
-returns-in-Err-from_borrowed g c = λ d h.
+pub returns-in-Err-from_borrowed-clause-read : goal.returns-in-Err-from_borrowed-clause-read
+returns-in-Err-from_borrowed-clause-read g c = λ d h.
     let parts = c.in-Ok.ensures d h in
     no-role g.T.Role.is_refused c.in-Err-from_borrowed.error d parts.0 _ parts.2 (c.in-Err-from_borrowed.ensures.read parts.0 parts.1)

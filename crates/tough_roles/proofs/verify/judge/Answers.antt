@@ -4,7 +4,7 @@ use Rattle.std.proofs.lemmas.Bool.{le-leb, lt-leb}
 use Rattle.tough_roles.specs.Signature.{signature_doc, signatures_doc}
 use Rattle.tough_roles.specs.Root.{keys_doc, role_keys_doc}
 use Rattle.tough_roles.specs.Policy.{policy_of}
-use Rattle.tough_roles.specs.Verdict.{SignatureThreshold, counted, some_twice}
+use Rattle.tough_roles.specs.Verdict.{SignatureThreshold, StandsAgain, counted, some_twice}
 use Rattle.tough_roles.specs.Counting.{bytes_of, is_valid}
 use Rattle.tough_roles.proofs.Counts.{count_by-map}
 use Rattle.tough_roles.proofs.Seen.{never}
@@ -14,7 +14,7 @@ use Rattle.tough_roles.proofs.verify.judge.Goals as goal
 pub returns-in-Some-clause-verdict : goal.returns-in-Some-clause-verdict
 returns-in-Some-clause-verdict g c =
     verdict-twice (g.V.Verify.verifies c.args.verifier.now) (policy_of (keys_doc c.args.known.now.entries) (role_keys_doc c.args.keys.now)) c.args.text.now (signatures_doc c.args.signatures.now)
-    (subst (λ o. MatchOption o (some_twice (signatures_doc c.args.signatures.now) ≡ false) (λ i. (i < length c.args.signatures.now) × (some_twice (signatures_doc c.args.signatures.now) ≡ true))) c.in-Some.is c.in_ok-twice.ensures).1
+    (subst (λ o. MatchOption o (some_twice (signatures_doc c.args.signatures.now) ≡ false) (λ i. (i < length c.args.signatures.now) × StandsAgain (signatures_doc c.args.signatures.now) i × (some_twice (signatures_doc c.args.signatures.now) ≡ true))) c.in-Some.is c.in_ok-twice.ensures).2
 
 pub returns-then-valid-threshold-clause-verdict : goal.returns-then-valid-threshold-clause-verdict
 returns-then-valid-threshold-clause-verdict g c =

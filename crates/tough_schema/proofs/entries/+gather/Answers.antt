@@ -1,11 +1,20 @@
-use Rattle.std.proofs.Common.{◌++◌, List, sym, ap, ◌∙◌}
+use Rattle.std.proofs.Common.{◌++◌, List, drop, ◌+◌, sym, ap, ◌∙◌, append_assoc}
 use Rattle.tough_schema.specs.declared.delegations.DelegatedRole.{DelegatedRole}
-use Rattle.tough_schema.specs.View.{view_roles}
-use Rattle.tough_schema.specs.Gather.{below, shown}
-use Rattle.tough_schema.proofs.Gathers.{below_in-inner}
+use Rattle.tough_schema.specs.Whole.{role_tree, role_branches}
+use Rattle.tough_schema.specs.Gather.{roles_in, gathered, shown}
+use Rattle.tough_schema.proofs.Gathers.{entries-inner, roles-next}
 use Rattle.tough_schema.proofs.entries.+gather.Goals as goal
 
 pub add_below-returns-in_ok-add_roles : goal.add_below-returns-in_ok-add_roles
 add_below-returns-in_ok-add_roles t c =
     let before = shown c.args.found.now.items in
-    c.in_ok-add_roles.ensures ∙ ap (λ (rs : List DelegatedRole). before ++ below (view_roles rs)) c.deref.ensures.value ∙ ap (λ l. before ++ l) (sym (below_in-inner c.args.document.now c.in-Some.delegations c.in-Some.is))
+    c.in_ok-add_roles.ensures ∙ ap (λ (rs : List DelegatedRole). before ++ roles_in (role_branches rs)) c.deref.ensures.value ∙ ap (λ l. before ++ l) (sym (entries-inner c.args.document.now c.in-Some.delegations c.in-Some.is))
+
+pub add_roles-loop-role-preserved : goal.add_roles-loop-role-preserved
+add_roles-loop-role-preserved t c =
+    let rs = c.args.roles.now in
+    let i = c.loop-role.role-index in
+    let before = shown c.loop-role.found.items in
+    let rest = roles_in (role_branches (drop (i + 1) rs)) in
+    ap (λ l. l ++ rest) c.in_ok-add_role.ensures ∙ append_assoc before (gathered (role_tree c.role-item.result)) rest
+    ∙ ap (λ l. before ++ l) (sym (roles-next rs i c.role-item.result c.loop-role-test.true c.role-item.is)) ∙ c.loop-role.invariant

@@ -4,7 +4,7 @@ use Rattle.std.specs.BTreeSet.{contains_text}
 use Rattle.tough_schema.specs.declared.delegations.DelegatedRole.{out-DelegatedRole}
 use Rattle.tough_schema.specs.Target.{target_doc}
 use Rattle.tough_schema.specs.Search.{matches}
-use Rattle.tough_schema.specs.View.{view_role}
+use Rattle.tough_schema.specs.Whole.{role_tree}
 use Rattle.tough_schema.specs.declared.targets.Targets.{out-Targets}
 use Rattle.tough_schema.proofs.Walks.{listed-get, walk-listed, walk-leaf, walk-inner, walk-done, walk-on, walk-visit}
 use Rattle.tough_schema.specs.Walk.{names_in, answer_of}
@@ -33,7 +33,7 @@ find_among-loop-role-preserved t c =
 
 pub find_at-returns : goal.find_at-returns
 find_at-returns t c =
-    let fits : matches c.args.name.now (view_role c.args.role.now).0 ≡ true = search rules in
+    let fits : matches c.args.name.now (role_tree c.args.role.now).0 ≡ true = search rules in
     let absent : contains_text c.args.visited.now (string_bytes (out-DelegatedRole c.args.role.now).name) ≡ false = search rules in
     let same : string_bytes c.in_ok-clone.field-0 ≡ string_bytes (out-DelegatedRole c.args.role.now).name = search rules in
     rw (walk-visit c.args.permissive c.args.name.now c.args.visited.now c.insert.new.self c.args.role.now c.in_ok-clone.field-0 fits absent same c.in_ok-insert.ensures.updates) c.find_below.ensures

@@ -1,14 +1,14 @@
 use Rattle.std.proofs.Common.{List, ap, subst, sym, ◌∙◌}
 use Rattle.tough_schema.specs.declared.delegations.DelegatedRole.{DelegatedRole}
-use Rattle.tough_schema.specs.View.{view_roles}
-use Rattle.tough_schema.specs.Seek.{seek}
-use Rattle.tough_schema.specs.Seeking.{role_of, IsPlace}
+use Rattle.tough_schema.specs.Whole.{role_branches}
+use Rattle.tough_schema.specs.Seek.{seek, role_of}
+use Rattle.tough_schema.specs.Seeking.{IsPlace}
 use Rattle.tough_schema.proofs.Seeks.{role-inner}
 use Rattle.tough_schema.proofs.lend.+lend.Goals as goal
 
 pub lend_in-returns-in_default-place_of : goal.lend_in-returns-in_default-place_of
 lend_in-returns-in_default-place_of t c =
-    sym (c.in_default-place_of.ensures.none) ∙ ap (λ (rs : List DelegatedRole). role_of (seek c.args.name.now (view_roles rs))) c.deref.ensures.value
+    sym (c.in_default-place_of.ensures.none) ∙ ap (λ (rs : List DelegatedRole). role_of (seek c.args.name.now (role_branches rs))) c.deref.ensures.value
     ∙ role-inner c.args.name.now c.args.document.now c.in-Some.delegations c.in-Some.is
 
 pub lend_in-returns-in-Some-get_mut : goal.lend_in-returns-in-Some-get_mut

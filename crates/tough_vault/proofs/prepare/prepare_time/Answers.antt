@@ -8,10 +8,10 @@ use Rattle.tough_vault.specs.Steps.{needs, stored_time}
 use Rattle.tough_vault.proofs.Preparing.{prepared, refused_after, checked_more, checked_at, or_none, or_second}
 use Rattle.tough_vault.proofs.prepare.prepare_time.Goals as goal
 
-pub returns-in-Err : goal.returns-in-Err
-returns-in-Err g c = refused_after _ _ _ _ _ _ (content c.in-Ok.found) _ c.in-Ok.ensures.found refl
+pub returns-in-Err-check_time : goal.returns-in-Err-check_time
+returns-in-Err-check_time g c = refused_after _ _ _ _ _ _ (content c.in-Ok.found) _ c.in-Ok.ensures.found refl
     (checked_more (time_after (stored_time (content c.in-Ok.found)) (time_where c.args.tip.now.time) c.args.now.nanosecond) _ _
-    (checked_at (λ o. time_after o (time_where c.args.tip.now.time) c.args.now.nanosecond) _ _ _ c.in-Ok-read_time.ensures c.in-Err.ensures)) c.in-Ok.ensures.same
+    (checked_at (λ o. time_after o (time_where c.args.tip.now.time) c.args.now.nanosecond) _ _ _ c.in-Ok-read_time.ensures c.in-Err-check_time.ensures)) c.in-Ok.ensures.same
 
 pub returns-in-Err-Unwritable : goal.returns-in-Err-Unwritable
 returns-in-Err-Unwritable g c = refused_after _ _ _ _ _ _ (content c.in-Ok.found) (Refused DatastoreSerialize) c.in-Ok.ensures.found refl
@@ -24,4 +24,4 @@ returns g c = prepared _ _ _ _ _ _ (content c.in-Ok.found) _ c.in-Ok.ensures.fou
     (or_none (time_after (stored_time (content c.in-Ok.found)) (time_where c.args.tip.now.time) c.args.now.nanosecond) _
     (ap (λ o. time_after o (time_where c.args.tip.now.time) c.args.now.nanosecond) (sym c.in-Ok-read_time.ensures) ∙ c.in_default-check_time.ensures)
     (ap (λ x. first_of (needs x ∷ [])) c.in-Ok-time_bytes.ensures))
-    (record { entry = refl; bytes = c.in-Ok-time_bytes.ensures }) (c.in-Ok.ensures.cause.quiet (λ x. cc)) c.in-Ok.ensures.same
+    (record { entry = refl; bytes = c.in-Ok-time_bytes.ensures }) (c.in-Ok.ensures.quiet) c.in-Ok.ensures.same

@@ -19,4 +19,4 @@ returns g c =
     (record {
       entry = same_pair _ _ _ _ _ _ c.get.ensures.value c.snapshot_version.ensures had;
       bytes = c.in-Ok-document_bytes.ensures;
-    }) (c.in-Ok.ensures.cause.quiet (λ x. cc)) c.in-Ok.ensures.same
+    }) (c.in-Ok.ensures.quiet) c.in-Ok.ensures.same

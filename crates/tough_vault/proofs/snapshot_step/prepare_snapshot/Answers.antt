@@ -20,4 +20,4 @@ returns g c =
       entry = ap (λ x. Snapshot x c.is_some.result) c.in-Ok-versions_of.ensures ∙ ap (Snapshot (roles_in (snapshot_doc c.args.new.now.signed))) (had_snapshot _ _ _ c.is_some.ensures old);
       bytes = c.in-Ok-document_bytes.ensures;
     })
-    (c.in-Ok.ensures.cause.quiet (λ x. cc)) c.in-Ok.ensures.same
+    (c.in-Ok.ensures.quiet) c.in-Ok.ensures.same

@@ -1,7 +1,7 @@
 use Rattle.std.proofs.Common.{sym, ap, ◌∙◌}
 use Rattle.tough_schema.specs.Search.{matches}
-use Rattle.tough_schema.proofs.Views.{view_role-out}
+use Rattle.tough_schema.proofs.Wholes.{role-out}
 use Rattle.tough_schema.proofs.delegations.DelegatedRole.matches.Goals as goal
 
 pub returns : goal.returns
-returns c = c.matches.ensures ∙ ap (λ r. matches c.args.name.now r.0) (sym (view_role-out c.args.self.now))
+returns c = c.matches.ensures ∙ ap (λ r. matches c.args.name.now r.0) (sym (role-out c.args.self.now))

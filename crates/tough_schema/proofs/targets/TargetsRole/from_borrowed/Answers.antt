@@ -4,7 +4,7 @@ use Rattle.tough_schema.proofs.TargetsLemmas.{targets-kept}
 use Rattle.tough_schema.proofs.targets.TargetsRole.from_borrowed.Goals as goal
 
 pub returns-in-Ok-clause-kept : goal.returns-in-Ok-clause-kept
-returns-in-Ok-clause-kept c = λ d h. targets-kept d (targets_doc c.in-Ok.targets) (c.in-Ok.ensures d h)
+returns-in-Ok-clause-kept c = λ d h. targets-kept d (targets_doc c.in-Ok.targets) (c.in-Ok.ensures.read d h)
 
 pub returns-in-Err-clause-read : goal.returns-in-Err-clause-read
-returns-in-Err-clause-read c = λ d h. refused-value c.in-Err.error d (c.in-Err.ensures d h)
+returns-in-Err-clause-read c = λ d h. refused-value c.in-Err.error d (c.in-Err.ensures.read d h)

@@ -1,0 +1,16 @@
+-- The errors of values, carried into that of documents.
+use Rattle.tough_base.specs.declared.decoded.DecodeError.{DecodeError}
+use Rattle.tough_base.specs.declared.decoded.DecodeError.TheVariants as decoding
+use Rattle.tough_names.specs.declared.pattern.reading.PatternError.{PatternError}
+use Rattle.tough_names.specs.declared.pattern.reading.PatternError.TheVariants as pattern
+use Rattle.tough_roles.specs.declared.error.Error.{Error}
+use Rattle.tough_roles.specs.declared.error.Error.TheVariants as errors
+
+abbrev pub decode_error : DecodeError → Error
+decode_error decoding.HexDecode = errors.HexDecode
+decode_error decoding.PemDecode = errors.PemDecode
+decode_error decoding.Memory = errors.Memory
+
+abbrev pub pattern_error : PatternError → Error
+pattern_error pattern.Glob = errors.Glob
+pattern_error pattern.Memory = errors.Memory

@@ -1,0 +1,282 @@
+-- How many files are asked for.
+use Rattle.std.specs.Prelude.{◌≡◌, ◌≤◌, ◌<◌, ◌⊎◌, ℕ, zero, suc, ℤ, ◌+◌, ◌-◌, ◌^◌, ◌==◌, List, [], ◌∷◌, ◌++◌, length, Option, Some, None, Bool, true, false, IsTrue, ⊤, Result, Ok, Err, nat_lt, not, if◌then◌else◌}
+use Rattle.std.proofs.Common.{refl, sym, ◌∙◌, ap, subst, inl, inr, arith}
+use Rattle.std.proofs.lemmas.Bool.{ltb-true}
+use Rattle.std.proofs.lemmas.List.{append-nil, append_assoc, length-append}
+use Rattle.tough_keys.specs.Same.{Verifies}
+use Rattle.tough_roles.specs.Signature.{SignedDoc}
+use Rattle.tough_roles.specs.Root.{RootDoc}
+use Rattle.tough_roles.specs.Timestamp.{TimestampDoc, MetafileDoc}
+use Rattle.tough_roles.specs.declared.role_type.RoleType.TheVariants as role
+use Rattle.tough_vault.specs.Checks.{ExpiredMetadata, is_expired}
+use Rattle.tough_vault.specs.Documents.{timestamp_in, snapshot_in, metafile_in}
+use Rattle.tough_vault.specs.Files.{snapshot_file, targets_file}
+use Rattle.tough_update.specs.declared.limits.Limits.{Limits}
+use Rattle.tough_update.specs.Failure.{Failure, ParseMetadata, MaxUpdatesExceeded, Checked}
+use Rattle.tough_update.specs.Walk.{if_read, root_in, first_root, next_root}
+use Rattle.tough_update.specs.Requests.{RequestDoc, root_request, timestamp_request}
+use Rattle.tough_update.specs.Rotation.{is_rotated}
+use Rattle.tough_update.specs.Listed.{bare_targets}
+use Rattle.tough_update.specs.Stages.{WalkDoc, BaseDoc, KnownDoc, WantedDoc, PendingDoc, StageDoc, CoreDoc}
+use Rattle.tough_update.specs.Stages as at
+use Rattle.tough_update.specs.Questions as ask
+use Rattle.tough_update.specs.Answered.{AnswerDoc}
+use Rattle.tough_update.specs.Answered as got
+use Rattle.tough_update.specs.Machine.{question, answered, walked, base_of, walk_ended, want_snapshot, known_of, want_targets, targets_checked, accepted_targets, read_wanted, after, settled, stage_after}
+use Rattle.tough_update.specs.Runs.{run, EndsWalk, IsFresh}
+use Rattle.tough_update.specs.Asking.{fetched, requests, roots_after, first_version, AsksFew}
+use Rattle.tough_update.proofs.Turning.{Fine, unless-fine, if-fine, and_then-fine, waits, keeps-answer}
+use Rattle.tough_update.proofs.Sound.{next-fine}
+use Rattle.tough_update.proofs.Prefixes.{in_stage, whole}
+use Rattle.tough_update.proofs.History.{first-read}
+
+-- ---- lists of requests
+
+requests-last : (v : Verifies) (h : List AnswerDoc) (c : CoreDoc) (a : AnswerDoc) → requests v c (h ++ a ∷ []) ≡ requests v c h ++ fetched (question (run v c h)) a
+requests-last v [] c a = append-nil (fetched (question c) a)
+requests-last v (x ∷ h) c a =
+    ap (λ t. fetched (question c) x ++ t) (requests-last v h (answered v c x) a)
+    ∙ sym (append_assoc (fetched (question c) x) (requests v (answered v c x) h) (fetched (question (run v (answered v c x) h)) a))
+
+-- one root more
+roots-last : (l : Limits) (version n : ℕ) → roots_after l version (suc n) ≡ roots_after l version n ++ root_request l (version + n + 1) ∷ []
+roots-last l version zero = let e : version + 1 ≡ version + 0 + 1 = omega arith in ap (λ m. root_request l m ∷ []) e
+roots-last l version (suc n) =
+    let e : version + 1 + n + 1 ≡ version + suc n + 1 = omega arith in
+    ap (λ t. root_request l (version + 1) ∷ t) (roots-last l (version + 1) n ∙ ap (λ m. roots_after l (version + 1) n ++ root_request l m ∷ []) e)
+
+fetched-one : (r : RequestDoc) (a : AnswerDoc) → (fetched (ask.Fetch r) a ≡ []) ⊎ (fetched (ask.Fetch r) a ≡ r ∷ [])
+fetched-one r (got.Bytes bytes) = inr refl
+fetched-one r (got.NotStarted f) = inr refl
+fetched-one r (got.Cut f) = inr refl
+fetched-one r (got.Moment now) = inl refl
+fetched-one r (got.Step s) = inl refl
+
+unwaited : (w : WantedDoc) (r : RequestDoc) (a : AnswerDoc) → waits (at.Fetch w r) a ≡ false → fetched (ask.Fetch r) a ≡ []
+unwaited w r (got.Bytes bytes) e = cc
+unwaited w r (got.NotStarted f) e = cc
+unwaited w r (got.Cut f) e = cc
+unwaited w r (got.Moment now) e = refl
+unwaited w r (got.Step s) e = refl
+
+below : (first n last max : ℕ) → last ≡ first + n → IsTrue (nat_lt (last - first) max) → n < max
+below first n last max e h = let k : last - first < max = ltb-true _ _ h in omega (arith, e, k)
+
+module _ (v : Verifies) (c : CoreDoc) where
+  -- the version of the root that was handed in
+  abbrev start : ℕ
+  start = first_version (root_in c.setting.trusted)
+
+  -- at most as many roots as the limit allows, and then at most so many others
+  abbrev Few : List AnswerDoc → ℕ → Type 0
+  Few h k = (n : ℕ) × (n ≤ c.setting.limits.max_root_updates) × (others : List RequestDoc) × (requests v c h ≡ roots_after c.setting.limits start n ++ others) × (length others ≤ k)
+
+  -- the walk has gone over n roots
+  abbrev Over : List AnswerDoc → WalkDoc → ℕ → Type 0
+  Over h w n = (w.first.role.head.version ≡ start) × (w.last.role.head.version ≡ w.first.role.head.version + n) × (requests v c h ≡ roots_after c.setting.limits start n)
+
+  abbrev Counts : List AnswerDoc → StageDoc → Type 0
+  Counts h at.Moment = requests v c h ≡ []
+  Counts h (at.Step (at.NoteTime now)) = requests v c h ≡ []
+  Counts h (at.Fetch (at.Root w) r) = (n : ℕ) × Over h w n × (n < c.setting.limits.max_root_updates) × (r ≡ root_request c.setting.limits (w.last.role.head.version + 1))
+  Counts h (at.Step (at.PutRoot w)) = (n : ℕ) × Over h w n × (n ≤ c.setting.limits.max_root_updates)
+  Counts h (at.Step (at.PutLast w)) = Few h 0
+  Counts h (at.Step (at.Clear b)) = Few h 0
+  Counts h (at.Fetch (at.Timestamp b) r) = Few h 0
+  Counts h (at.Step (at.PutTimestamp b t)) = Few h 1
+  Counts h (at.Fetch (at.Snapshot b t m) r) = Few h 1
+  Counts h (at.Step (at.PutSnapshot k m)) = Few h 2
+  Counts h (at.Fetch (at.Targets k m) r) = Few h 2
+  Counts h (at.Step (at.PutTargets k d)) = Few h 3
+  Counts h (at.Done r) = Few h 3
+  Counts h at.Taken = Few h 3
+
+  few-up : (h : List AnswerDoc) (j k : ℕ) → j ≤ k → Few h j → Few h k
+  few-up h j k le f = let up : length f.2 ≤ k = omega (arith, le, f.4) in (f.0, f.1, f.2, f.3, up)
+
+  few-none : (h : List AnswerDoc) → requests v c h ≡ [] → Few h 0
+  few-none h e = (0, omega arith, [], e, omega arith)
+
+  few-roots : (h : List AnswerDoc) (n : ℕ) → n ≤ c.setting.limits.max_root_updates → requests v c h ≡ roots_after c.setting.limits start n → Few h 0
+  few-roots h n le e = (n, le, [], e ∙ sym (append-nil (roots_after c.setting.limits start n)), omega arith)
+
+  module _ (h : List AnswerDoc) (a : AnswerDoc) where
+    abbrev next : List AnswerDoc
+    next = h ++ a ∷ []
+
+    asked : (st : StageDoc) → run v c h ≡ in_stage c st → requests v c next ≡ requests v c h ++ fetched (question (in_stage c st)) a
+    asked st stands = requests-last v h c a ∙ ap (λ d. requests v c h ++ fetched (question d) a) stands
+
+    -- nothing was fetched
+    asked-none : (st : StageDoc) → run v c h ≡ in_stage c st → fetched (question (in_stage c st)) a ≡ [] → requests v c next ≡ requests v c h
+    asked-none st stands e = asked st stands ∙ (ap (λ t. requests v c h ++ t) e ∙ append-nil (requests v c h))
+
+    asked-one : (st : StageDoc) (r : RequestDoc) → run v c h ≡ in_stage c st → fetched (question (in_stage c st)) a ≡ r ∷ [] → requests v c next ≡ requests v c h ++ r ∷ []
+    asked-one st r stands e = asked st stands ∙ ap (λ t. requests v c h ++ t) e
+
+    few-same : (k : ℕ) → requests v c next ≡ requests v c h → Few h k → Few next k
+    few-same k e f = (f.0, f.1, f.2, e ∙ f.3, f.4)
+
+    few-more : (k : ℕ) (r : RequestDoc) → requests v c next ≡ requests v c h ++ r ∷ [] → Few h k → Few next (k + 1)
+    few-more k r e f =
+        let size : length (f.2 ++ r ∷ []) ≤ k + 1 = omega (arith, f.4, length-append f.2 (r ∷ [])) in
+        (f.0, f.1, f.2 ++ r ∷ [], e ∙ (ap (λ t. t ++ r ∷ []) f.3 ∙ append_assoc (roots_after c.setting.limits start f.0) f.2 (r ∷ [])), size)
+
+    over-same : (w : WalkDoc) (n : ℕ) → requests v c next ≡ requests v c h → Over h w n → Over next w n
+    over-same w n e o = (o.0, o.1, e ∙ o.2)
+
+    -- one root more was asked for
+    over-more : (w : WalkDoc) (n : ℕ) (r : RequestDoc) → requests v c next ≡ requests v c h ++ r ∷ [] → Over h w n → r ≡ root_request c.setting.limits (w.last.role.head.version + 1)
+        → requests v c next ≡ roots_after c.setting.limits start (suc n)
+    over-more w n r e o is =
+        let last : w.last.role.head.version ≡ start + n = o.1 ∙ ap (λ m. m + n) o.0 in
+        e ∙ (ap (λ t. t ++ r ∷ []) o.2
+        ∙ (ap (λ q. roots_after c.setting.limits start n ++ q ∷ []) (is ∙ ap (λ m. root_request c.setting.limits (m + 1)) last)
+        ∙ sym (roots-last c.setting.limits start n)))
+
+    -- at a fetch that isn't a root's
+    few-fetched : (k : ℕ) (w : WantedDoc) (r : RequestDoc) → run v c h ≡ in_stage c (at.Fetch w r) → Few h k → (fetched (ask.Fetch r) a ≡ []) ⊎ (fetched (ask.Fetch r) a ≡ r ∷ []) → Few next (k + 1)
+    few-fetched k w r stands f (inl e) = few-up next k (k + 1) (omega arith) (few-same k (asked-none (at.Fetch w r) stands e) f)
+    few-fetched k w r stands f (inr e) = few-more k r (asked-one (at.Fetch w r) r stands e) f
+
+    -- at a root's fetch
+    few-walked : (w : WalkDoc) (r : RequestDoc) (n : ℕ) → run v c h ≡ in_stage c (at.Fetch (at.Root w) r) → Over h w n → n < c.setting.limits.max_root_updates → r ≡ root_request c.setting.limits (w.last.role.head.version + 1)
+        → (fetched (ask.Fetch r) a ≡ []) ⊎ (fetched (ask.Fetch r) a ≡ r ∷ []) → Few next 0
+    few-walked w r n stands o lt is (inl e) =
+        let le : n ≤ c.setting.limits.max_root_updates = omega (arith, lt) in
+        few-roots next n le (asked-none (at.Fetch (at.Root w) r) stands e ∙ o.2)
+    few-walked w r n stands o lt is (inr e) =
+        let le : suc n ≤ c.setting.limits.max_root_updates = omega (arith, lt) in
+        few-roots next (suc n) le (over-more w n r (asked-one (at.Fetch (at.Root w) r) r stands e) o is)
+
+    -- whatever comes, few files were asked for
+    few-next : (st : StageDoc) → run v c h ≡ in_stage c st → Counts h st → Few next 3
+    few-next at.Moment stands t = few-up next 0 3 (omega arith) (few-none next (asked-none at.Moment stands refl ∙ t))
+    few-next (at.Step (at.NoteTime now)) stands t = few-up next 0 3 (omega arith) (few-none next (asked-none (at.Step (at.NoteTime now)) stands refl ∙ t))
+    few-next (at.Fetch (at.Root w) r) stands t = few-up next 0 3 (omega arith) (few-walked w r t.0 stands t.1 t.2 t.3 (fetched-one r a))
+    few-next (at.Fetch (at.Timestamp b) r) stands t = few-up next 1 3 (omega arith) (few-fetched 0 (at.Timestamp b) r stands t (fetched-one r a))
+    few-next (at.Fetch (at.Snapshot b s m) r) stands t = few-up next 2 3 (omega arith) (few-fetched 1 (at.Snapshot b s m) r stands t (fetched-one r a))
+    few-next (at.Fetch (at.Targets k m) r) stands t = few-fetched 2 (at.Targets k m) r stands t (fetched-one r a)
+    few-next (at.Step (at.PutRoot w)) stands t = few-up next 0 3 (omega arith) (few-same 0 (asked-none (at.Step (at.PutRoot w)) stands refl) (few-roots h t.0 t.2 t.1.2))
+    few-next (at.Step (at.PutLast w)) stands t = few-up next 0 3 (omega arith) (few-same 0 (asked-none (at.Step (at.PutLast w)) stands refl) t)
+    few-next (at.Step (at.Clear b)) stands t = few-up next 0 3 (omega arith) (few-same 0 (asked-none (at.Step (at.Clear b)) stands refl) t)
+    few-next (at.Step (at.PutTimestamp b s)) stands t = few-up next 1 3 (omega arith) (few-same 1 (asked-none (at.Step (at.PutTimestamp b s)) stands refl) t)
+    few-next (at.Step (at.PutSnapshot k m)) stands t = few-up next 2 3 (omega arith) (few-same 2 (asked-none (at.Step (at.PutSnapshot k m)) stands refl) t)
+    few-next (at.Step (at.PutTargets k d)) stands t = few-same 3 (asked-none (at.Step (at.PutTargets k d)) stands refl) t
+    few-next (at.Done r) stands t = few-same 3 (asked-none (at.Done r) stands refl) t
+    few-next at.Taken stands t = few-same 3 (asked-none at.Taken stands refl) t
+
+    -- ---- an answer, where few files were asked for whatever comes
+
+    module _ (enough : Few next 3) where
+      bad : (f : Failure) → Counts next (at.Done (Err f))
+      bad f = enough
+
+      abbrev Goes : Result StageDoc Failure → Type 0
+      Goes = Fine (Counts next) bad
+
+      abbrev Heard : StageDoc → AnswerDoc → Type 0
+      Heard st x = (x ≡ a) × (run v c h ≡ in_stage c st)
+
+      -- an answer that isn't waited for
+      same-fetch : (w : WantedDoc) (r : RequestDoc) (x : AnswerDoc) → waits (at.Fetch w r) x ≡ false → Heard (at.Fetch w r) x → requests v c next ≡ requests v c h
+      same-fetch w r x e l = asked-none (at.Fetch w r) l.1 (ap (fetched (ask.Fetch r)) (sym l.0) ∙ unwaited w r x e)
+
+      same-counts : (st : StageDoc) (x : AnswerDoc) → waits st x ≡ false → Counts h st → Heard st x → Counts next st
+      same-counts at.Moment x e t l = asked-none at.Moment l.1 refl ∙ t
+      same-counts (at.Step (at.NoteTime now)) x e t l = asked-none (at.Step (at.NoteTime now)) l.1 refl ∙ t
+      same-counts (at.Fetch (at.Root w) r) x e t l = (t.0, over-same w t.0 (same-fetch (at.Root w) r x e l) t.1, t.2, t.3)
+      same-counts (at.Fetch (at.Timestamp b) r) x e t l = few-same 0 (same-fetch (at.Timestamp b) r x e l) t
+      same-counts (at.Fetch (at.Snapshot b s m) r) x e t l = few-same 1 (same-fetch (at.Snapshot b s m) r x e l) t
+      same-counts (at.Fetch (at.Targets k m) r) x e t l = few-same 2 (same-fetch (at.Targets k m) r x e l) t
+      same-counts (at.Step (at.PutRoot w)) x e t l = (t.0, over-same w t.0 (asked-none (at.Step (at.PutRoot w)) l.1 refl) t.1, t.2)
+      same-counts (at.Step (at.PutLast w)) x e t l = few-same 0 (asked-none (at.Step (at.PutLast w)) l.1 refl) t
+      same-counts (at.Step (at.Clear b)) x e t l = few-same 0 (asked-none (at.Step (at.Clear b)) l.1 refl) t
+      same-counts (at.Step (at.PutTimestamp b s)) x e t l = few-same 1 (asked-none (at.Step (at.PutTimestamp b s)) l.1 refl) t
+      same-counts (at.Step (at.PutSnapshot k m)) x e t l = few-same 2 (asked-none (at.Step (at.PutSnapshot k m)) l.1 refl) t
+      same-counts (at.Step (at.PutTargets k d)) x e t l = few-same 3 (asked-none (at.Step (at.PutTargets k d)) l.1 refl) t
+      same-counts (at.Done r) x e t l = few-same 3 (asked-none (at.Done r) l.1 refl) t
+      same-counts at.Taken x e t l = few-same 3 (asked-none at.Taken l.1 refl) t
+
+      walked-counts : (w : WalkDoc) (n : ℕ) → Over next w n → n ≤ c.setting.limits.max_root_updates → Goes (walked c.setting.limits w)
+      walked-counts w n o le =
+          let ended : Result StageDoc Failure = Ok (at.Step (at.PutLast w)) in
+          let more : Result StageDoc Failure = Ok (at.Fetch (at.Root w) (root_request c.setting.limits (w.last.role.head.version + 1))) in
+          unless-fine (Counts next) bad (MaxUpdatesExceeded c.setting.limits.max_root_updates) (nat_lt (w.last.role.head.version - w.first.role.head.version) c.setting.limits.max_root_updates) (if w.last.role.head.version == 2 ^ 64 - 1 then ended else more) (λ g.
+          if-fine (Counts next) bad (w.last.role.head.version == 2 ^ 64 - 1) ended more (λ _. few-roots next n le o.2)
+          (n, o, below w.first.role.head.version n w.last.role.head.version c.setting.limits.max_root_updates o.1 g, refl))
+
+      walk_ended-counts : (w : WalkDoc) → Few next 0 → Goes (walk_ended c.setting.limits c.setting.enforced w)
+      walk_ended-counts w f =
+          let cleared : Result StageDoc Failure = Ok (at.Step (at.Clear (base_of w))) in
+          let kept : Result StageDoc Failure = Ok (at.Fetch (at.Timestamp (base_of w)) (timestamp_request c.setting.limits)) in
+          unless-fine (Counts next) bad (Checked (ExpiredMetadata role.Root)) (not (is_expired c.setting.enforced w.start w.last.role.head.expires)) (if is_rotated w.first.role w.last.role then cleared else kept) (λ _.
+          if-fine (Counts next) bad (is_rotated w.first.role w.last.role) cleared kept (λ _. f) f)
+
+      if_read-counts : {D : Type 0} (f : Failure) (o : Option D) (to : D → StageDoc) → ((d : D) → Counts next (to d)) → Goes (if_read f o (λ d. Ok (to d)))
+      if_read-counts f None to t = enough
+      if_read-counts f (Some d) to t = t d
+
+      want_snapshot-counts : (b : BaseDoc) (t : SignedDoc TimestampDoc) (o : Option MetafileDoc) → Few next 1 → Goes (want_snapshot c.setting.limits b t o)
+      want_snapshot-counts b t None f = enough
+      want_snapshot-counts b t (Some m) f = f
+
+      want_targets-counts : (k : KnownDoc) (o : Option MetafileDoc) → Few next 2 → Goes (want_targets c.setting.limits k o)
+      want_targets-counts k None f = enough
+      want_targets-counts k (Some m) f = f
+
+      read-counts : (w : WantedDoc) (r : RequestDoc) (bytes : List ℕ) → Counts h (at.Fetch w r) → Heard (at.Fetch w r) (got.Bytes bytes) → Goes (read_wanted v c.setting.enforced w bytes)
+      read-counts (at.Root w) r bytes t l = and_then-fine (Counts next) bad (next_root v w.last.role bytes) (λ root. Ok (at.Step (at.PutRoot (record { start = w.start; first = w.first; last = root })))) (λ root is.
+          let version = (next-fine v w.last bytes root is).version in
+          let one : root.role.head.version ≡ w.first.role.head.version + suc t.0 = omega (arith, version, t.1.1) in
+          let le : suc t.0 ≤ c.setting.limits.max_root_updates = omega (arith, t.2) in
+          (suc t.0, (t.1.0, one, over-more w t.0 r (asked-one (at.Fetch (at.Root w) r) r l.1 (ap (fetched (ask.Fetch r)) (sym l.0))) t.1 t.3), le))
+      read-counts (at.Timestamp b) r bytes t l = if_read-counts (ParseMetadata role.Timestamp) (timestamp_in bytes) (λ d. at.Step (at.PutTimestamp b d)) (λ d. few-fetched 0 (at.Timestamp b) r l.1 t (fetched-one r a))
+      read-counts (at.Snapshot b s m) r bytes t l = if_read-counts (ParseMetadata role.Snapshot) (snapshot_in bytes) (λ d. at.Step (at.PutSnapshot (known_of b s d) m)) (λ d. few-fetched 1 (at.Snapshot b s m) r l.1 t (fetched-one r a))
+      read-counts (at.Targets k m) r bytes t l = and_then-fine (Counts next) bad (bare_targets bytes) (accepted_targets v c.setting.enforced k m) (λ d _.
+          and_then-fine (Counts next) bad (targets_checked v c.setting.enforced k m d) (λ u. Ok (at.Step (at.PutTargets k d))) (λ u _. enough))
+
+      step-counts : (p : PendingDoc) → Counts h (at.Step p) → Heard (at.Step p) (got.Step (Ok (tt {0}))) → Goes (after v c.setting p)
+      step-counts (at.NoteTime now) t l = and_then-fine (Counts next) bad (first_root v c.setting.trusted) (λ root. walked c.setting.limits (record { start = now; first = root; last = root })) (λ root is.
+          let first : root.role.head.version ≡ start = sym (ap first_version (first-read v c.setting.trusted root is)) in
+          let none : root.role.head.version ≡ root.role.head.version + 0 = omega arith in
+          walked-counts (record { start = now; first = root; last = root }) 0 (first, none, asked-none (at.Step (at.NoteTime now)) l.1 refl ∙ t) (omega arith))
+      step-counts (at.PutRoot w) t l = walked-counts w t.0 (over-same w t.0 (asked-none (at.Step (at.PutRoot w)) l.1 refl) t.1) t.2
+      step-counts (at.PutLast w) t l = walk_ended-counts w (few-same 0 (asked-none (at.Step (at.PutLast w)) l.1 refl) t)
+      step-counts (at.Clear b) t l = few-same 0 (asked-none (at.Step (at.Clear b)) l.1 refl) t
+      step-counts (at.PutTimestamp b s) t l = want_snapshot-counts b s (metafile_in s.role.meta snapshot_file) (few-same 1 (asked-none (at.Step (at.PutTimestamp b s)) l.1 refl) t)
+      step-counts (at.PutSnapshot k m) t l = want_targets-counts k (metafile_in k.snapshot.role.meta targets_file) (few-same 2 (asked-none (at.Step (at.PutSnapshot k m)) l.1 refl) t)
+      step-counts (at.PutTargets k d) t l = enough
+
+      turn-counts : (st : StageDoc) → run v c h ≡ in_stage c st → Counts h st → Counts next (settled (stage_after v c.setting st a))
+      turn-counts st stands t = keeps-answer v c.setting (Counts h) (Counts next) bad Heard (record {
+        moment = λ now t l. asked-none at.Moment l.1 refl ∙ t;
+        read = read-counts;
+        ends = λ w r x _ t l. few-walked w r t.0 l.1 t.1 t.2 t.3 (fetched-one r a);
+        step = step-counts;
+        same = λ st x e _ t l. same-counts st x e t l;
+      }) st a t (refl, stands)
+
+  turn : (h : List AnswerDoc) (st : StageDoc) (a : AnswerDoc) → run v c h ≡ in_stage c st → Counts h st → Counts (h ++ a ∷ []) (settled (stage_after v c.setting st a))
+  turn h st a stands t = turn-counts h a (few-next h a st stands t) st stands t
+
+  few-at : (h : List AnswerDoc) (st : StageDoc) → Counts h st → Few h 3
+  few-at h at.Moment t = few-up h 0 3 (omega arith) (few-none h t)
+  few-at h (at.Step (at.NoteTime now)) t = few-up h 0 3 (omega arith) (few-none h t)
+  few-at h (at.Fetch (at.Root w) r) t = let le : t.0 ≤ c.setting.limits.max_root_updates = omega (arith, t.2) in few-up h 0 3 (omega arith) (few-roots h t.0 le t.1.2)
+  few-at h (at.Fetch (at.Timestamp b) r) t = few-up h 0 3 (omega arith) t
+  few-at h (at.Fetch (at.Snapshot b s m) r) t = few-up h 1 3 (omega arith) t
+  few-at h (at.Fetch (at.Targets k m) r) t = few-up h 2 3 (omega arith) t
+  few-at h (at.Step (at.PutRoot w)) t = few-up h 0 3 (omega arith) (few-roots h t.0 t.2 t.1.2)
+  few-at h (at.Step (at.PutLast w)) t = few-up h 0 3 (omega arith) t
+  few-at h (at.Step (at.Clear b)) t = few-up h 0 3 (omega arith) t
+  few-at h (at.Step (at.PutTimestamp b s)) t = few-up h 1 3 (omega arith) t
+  few-at h (at.Step (at.PutSnapshot k m)) t = few-up h 2 3 (omega arith) t
+  few-at h (at.Step (at.PutTargets k d)) t = t
+  few-at h (at.Done r) t = t
+  few-at h at.Taken t = t
+
+pub asks_few : (v : Verifies) (c : CoreDoc) (answers : List AnswerDoc) → IsFresh c → AsksFew v c answers
+asks_few v c answers fresh =
+    let f = few-at v c answers (run v c answers).stage (whole v c (Counts v c) (turn v c) answers (subst (Counts v c []) (sym fresh) refl)) in
+    record { roots = f.0; few = f.1; others = f.2; all = f.3; three = f.4 }

@@ -1,0 +1,217 @@
+-- What is so of each stage after given answers: what the clock told, which roots were met, and which files may be asked for.
+use Rattle.std.specs.Prelude.{◌≡◌, ℕ, ℤ, ◌+◌, ◌-◌, ◌^◌, ◌==◌, List, [], ◌∷◌, ◌++◌, Option, Some, None, Bool, true, false, IsTrue, ⊤, Result, Ok, Err, nat_lt, not, if◌then◌else◌}
+use Rattle.std.proofs.Common.{refl, sym, ◌∙◌, ap, subst, inl, inr}
+use Rattle.std.proofs.lemmas.Bool.{eqb-true}
+use Rattle.std.proofs.lemmas.List.{append-nil, append_assoc}
+use Rattle.tough_keys.specs.Same.{Verifies}
+use Rattle.tough_roles.specs.Signature.{SignedDoc}
+use Rattle.tough_roles.specs.Root.{RootDoc}
+use Rattle.tough_roles.specs.Timestamp.{TimestampDoc, MetafileDoc}
+use Rattle.tough_roles.specs.Snapshot.{SnapshotDoc}
+use Rattle.tough_roles.specs.Verdict.{Refused}
+use Rattle.tough_roles.specs.declared.role_type.RoleType.TheVariants as role
+use Rattle.tough_vault.specs.Checks.{ExpiredMetadata, is_expired}
+use Rattle.tough_vault.specs.Documents.{timestamp_in, snapshot_in, metafile_in}
+use Rattle.tough_vault.specs.Files.{snapshot_file, targets_file}
+use Rattle.tough_vault.specs.Act.{Act, ClearRotated}
+use Rattle.tough_update.specs.Failure.{Failure, ParseTrustedMetadata, VerifyTrustedMetadata, ParseMetadata, MaxUpdatesExceeded, Checked}
+use Rattle.tough_update.specs.Walk.{if_read, if_verified, root_in, root_verdict, first_root, next_root}
+use Rattle.tough_update.specs.Outcomes.{unless}
+use Rattle.tough_update.specs.Requests.{RequestDoc, root_request, timestamp_request}
+use Rattle.tough_update.specs.Rotation.{is_rotated}
+use Rattle.tough_update.specs.Listed.{bare_targets}
+use Rattle.tough_update.specs.Stages.{WalkDoc, BaseDoc, KnownDoc, WantedDoc, PendingDoc, StageDoc, CoreDoc}
+use Rattle.tough_update.specs.Stages as at
+use Rattle.tough_update.specs.Questions.{Question}
+use Rattle.tough_update.specs.Questions as ask
+use Rattle.tough_update.specs.Answered.{AnswerDoc}
+use Rattle.tough_update.specs.Answered as got
+use Rattle.tough_update.specs.Machine.{question, question_at, walked, base_of, walk_ended, want_snapshot, known_of, want_targets, targets_checked, accepted_targets, read_wanted, after, settled, stage_after, answered}
+use Rattle.tough_update.specs.Trusted.{Chain, followed}
+use Rattle.tough_update.specs.Runs.{run, EndsWalk, AskedNext, IsLast, IsFresh, WasTold, EndsWalking, WasRotated}
+use Rattle.tough_update.specs.Asking.{HasTaken, AsksSnapshot, AsksTargets}
+use Rattle.tough_update.proofs.Turning.{Fine, unless-fine, if-fine, and_then-fine, keeps-answer}
+use Rattle.tough_update.proofs.Sound.{first-fine, next-fine, if_read-ok, if_verified-ok, ok-same}
+use Rattle.tough_update.proofs.Prefixes.{in_stage, longer, run-last, run-same, whole, whole-at}
+
+pub first-read : (v : Verifies) (bytes : List ℕ) (root : SignedDoc RootDoc) → first_root v bytes ≡ Ok root → root_in bytes ≡ Some root
+first-read v bytes root h =
+    let fault : Refused → Failure = λ x. VerifyTrustedMetadata (Some x) in
+    let r = if_read-ok ParseTrustedMetadata (root_in bytes) (λ d. if_verified fault (root_verdict v d.role d) (Ok d)) root h in
+    let u = if_verified-ok fault (root_verdict v r.0.role r.0) (Ok r.0) root r.2 in
+    r.1 ∙ ap Some (ok-same r.0 root (Ok r.0) refl u.1)
+
+module _ (v : Verifies) (c : CoreDoc) where
+  abbrev Walks : WalkDoc → Type 0
+  Walks w = (root_in c.setting.trusted ≡ Some w.first) × Chain v c.setting.trusted w.last
+
+  abbrev pub Tells : List AnswerDoc → StageDoc → Type 0
+  Tells h (at.Fetch (at.Root w) r) = Walks w × (r ≡ root_request c.setting.limits (w.last.role.head.version + 1))
+  Tells h (at.Fetch (at.Timestamp b) r) = r ≡ timestamp_request c.setting.limits
+  Tells h (at.Fetch (at.Snapshot b t listed) r) = AsksSnapshot v c h r
+  Tells h (at.Fetch (at.Targets k listed) r) = AsksTargets v c h r
+  Tells h (at.Step (at.NoteTime now)) = WasTold v c h now
+  Tells h (at.Step (at.PutRoot w)) = Walks w
+  Tells h (at.Step (at.PutLast w)) = Walks w × IsLast v c h w.last
+  Tells h (at.Step (at.Clear b)) = WasRotated v c h
+  Tells h _ = ⊤
+
+  bad : (h : List AnswerDoc) (f : Failure) → Tells h (at.Done (Err f))
+  bad h f = tt
+
+  -- what the walk's last root makes next
+  by-choice : (w : WalkDoc) (b : Bool) → question (in_stage c (settled (if b then Ok (at.Step (at.Clear (base_of w))) else Ok (at.Fetch (at.Timestamp (base_of w)) (timestamp_request c.setting.limits)))))
+      ≡ (if b then ask.Step ClearRotated else ask.Fetch (timestamp_request c.setting.limits))
+  by-choice w true = refl
+  by-choice w false = refl
+
+  next-asked : (w : WalkDoc) → is_expired c.setting.enforced w.start w.last.role.head.expires ≡ false
+      → question (in_stage c (settled (walk_ended c.setting.limits c.setting.enforced w)))
+      ≡ (if is_rotated w.first.role w.last.role then ask.Step ClearRotated else ask.Fetch (timestamp_request c.setting.limits))
+  next-asked w e =
+      let cleared : Result StageDoc Failure = Ok (at.Step (at.Clear (base_of w))) in
+      let kept : Result StageDoc Failure = Ok (at.Fetch (at.Timestamp (base_of w)) (timestamp_request c.setting.limits)) in
+      let chosen : Result StageDoc Failure = if is_rotated w.first.role w.last.role then cleared else kept in
+      ap (λ b. question (in_stage c (settled (unless (Checked (ExpiredMetadata role.Root)) (not b) chosen)))) e ∙ by-choice w (is_rotated w.first.role w.last.role)
+
+  -- the walk's last root is about to be stored
+  pub ends-walking : (h : List AnswerDoc) (w : WalkDoc) → run v c h ≡ in_stage c (at.Step (at.PutLast w)) → Walks w × IsLast v c h w.last → EndsWalking v c h w
+  ends-walking h w stands is = record {
+    handed_in = is.0.0;
+    chain = is.0.1;
+    no_later = is.1;
+    next = λ e. ap (λ d. question (answered v d (got.Step (Ok (tt {0}))))) stands ∙ next-asked w e;
+  }
+
+  module _ (h : List AnswerDoc) (a : AnswerDoc) where
+    abbrev next : List AnswerDoc
+    next = h ++ a ∷ []
+
+    -- it is this answer, and the machine stands so
+    abbrev Heard : StageDoc → AnswerDoc → Type 0
+    Heard st x = (x ≡ a) × (run v c h ≡ in_stage c st)
+
+    told-more : (now : ℤ) → WasTold v c h now → WasTold v c next now
+    told-more now w = record { before = w.before; after = w.after ++ a ∷ []; all = longer h w.before w.after (got.Moment now) a w.all; asked = w.asked }
+
+    taken-more : (act : Act) → HasTaken v c h act → HasTaken v c next act
+    taken-more act w = record { before = w.before; after = w.after ++ a ∷ []; all = longer h w.before w.after (got.Step (Ok (tt {0}))) a w.all; asked = w.asked }
+
+    last-more : (r : SignedDoc RootDoc) → IsLast v c h r → IsLast v c next r
+    last-more r (inl w) = inl (record { before = w.before; answer = w.answer; after = w.after ++ a ∷ []; all = longer h w.before w.after w.answer a w.all; asked = w.asked; ends = w.ends })
+    last-more r (inr e) = inr e
+
+    rotated-more : run v c next ≡ run v c h → WasRotated v c h → WasRotated v c next
+    rotated-more e w = record {
+      walk = w.walk;
+      before = w.before;
+      after = w.after ++ a ∷ [];
+      all = longer h w.before w.after (got.Step (Ok (tt {0}))) a w.all;
+      last = w.last;
+      walked = w.walked;
+      rotated = w.rotated;
+      since = e ∙ w.since;
+    }
+
+    snapshot-more : (r : RequestDoc) → AsksSnapshot v c h r → AsksSnapshot v c next r
+    snapshot-more r w = record { root = w.root; timestamp = w.timestamp; start = w.start; accepted = taken-more _ w.accepted; entry = w.entry; listed = w.listed; is = w.is }
+
+    targets-more : (r : RequestDoc) → AsksTargets v c h r → AsksTargets v c next r
+    targets-more r w = record { root = w.root; version = w.version; snapshot = w.snapshot; start = w.start; accepted = taken-more _ w.accepted; entry = w.entry; listed = w.listed; is = w.is }
+
+    -- an answer that isn't waited for
+    same-tells : (st : StageDoc) (x : AnswerDoc) → stage_after v c.setting st x ≡ Ok st → Tells h st → Heard st x → Tells next st
+    same-tells at.Moment x e t l = tt
+    same-tells (at.Fetch (at.Root w) r) x e t l = t
+    same-tells (at.Fetch (at.Timestamp b) r) x e t l = t
+    same-tells (at.Fetch (at.Snapshot b s n) r) x e t l = snapshot-more r t
+    same-tells (at.Fetch (at.Targets k n) r) x e t l = targets-more r t
+    same-tells (at.Step (at.NoteTime now)) x e t l = told-more now t
+    same-tells (at.Step (at.PutRoot w)) x e t l = t
+    same-tells (at.Step (at.PutLast w)) x e t l = (t.0, last-more w.last t.1)
+    same-tells (at.Step (at.Clear b)) x e t l = rotated-more (run-same v c h a (at.Step (at.Clear b)) l.1 (subst (λ y. stage_after v c.setting (at.Step (at.Clear b)) y ≡ Ok (at.Step (at.Clear b))) l.0 e)) t
+    same-tells (at.Step (at.PutTimestamp b s)) x e t l = tt
+    same-tells (at.Step (at.PutSnapshot k n)) x e t l = tt
+    same-tells (at.Step (at.PutTargets k d)) x e t l = tt
+    same-tells (at.Done r) x e t l = tt
+    same-tells at.Taken x e t l = tt
+
+    abbrev Goes : Result StageDoc Failure → Type 0
+    Goes = Fine (Tells next) (bad next)
+
+    walked-tells : (w : WalkDoc) → Walks w → Goes (walked c.setting.limits w)
+    walked-tells w t =
+        let ended : Result StageDoc Failure = Ok (at.Step (at.PutLast w)) in
+        let more : Result StageDoc Failure = Ok (at.Fetch (at.Root w) (root_request c.setting.limits (w.last.role.head.version + 1))) in
+        unless-fine (Tells next) (bad next) (MaxUpdatesExceeded c.setting.limits.max_root_updates) (nat_lt (w.last.role.head.version - w.first.role.head.version) c.setting.limits.max_root_updates) (if w.last.role.head.version == 2 ^ 64 - 1 then ended else more) (λ _.
+        if-fine (Tells next) (bad next) (w.last.role.head.version == 2 ^ 64 - 1) ended more (λ e. (t, inr (eqb-true _ _ e))) (t, refl))
+
+    -- this step succeeded
+    took : (act : Act) → question (run v c h) ≡ ask.Step act → a ≡ got.Step (Ok (tt {0})) → HasTaken v c next act
+    took act asked e = record { before = h; after = []; all = ap (λ x. h ++ x ∷ []) e; asked = asked }
+
+    walk_ended-tells : (w : WalkDoc) → a ≡ got.Step (Ok (tt {0})) → run v c h ≡ in_stage c (at.Step (at.PutLast w)) → Walks w × IsLast v c h w.last → Goes (walk_ended c.setting.limits c.setting.enforced w)
+    walk_ended-tells w e stands t =
+        let cleared : Result StageDoc Failure = Ok (at.Step (at.Clear (base_of w))) in
+        let kept : Result StageDoc Failure = Ok (at.Fetch (at.Timestamp (base_of w)) (timestamp_request c.setting.limits)) in
+        unless-fine (Tells next) (bad next) (Checked (ExpiredMetadata role.Root)) (not (is_expired c.setting.enforced w.start w.last.role.head.expires)) (if is_rotated w.first.role w.last.role then cleared else kept) (λ _.
+        if-fine (Tells next) (bad next) (is_rotated w.first.role w.last.role) cleared kept (λ r. record {
+          walk = w;
+          before = h;
+          after = [];
+          all = ap (λ x. h ++ x ∷ []) e;
+          last = ap (λ (d : CoreDoc). d.stage) stands;
+          walked = ends-walking h w stands t;
+          rotated = r;
+          since = ap (λ x. run v c (h ++ x ∷ [])) e;
+        }) refl)
+
+    -- a document was read, and the stage after it tells nothing
+    if_read-tells : {D : Type 0} (f : Failure) (o : Option D) (to : D → StageDoc) → ((d : D) → Tells next (to d)) → Goes (if_read f o (λ d. Ok (to d)))
+    if_read-tells f None to t = tt
+    if_read-tells f (Some d) to t = t d
+
+    want_snapshot-tells : (b : BaseDoc) (t : SignedDoc TimestampDoc) (o : Option MetafileDoc) → metafile_in t.role.meta snapshot_file ≡ o
+        → a ≡ got.Step (Ok (tt {0})) → run v c h ≡ in_stage c (at.Step (at.PutTimestamp b t)) → Goes (want_snapshot c.setting.limits b t o)
+    want_snapshot-tells b t None is e stands = tt
+    want_snapshot-tells b t (Some m) is e stands = record { root = b.root.role; timestamp = t; start = b.start; accepted = took _ (ap question stands) e; entry = m; listed = is; is = refl }
+
+    want_targets-tells : (k : KnownDoc) (n : ℕ) (o : Option MetafileDoc) → metafile_in k.snapshot.role.meta targets_file ≡ o
+        → a ≡ got.Step (Ok (tt {0})) → run v c h ≡ in_stage c (at.Step (at.PutSnapshot k n)) → Goes (want_targets c.setting.limits k o)
+    want_targets-tells k n None is e stands = tt
+    want_targets-tells k n (Some m) is e stands = record { root = k.root.role; version = n; snapshot = k.snapshot; start = k.start; accepted = took _ (ap question stands) e; entry = m; listed = is; is = refl }
+
+    read-tells : (w : WantedDoc) (r : RequestDoc) (bytes : List ℕ) → Tells h (at.Fetch w r) → Goes (read_wanted v c.setting.enforced w bytes)
+    read-tells (at.Root w) r bytes t = and_then-fine (Tells next) (bad next) (next_root v w.last.role bytes) (λ root. Ok (at.Step (at.PutRoot (record { start = w.start; first = w.first; last = root })))) (λ root is.
+        (t.0.0, followed w.last root t.0.1 (next-fine v w.last bytes root is)))
+    read-tells (at.Timestamp b) r bytes t = if_read-tells (ParseMetadata role.Timestamp) (timestamp_in bytes) (λ d. at.Step (at.PutTimestamp b d)) (λ d. tt)
+    read-tells (at.Snapshot b s n) r bytes t = if_read-tells (ParseMetadata role.Snapshot) (snapshot_in bytes) (λ d. at.Step (at.PutSnapshot (known_of b s d) n)) (λ d. tt)
+    read-tells (at.Targets k n) r bytes t = and_then-fine (Tells next) (bad next) (bare_targets bytes) (accepted_targets v c.setting.enforced k n) (λ d _.
+        and_then-fine (Tells next) (bad next) (targets_checked v c.setting.enforced k n d) (λ u. Ok (at.Step (at.PutTargets k d))) (λ u _. tt))
+
+    step-tells : (p : PendingDoc) → Tells h (at.Step p) → Heard (at.Step p) (got.Step (Ok (tt {0}))) → Goes (after v c.setting p)
+    step-tells (at.NoteTime now) t l = and_then-fine (Tells next) (bad next) (first_root v c.setting.trusted) (λ root. walked c.setting.limits (record { start = now; first = root; last = root })) (λ root is.
+        walked-tells (record { start = now; first = root; last = root }) (first-read v c.setting.trusted root is, first-fine v c.setting.trusted root is))
+    step-tells (at.PutRoot w) t l = walked-tells w t
+    step-tells (at.PutLast w) t l = walk_ended-tells w (sym l.0) l.1 t
+    step-tells (at.Clear b) t l = refl
+    step-tells (at.PutTimestamp b s) t l = want_snapshot-tells b s (metafile_in s.role.meta snapshot_file) refl (sym l.0) l.1
+    step-tells (at.PutSnapshot k n) t l = want_targets-tells k n (metafile_in k.snapshot.role.meta targets_file) refl (sym l.0) l.1
+    step-tells (at.PutTargets k d) t l = tt
+
+    -- a root's fetch ended the walk
+    ends-tells : (w : WalkDoc) (r : RequestDoc) (x : AnswerDoc) → EndsWalk x → Tells h (at.Fetch (at.Root w) r) → Heard (at.Fetch (at.Root w) r) x → Tells next (at.Step (at.PutLast w))
+    ends-tells w r x e t l = (t.0, inl (record { before = h; answer = x; after = []; all = ap (λ y. h ++ y ∷ []) (sym l.0); asked = ap question l.1 ∙ ap ask.Fetch t.1; ends = e }))
+
+    moment-tells : (now : ℤ) → Heard at.Moment (got.Moment now) → WasTold v c next now
+    moment-tells now l = record { before = h; after = []; all = ap (λ y. h ++ y ∷ []) (sym l.0); asked = ap question l.1 }
+
+  turn : (h : List AnswerDoc) (st : StageDoc) (a : AnswerDoc) → run v c h ≡ in_stage c st → Tells h st → Tells (h ++ a ∷ []) (settled (stage_after v c.setting st a))
+  turn h st a stands t = keeps-answer v c.setting (Tells h) (Tells (h ++ a ∷ [])) (bad (h ++ a ∷ [])) (Heard h a)
+      (record { moment = λ now _ l. moment-tells h a now l; read = λ w r bytes t _. read-tells h a w r bytes t; ends = ends-tells h a; step = step-tells h a; same = λ st x _ e t l. same-tells h a st x e t l }) st a t (refl, stands)
+
+  pub tells : IsFresh c → (answers : List AnswerDoc) → Tells answers (run v c answers).stage
+  tells fresh answers = whole v c Tells turn answers (subst (Tells []) (sym fresh) tt)
+
+  pub tells-at : IsFresh c → (answers : List AnswerDoc) (st : StageDoc) → run v c answers ≡ in_stage c st → Tells answers st
+  tells-at fresh answers st stands = whole-at v c Tells turn answers st stands (subst (Tells []) (sym fresh) tt)

@@ -1,0 +1,113 @@
+-- A moment is noted once.
+use Rattle.std.specs.Prelude.{◌≡◌, ◌⊎◌, ℕ, ℤ, ◌+◌, ◌-◌, ◌^◌, ◌==◌, List, [], ◌∷◌, ◌++◌, Option, Some, None, Bool, IsTrue, ⊤, Result, Ok, Err, nat_lt, not, if◌then◌else◌}
+use Rattle.std.proofs.Common.{refl, sym, ◌∙◌, ap, subst, inl, inr}
+use Rattle.tough_keys.specs.Same.{Verifies}
+use Rattle.tough_roles.specs.Signature.{SignedDoc}
+use Rattle.tough_roles.specs.Root.{RootDoc}
+use Rattle.tough_roles.specs.Timestamp.{TimestampDoc, MetafileDoc}
+use Rattle.tough_roles.specs.declared.role_type.RoleType.TheVariants as role
+use Rattle.tough_vault.specs.Checks.{ExpiredMetadata, is_expired}
+use Rattle.tough_vault.specs.Documents.{timestamp_in, snapshot_in, metafile_in}
+use Rattle.tough_vault.specs.Files.{snapshot_file, targets_file}
+use Rattle.tough_vault.specs.Act.{NoteTime}
+use Rattle.tough_update.specs.Failure.{Failure, ParseMetadata, MaxUpdatesExceeded, Checked}
+use Rattle.tough_update.specs.Walk.{if_read, first_root, next_root}
+use Rattle.tough_update.specs.Requests.{RequestDoc, root_request, timestamp_request}
+use Rattle.tough_update.specs.Rotation.{is_rotated}
+use Rattle.tough_update.specs.Listed.{bare_targets}
+use Rattle.tough_update.specs.Stages.{WalkDoc, BaseDoc, KnownDoc, WantedDoc, PendingDoc, StageDoc, SettingDoc, CoreDoc}
+use Rattle.tough_update.specs.Stages as at
+use Rattle.tough_update.specs.Questions as ask
+use Rattle.tough_update.specs.Answered.{AnswerDoc}
+use Rattle.tough_update.specs.Answered as got
+use Rattle.tough_update.specs.Machine.{question, question_at, answered, walked, base_of, walk_ended, want_snapshot, known_of, want_targets, targets_checked, accepted_targets, read_wanted, after, settled, stage_after}
+use Rattle.tough_update.specs.Runs.{run}
+use Rattle.tough_update.proofs.Turning.{Fine, unless-fine, if-fine, and_then-fine, keeps-answer}
+use Rattle.tough_update.proofs.Prefixes.{run-on, Parts, parts}
+
+-- the moment was noted before
+abbrev Late : StageDoc → Type 0
+Late at.Moment = ⊥
+Late (at.Step (at.NoteTime now)) = ⊥
+Late _ = ⊤
+
+bad : (f : Failure) → Late (at.Done (Err f))
+bad f = tt
+
+walked-late : (s : SettingDoc) (w : WalkDoc) → Fine Late bad (walked s.limits w)
+walked-late s w =
+    let ended : Result StageDoc Failure = Ok (at.Step (at.PutLast w)) in
+    let more : Result StageDoc Failure = Ok (at.Fetch (at.Root w) (root_request s.limits (w.last.role.head.version + 1))) in
+    unless-fine Late bad (MaxUpdatesExceeded s.limits.max_root_updates) (nat_lt (w.last.role.head.version - w.first.role.head.version) s.limits.max_root_updates) (if w.last.role.head.version == 2 ^ 64 - 1 then ended else more) (λ _.
+    if-fine Late bad (w.last.role.head.version == 2 ^ 64 - 1) ended more (λ _. tt) tt)
+
+walk_ended-late : (s : SettingDoc) (w : WalkDoc) → Fine Late bad (walk_ended s.limits s.enforced w)
+walk_ended-late s w =
+    let cleared : Result StageDoc Failure = Ok (at.Step (at.Clear (base_of w))) in
+    let kept : Result StageDoc Failure = Ok (at.Fetch (at.Timestamp (base_of w)) (timestamp_request s.limits)) in
+    unless-fine Late bad (Checked (ExpiredMetadata role.Root)) (not (is_expired s.enforced w.start w.last.role.head.expires)) (if is_rotated w.first.role w.last.role then cleared else kept) (λ _.
+    if-fine Late bad (is_rotated w.first.role w.last.role) cleared kept (λ _. tt) tt)
+
+if_read-late : {D : Type 0} (f : Failure) (o : Option D) (next : D → StageDoc) → ((d : D) → Late (next d)) → Fine Late bad (if_read f o (λ d. Ok (next d)))
+if_read-late f None next h = tt
+if_read-late f (Some d) next h = h d
+
+want_snapshot-late : (s : SettingDoc) (b : BaseDoc) (t : SignedDoc TimestampDoc) (o : Option MetafileDoc) → Fine Late bad (want_snapshot s.limits b t o)
+want_snapshot-late s b t None = tt
+want_snapshot-late s b t (Some m) = tt
+
+want_targets-late : (s : SettingDoc) (k : KnownDoc) (o : Option MetafileDoc) → Fine Late bad (want_targets s.limits k o)
+want_targets-late s k None = tt
+want_targets-late s k (Some m) = tt
+
+module _ (v : Verifies) where
+  read-late : (s : SettingDoc) (w : WantedDoc) (bytes : List ℕ) → Fine Late bad (read_wanted v s.enforced w bytes)
+  read-late s (at.Root w) bytes = and_then-fine Late bad (next_root v w.last.role bytes) (λ root. Ok (at.Step (at.PutRoot (record { start = w.start; first = w.first; last = root })))) (λ root _. tt)
+  read-late s (at.Timestamp b) bytes = if_read-late (ParseMetadata role.Timestamp) (timestamp_in bytes) (λ t. at.Step (at.PutTimestamp b t)) (λ t. tt)
+  read-late s (at.Snapshot b t n) bytes = if_read-late (ParseMetadata role.Snapshot) (snapshot_in bytes) (λ d. at.Step (at.PutSnapshot (known_of b t d) n)) (λ d. tt)
+  read-late s (at.Targets k n) bytes = and_then-fine Late bad (bare_targets bytes) (accepted_targets v s.enforced k n) (λ d _.
+      and_then-fine Late bad (targets_checked v s.enforced k n d) (λ u. Ok (at.Step (at.PutTargets k d))) (λ u _. tt))
+
+  step-late : (s : SettingDoc) (p : PendingDoc) → Fine Late bad (after v s p)
+  step-late s (at.NoteTime now) = and_then-fine Late bad (first_root v s.trusted) (λ root. walked s.limits (record { start = now; first = root; last = root })) (λ root _.
+      walked-late s (record { start = now; first = root; last = root }))
+  step-late s (at.PutRoot w) = walked-late s w
+  step-late s (at.PutLast w) = walk_ended-late s w
+  step-late s (at.Clear b) = tt
+  step-late s (at.PutTimestamp b t) = want_snapshot-late s b t (metafile_in t.role.meta snapshot_file)
+  step-late s (at.PutSnapshot k n) = want_targets-late s k (metafile_in k.snapshot.role.meta targets_file)
+  step-late s (at.PutTargets k d) = tt
+
+  answer-late : (s : SettingDoc) (st : StageDoc) (a : AnswerDoc) → Late st → Late (settled (stage_after v s st a))
+  answer-late s st a h = keeps-answer v s Late Late bad (λ _ _. ⊤)
+      (record { moment = λ now l _. absurd l; read = λ w r bytes _ _. read-late s w bytes; ends = λ w r a _ _ _. tt; step = λ p _ _. step-late s p; same = λ st a _ _ l _. l }) st a h tt
+
+  run-late : (answers : List AnswerDoc) (d : CoreDoc) → Late d.stage → Late (run v d answers).stage
+  run-late [] d h = h
+  run-late (a ∷ rest) d h = run-late rest (answered v d a) (answer-late d.setting d.stage a h)
+
+  noting : (enforced : Bool) (st : StageDoc) (now : ℤ) → question_at enforced st ≡ ask.Step (NoteTime now) → st ≡ at.Step (at.NoteTime now)
+  noting enforced (at.Step (at.NoteTime m)) now e = cc (e)
+  noting enforced _ now e = absurd (cc (e))
+
+  -- after a moment was noted none is
+  noted-late : (d : CoreDoc) (now : ℤ) → d.stage ≡ at.Step (at.NoteTime now) → Late (answered v d (got.Step (Ok (tt {0})))).stage
+  noted-late d now e = subst (λ st. Late (settled (stage_after v d.setting st (got.Step (Ok (tt {0})))))) (sym e) (step-late d.setting (at.NoteTime now))
+
+  apart : (c : CoreDoc) (h r : List AnswerDoc) (now later : ℤ) → question (run v c h) ≡ ask.Step (NoteTime now) → question (run v c (h ++ got.Step (Ok (tt {0})) ∷ r)) ≡ ask.Step (NoteTime later) → ⊥
+  apart c h r now later e f =
+      let d = run v c h in
+      let done : Late (run v (answered v d (got.Step (Ok (tt {0})))) r).stage = run-late r (answered v d (got.Step (Ok (tt {0})))) (noted-late d now (noting d.setting.enforced d.stage now e)) in
+      let there : Late (run v c (h ++ got.Step (Ok (tt {0})) ∷ r)).stage = subst (λ (x : CoreDoc). Late x.stage) (sym (run-on v h c (got.Step (Ok (tt {0})) ∷ r))) done in
+      subst Late (noting (run v c (h ++ got.Step (Ok (tt {0})) ∷ r)).setting.enforced (run v c (h ++ got.Step (Ok (tt {0})) ∷ r)).stage later f) there
+
+  at-once : (c : CoreDoc) (h k : List AnswerDoc) (now later : ℤ) → question (run v c h) ≡ ask.Step (NoteTime now) → question (run v c k) ≡ ask.Step (NoteTime later)
+      → Parts h k (got.Step (Ok (tt {0}))) (got.Step (Ok (tt {0}))) → h ≡ k
+  at-once c h k now later f g (inl e) = e
+  at-once c h k now later f g (inr (inl p)) = absurd (apart c h p.0 now later f (subst (λ x. question (run v c x) ≡ ask.Step (NoteTime later)) p.1 g))
+  at-once c h k now later f g (inr (inr p)) = absurd (apart c k p.0 later now g (subst (λ x. question (run v c x) ≡ ask.Step (NoteTime now)) p.1 f))
+
+  -- two moments that were noted stand at the same place
+  pub once : (c : CoreDoc) (h k s t : List AnswerDoc) (now later : ℤ) → h ++ got.Step (Ok (tt {0})) ∷ s ≡ k ++ got.Step (Ok (tt {0})) ∷ t
+      → question (run v c h) ≡ ask.Step (NoteTime now) → question (run v c k) ≡ ask.Step (NoteTime later) → h ≡ k
+  once c h k s t now later e f g = at-once c h k now later f g (parts h k (got.Step (Ok (tt {0}))) (got.Step (Ok (tt {0}))) s t e)

@@ -1,0 +1,94 @@
+-- The files that an update asks for (TUF specification 1.0, sections 5.3 to 5.6), over any answers.
+use Rattle.std.specs.Prelude.{◌≡◌, ◌≤◌, ◌⊎◌, ℕ, ℤ, ◌+◌, zero, suc, List, [], ◌∷◌, ◌++◌, length, Option, None, Some, Ok}
+use Rattle.tough_keys.specs.Same.{Verifies}
+use Rattle.tough_roles.specs.Signature.{SignedDoc}
+use Rattle.tough_roles.specs.Root.{RootDoc}
+use Rattle.tough_roles.specs.Timestamp.{TimestampDoc, MetafileDoc}
+use Rattle.tough_roles.specs.Snapshot.{SnapshotDoc}
+use Rattle.tough_vault.specs.Act.{Act, AdvanceTimestamp, AdvanceSnapshot}
+use Rattle.tough_vault.specs.Documents.{metafile_in}
+use Rattle.tough_vault.specs.Files.{snapshot_file, targets_file}
+use Rattle.tough_update.specs.declared.limits.Limits.{Limits}
+use Rattle.tough_update.specs.Walk.{root_in}
+use Rattle.tough_update.specs.Requests.{RequestDoc, root_request, timestamp_request, snapshot_request, targets_request}
+use Rattle.tough_update.specs.Stages.{CoreDoc}
+use Rattle.tough_update.specs.Questions.{Question}
+use Rattle.tough_update.specs.Questions as ask
+use Rattle.tough_update.specs.Answered.{AnswerDoc}
+use Rattle.tough_update.specs.Answered as got
+use Rattle.tough_update.specs.Machine.{question, answered}
+use Rattle.tough_update.specs.Trusted.{Chain}
+use Rattle.tough_update.specs.Runs.{run}
+
+-- ---- which file is asked for
+
+-- this step was asked for, and it succeeded
+pub record HasTaken (verifies : Verifies) (c : CoreDoc) (answers : List AnswerDoc) (act : Act) : Type 0 where
+  pub before : List AnswerDoc
+  pub after : List AnswerDoc
+  pub all : answers ≡ before ++ got.Step (Ok (tt {0})) ∷ after
+  pub asked : question (run verifies c before) ≡ ask.Step act
+
+-- the root after one that ends a chain from the root that was handed in
+pub record AsksRoot (verifies : Verifies) (c : CoreDoc) (r : RequestDoc) : Type 0 where
+  pub last : SignedDoc RootDoc
+  pub chain : Chain verifies c.setting.trusted last
+  pub is : r ≡ root_request c.setting.limits (last.role.head.version + 1)
+
+-- the snapshot, as the timestamp that was accepted lists it
+pub record AsksSnapshot (verifies : Verifies) (c : CoreDoc) (answers : List AnswerDoc) (r : RequestDoc) : Type 0 where
+  pub root : RootDoc
+  pub timestamp : SignedDoc TimestampDoc
+  pub start : ℤ
+  pub accepted : HasTaken verifies c answers (AdvanceTimestamp root timestamp start c.setting.enforced)
+  pub entry : MetafileDoc
+  pub listed : metafile_in timestamp.role.meta snapshot_file ≡ Some entry
+  pub is : r ≡ snapshot_request c.setting.limits root.consistent_snapshot entry
+
+-- the targets, as the snapshot that was accepted lists them
+pub record AsksTargets (verifies : Verifies) (c : CoreDoc) (answers : List AnswerDoc) (r : RequestDoc) : Type 0 where
+  pub root : RootDoc
+  pub version : ℕ
+  pub snapshot : SignedDoc SnapshotDoc
+  pub start : ℤ
+  pub accepted : HasTaken verifies c answers (AdvanceSnapshot root version snapshot start c.setting.enforced)
+  pub entry : MetafileDoc
+  pub listed : metafile_in snapshot.role.meta targets_file ≡ Some entry
+  pub is : r ≡ targets_request c.setting.limits root.consistent_snapshot entry
+
+-- one of the four files
+abbrev pub AsksFile : Verifies → CoreDoc → List AnswerDoc → RequestDoc → Type 0
+AsksFile verifies c answers r = AsksRoot verifies c r ⊎ ((r ≡ timestamp_request c.setting.limits) ⊎ (AsksSnapshot verifies c answers r ⊎ AsksTargets verifies c answers r))
+
+-- ---- how many files are asked for
+
+-- the file that was asked for, where a fetch of it was answered
+abbrev pub fetched : Question → AnswerDoc → List RequestDoc
+fetched (ask.Fetch r) (got.Bytes bytes) = r ∷ []
+fetched (ask.Fetch r) (got.NotStarted f) = r ∷ []
+fetched (ask.Fetch r) (got.Cut f) = r ∷ []
+fetched _ _ = []
+
+-- the files that were fetched, or couldn't be, in order
+abbrev pub requests : Verifies → CoreDoc → List AnswerDoc → List RequestDoc
+requests verifies c [] = []
+requests verifies c (a ∷ rest) = fetched (question c) a ++ requests verifies (answered verifies c a) rest
+
+-- so many roots, one after another, from the one after this version
+abbrev pub roots_after : Limits → ℕ → ℕ → List RequestDoc
+roots_after l version zero = []
+roots_after l version (suc n) = root_request l (version + 1) ∷ roots_after l (version + 1) n
+
+-- the version of the root that was handed in
+abbrev pub first_version : Option (SignedDoc RootDoc) → ℕ
+first_version None = 0
+first_version (Some r) = r.role.head.version
+
+-- Roots one after another, from the one after the root that was handed in and at most as many as the limit allows; and then at most three
+-- files.
+pub record AsksFew (verifies : Verifies) (c : CoreDoc) (answers : List AnswerDoc) : Type 0 where
+  pub roots : ℕ
+  pub few : roots ≤ c.setting.limits.max_root_updates
+  pub others : List RequestDoc
+  pub all : requests verifies c answers ≡ roots_after c.setting.limits (first_version (root_in c.setting.trusted)) roots ++ others
+  pub three : length others ≤ 3
