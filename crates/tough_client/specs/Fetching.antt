@@ -8,13 +8,13 @@ use Rattle.url.specs.declared.error.ParseError.{ParseError}
 use Rattle.futures.specs.Runs.{Runs, Within}
 use Rattle.tough_net.specs.declared.error.TransportError.{TransportError}
 use Rattle.tough_net.specs.declared.collect.Collect.{Collect}
-use Rattle.tough_net.specs.Errors.{error_kind, IsMemory}
+use Rattle.tough_net.specs.Errors.{IsMemory}
 use Rattle.tough_net.specs.Items.{Item}
 use Rattle.tough_net.specs.Collecting.{Bounds, Collects, collected, bounds_of, held_by}
 use Rattle.tough_update.specs.Requests.{RequestDoc}
 use Rattle.tough_update.specs.Answered.{AnswerDoc}
 use Rattle.tough_update.specs.Answered as got
-use Rattle.tough_update.specs.View.{fault_of_kind, fault_of_join}
+use Rattle.tough_update.specs.declared.request.Fault.TheVariants as fault
 
 -- what is asked of the bytes at a URL
 abbrev pub bounds : Parts → RequestDoc → Bounds
@@ -23,23 +23,27 @@ bounds url r = record { url = serialize url; max = r.max_size; specifier = r.spe
 -- what is answered where a fetch ended so
 abbrev pub answer_of : Result (Vec ℕ Global) TransportError → AnswerDoc
 answer_of (Ok v) = got.Bytes v.items
-answer_of (Err e) = got.Cut (fault_of_kind (error_kind e))
+answer_of (Err e) = got.Cut (fault.Transport e)
 
 -- the name can't be joined to the base
 abbrev pub IsUnjoined : Parts → RequestDoc → AnswerDoc → Type 0
-IsUnjoined base r a = (e : ParseError) × (a ≡ got.NotStarted (fault_of_join e)) × Gives (Err e) (parse_url (Some base) r.name)
+IsUnjoined base r a = (e : ParseError) × (a ≡ got.NotStarted (fault.JoinUrl e)) × Gives (Err e) (parse_url (Some base) r.name)
 
 module _ {T : Type 0} (refuses : T → Parts → TransportError → Type 0) (serves : T → Parts → Runs Item) (t : T) where
   -- the transport refused
   abbrev pub IsRefusedAt : Parts → AnswerDoc → Type 0
-  IsRefusedAt url a = (e : TransportError) × (a ≡ got.NotStarted (fault_of_kind (error_kind e))) × (refuses t url e ⊎ IsMemory e)
+  IsRefusedAt url a = (e : TransportError) × (a ≡ got.NotStarted (fault.Transport e)) × (refuses t url e ⊎ IsMemory e)
 
   -- what it serves was collected, or cut off
   abbrev pub IsServedAt : Parts → RequestDoc → AnswerDoc → Type 0
   IsServedAt url r a = (outcome : Result (Vec ℕ Global) TransportError) × (a ≡ answer_of outcome) × Collects (bounds url r) (serves t url) [] outcome
 
+  -- there was no memory for what is asked
+  abbrev pub IsUnasked : AnswerDoc → Type 0
+  IsUnasked a = (e : TransportError) × (a ≡ got.NotStarted (fault.Transport e)) × IsMemory e
+
   abbrev pub Fetches : Parts → RequestDoc → AnswerDoc → Type 0
-  Fetches base r a = (a ≡ got.NotStarted got.NoMemory)
+  Fetches base r a = IsUnasked a
       ⊎ (IsUnjoined base r a
       ⊎ ((url : Parts) × (parse_url (Some base) r.name ≡ Ok url) × (IsRefusedAt url a ⊎ IsServedAt url r a)))
 

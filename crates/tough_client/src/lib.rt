@@ -13,7 +13,7 @@ pub use keeper::Keeper;
 pub use load::Load;
 pub use loader::{RepositoryLoader, Unset};
 pub use tough_update::{
-    Act, Answer, Ask, Core, Error, Fault, Known, Limits, Loaded as Repository, Request,
+    Act, Answer, Ask, Core, Error, Fault, Limits, Loaded as Repository, Request,
 };
 pub use tough_vault::{
     Clock, DirStore, DocumentName, Entry, ExpirationEnforcement, FixedClock, ListedVersion,

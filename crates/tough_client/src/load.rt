@@ -5,7 +5,7 @@ ghost use Rattle.futures.specs.Task.{Covers, Keeps};
 ghost use Rattle.futures.specs.Poll.{IfReady, OnPending};
 ghost use Rattle.tough_net.specs.Collecting.{collected, bounds_of, held_by};
 ghost use Rattle.tough_update.specs.Answered as got;
-ghost use Rattle.tough_update.specs.View.{request_doc, fault_doc, outcome_doc, answer_doc};
+ghost use Rattle.tough_update.specs.View.{request_doc, outcome_doc, answer_doc};
 ghost use Rattle.tough_client.specs.Fetching.{Fetches, IsStarted, answer_of};
 ghost use Rattle.tough_client.specs.Running.{CanPoll};
 
@@ -66,7 +66,7 @@ fn start<T: Transport>(
 ) -> Result<Collect<T::Stream>, Fault>
     ensures started { IfOk result (IsStarted T.serves T.Stream.yields transport.now base.now (request_doc request.now)) }
     ensures can_poll { IfOk result (λ f. T.Stream.can_poll (collected f) × (length (held_by f) ≤ (bounds_of f).max)) }
-    ensures refused { IfErr result (λ e. Fetches T.refuses T.serves transport.now base.now (request_doc request.now) (got.NotStarted (fault_doc e))) }
+    ensures refused { IfErr result (λ e. Fetches T.refuses T.serves transport.now base.now (request_doc request.now) (got.NotStarted e)) }
 {
     let url = match base.join(request.name.as_str()) {
         Ok(url) => url,

@@ -2,7 +2,7 @@ use serde_json::{Map, Value};
 use tough_base::{Decoded, EcdsaFlex, Hex, RsaPem};
 
 /// A key that signatures are verified by.
-#[derive(Drop)]
+#[derive(Debug, Drop)]
 pub enum Key {
     Rsa {
         keyval: RsaKey,
@@ -41,19 +41,19 @@ pub enum EcdsaScheme {
     EcdsaSha2Nistp256,
 }
 
-#[derive(Drop)]
+#[derive(Debug, Drop)]
 pub struct RsaKey {
     pub public: Decoded<RsaPem>,
     pub _extra: Map<String, Value>,
 }
 
-#[derive(Drop)]
+#[derive(Debug, Drop)]
 pub struct Ed25519Key {
     pub public: Decoded<Hex>,
     pub _extra: Map<String, Value>,
 }
 
-#[derive(Drop)]
+#[derive(Debug, Drop)]
 pub struct EcdsaKey {
     pub public: Decoded<EcdsaFlex>,
     pub _extra: Map<String, Value>,

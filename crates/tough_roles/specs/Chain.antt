@@ -1,5 +1,5 @@
 -- Roots that follow one another (TUF specification 1.0, section 5.3).
-use Rattle.std.specs.Prelude.{◌≡◌, ℕ, ◌+◌, List, [], ◌∷◌, Option, Some, option_and_then}
+use Rattle.std.specs.Prelude.{◌≡◌, ℕ, ◌+◌, List, Option, Some, option_and_then}
 use Rattle.serde_json.specs.Data.{Data}
 use Rattle.tough_json.specs.CanonicalText.{canonical_of}
 use Rattle.tough_keys.specs.Same.{Verifies}
@@ -27,12 +27,3 @@ pub record IsNext (verifies : Verifies) (old next : SignedDoc RootDoc) : Type 0 
   pub before : ReachesUnder verifies old.role types.Root root_json next
   pub itself : ReachesUnder verifies next.role types.Root root_json next
   pub version : next.role.head.version ≡ old.role.head.version + 1
-
-abbrev pub AreNext : Verifies → SignedDoc RootDoc → List (SignedDoc RootDoc) → Type 0
-AreNext verifies old [] = Unit {0}
-AreNext verifies old (next ∷ rest) = IsNext verifies old next × AreNext verifies next rest
-
--- the first root reaches under itself, and the others follow it
-pub record IsChain (verifies : Verifies) (first : SignedDoc RootDoc) (others : List (SignedDoc RootDoc)) : Type 0 where
-  pub itself : ReachesUnder verifies first.role types.Root root_json first
-  pub next : AreNext verifies first others

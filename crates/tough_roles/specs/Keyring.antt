@@ -12,12 +12,12 @@ use Rattle.tough_roles.specs.declared.role_type.RoleType.{RoleType}
 use Rattle.tough_roles.specs.declared.root.RoleKeys.{RoleKeys}
 use Rattle.tough_roles.specs.declared.root.Root.{Root}
 
-abbrev pub ahead_of : Option Key → List Key → List Key
+abbrev pub ahead_of : {K : Type 0} → Option K → List K → List K
 ahead_of None ks = []
 ahead_of (Some k) ks = k ∷ ks
 
 -- the keys of these identifiers in their order, up to the first that has none
-abbrev pub keys_along : List (Spelled × Key) → List Spelled → List Key
+abbrev pub keys_along : {K : Type 0} → List (Spelled × K) → List Spelled → List K
 keys_along found [] = []
 keys_along found (id ∷ ids) = ahead_of (lookup (is_at (by_bytes id)) found) (keys_along found ids)
 

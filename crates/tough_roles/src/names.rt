@@ -8,10 +8,10 @@ use std::alloc::{AllocError, Global};
 use std::num::NonZeroU64;
 
 /// A name behind a version.
-pub fn versioned(alloc: Global, version: NonZeroU64, name: &str) -> Result<String, AllocError>
-    ensures { IfOk result (λ s. string_bytes s ≡ versioned (non_zero_u64_get version) name.now) }
+pub fn versioned(alloc: Global, version: u64, name: &str) -> Result<String, AllocError>
+    ensures { IfOk result (λ s. string_bytes s ≡ versioned version name.now) }
 {
-    let mut text = version.get().to_string(alloc)?;
+    let mut text = version.to_string(alloc)?;
     text.push_str(".")?;
     text.push_str(name)?;
     Ok(text)
@@ -27,7 +27,7 @@ pub fn file_name(
     ensures { IfOk result (λ s. string_bytes s ≡ file_name consistent_snapshot (non_zero_u64_get version) name.now) }
 {
     if consistent_snapshot {
-        versioned(alloc, version, name)
+        versioned(alloc, version.get(), name)
     } else {
         String::from_str(alloc, name)
     }

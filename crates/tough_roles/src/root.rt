@@ -22,7 +22,7 @@ use tough_json::text::value_of;
 use tough_keys::Key;
 
 /// The identifiers that a role lists, and how many of them must sign.
-#[derive(Drop, PartialEq)]
+#[derive(Debug, Drop, PartialEq)]
 pub struct RoleKeys {
     pub keyids: Vec<Decoded<Hex>>,
     pub threshold: NonZeroU64,
@@ -30,7 +30,7 @@ pub struct RoleKeys {
 }
 
 /// The keys of all roles (TUF specification 1.0, section 4.3).
-#[derive(Drop, PartialEq)]
+#[derive(Debug, Drop, PartialEq)]
 pub struct Root {
     pub spec_version: String,
     pub consistent_snapshot: bool,
@@ -91,7 +91,7 @@ impl Role for Root {
     }
 
     fn filename(&self, alloc: Global, _consistent_snapshot: bool) -> Result<String, AllocError> {
-        versioned(alloc, self.version, "root.json")
+        versioned(alloc, self.version.get(), "root.json")
     }
 
     fn role_id(&self) -> Result<RoleId, AllocError> {

@@ -1,7 +1,7 @@
 use tough_base::{Decoded, Hex};
 
 /// A signature, and the identifier of the key that it is by.
-#[derive(Drop, PartialEq)]
+#[derive(Debug, Drop, PartialEq)]
 pub struct Signature {
     pub keyid: Decoded<Hex>,
     pub sig: Decoded<Hex>,

@@ -21,7 +21,7 @@ use tough_json::text::bytes_of;
 use tough_json::{Form, PieceError};
 
 /// A role with its signatures.
-#[derive(Drop, PartialEq)]
+#[derive(Debug, Drop, PartialEq)]
 pub struct Signed<T> {
     pub signed: T,
     pub signatures: Vec<Signature>,

@@ -22,7 +22,7 @@ use tough_json::error::{ReadError, WriteError};
 use tough_json::text::value_of;
 
 /// Which versions of the other metadata files are current (TUF specification 1.0, section 4.4).
-#[derive(Drop, PartialEq)]
+#[derive(Debug, Drop, PartialEq)]
 pub struct Snapshot {
     pub spec_version: String,
     pub version: NonZeroU64,

@@ -20,14 +20,14 @@ use tough_json::error::{ReadError, WriteError};
 use tough_json::text::value_of;
 
 /// The digest of a file.
-#[derive(Drop, PartialEq)]
+#[derive(Debug, Drop, PartialEq)]
 pub struct Hashes {
     pub sha256: Decoded<Hex>,
     pub _extra: Map<String, Value>,
 }
 
 /// What is said of a metadata file: its version, and its length and digest where they are stated.
-#[derive(Drop, PartialEq)]
+#[derive(Debug, Drop, PartialEq)]
 pub struct Metafile {
     pub length: Option<u64>,
     pub hashes: Option<Hashes>,
@@ -36,7 +36,7 @@ pub struct Metafile {
 }
 
 /// Which snapshot is current (TUF specification 1.0, section 4.6).
-#[derive(Drop, PartialEq)]
+#[derive(Debug, Drop, PartialEq)]
 pub struct Timestamp {
     pub spec_version: String,
     pub version: NonZeroU64,

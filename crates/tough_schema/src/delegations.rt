@@ -15,7 +15,7 @@ use tough_roles::keyring::key_id_in;
 
 /// The names that a delegated role may list: those that a pattern matches, or those whose digest begins with a prefix
 /// (TUF specification 1.0, section 4.5, `paths` and `path_hash_prefixes`).
-#[derive(Drop, PartialEq)]
+#[derive(Debug, Drop, PartialEq)]
 pub enum PathSet {
     Paths(Vec<PathPattern>),
     PathHashPrefixes(Vec<PathHashPrefix>),
@@ -23,7 +23,7 @@ pub enum PathSet {
 
 /// The roles that a document delegates to, in their order, and their keys (TUF specification 1.0, section 4.5,
 /// `delegations`).
-#[derive(PartialEq)]
+#[derive(Debug, PartialEq)]
 #[cycle(tree)]
 pub struct Delegations {
     pub keys: BTreeMap<Decoded<Hex>, Key>,
@@ -79,7 +79,7 @@ impl Drop for Delegations {
 }
 
 /// A delegated role, and its document where it was loaded; the document is no member of the JSON.
-#[derive(Drop, PartialEq)]
+#[derive(Debug, Drop, PartialEq)]
 #[cycle(tree)]
 pub struct DelegatedRole {
     pub name: String,

@@ -3,7 +3,7 @@ use tough_roles::Hashes;
 
 /// What is said of a target file: its length, its digest, and what an application says of it (TUF specification 1.0,
 /// section 4.5, TARGETS).
-#[derive(Drop, PartialEq)]
+#[derive(Debug, Drop, PartialEq)]
 pub struct Target {
     pub length: u64,
     pub hashes: Hashes,

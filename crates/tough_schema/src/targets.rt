@@ -24,7 +24,7 @@ use tough_roles::names::file_name;
 use tough_roles::{Role, RoleId, RoleType};
 
 /// Which targets there are, and who else may list some (TUF specification 1.0, section 4.5).
-#[derive(Drop, PartialEq)]
+#[derive(Debug, Drop, PartialEq)]
 #[cycle(tree)]
 pub struct Targets {
     pub spec_version: String,
@@ -36,7 +36,7 @@ pub struct Targets {
 }
 
 /// The document of a delegated role, under the role's name. Its JSON is that of the targets; it hasn't the name.
-#[derive(Drop, PartialEq)]
+#[derive(Debug, Drop, PartialEq)]
 #[cycle(tree)]
 pub struct DelegatedTargets {
     pub name: String,

@@ -13,7 +13,7 @@ use Rattle.tough_vault.specs.Documents.{timestamp_in, snapshot_in, metafile_in}
 use Rattle.tough_vault.specs.Files.{snapshot_file, targets_file}
 use Rattle.tough_update.specs.declared.limits.Limits.{Limits}
 use Rattle.tough_update.specs.Failure.{Failure, ParseMetadata, MaxUpdatesExceeded, Checked}
-use Rattle.tough_update.specs.Walk.{if_read, root_in, first_root, next_root}
+use Rattle.tough_update.specs.Walk.{holds_json, if_read, root_in, first_root, next_root}
 use Rattle.tough_update.specs.Requests.{RequestDoc, root_request, timestamp_request}
 use Rattle.tough_update.specs.Rotation.{is_rotated}
 use Rattle.tough_update.specs.Listed.{bare_targets}
@@ -231,8 +231,8 @@ module _ (v : Verifies) (c : CoreDoc) where
           let one : root.role.head.version ≡ w.first.role.head.version + suc t.0 = omega (arith, version, t.1.1) in
           let le : suc t.0 ≤ c.setting.limits.max_root_updates = omega (arith, t.2) in
           (suc t.0, (t.1.0, one, over-more w t.0 r (asked-one (at.Fetch (at.Root w) r) r l.1 (ap (fetched (ask.Fetch r)) (sym l.0))) t.1 t.3), le))
-      read-counts (at.Timestamp b) r bytes t l = if_read-counts (ParseMetadata role.Timestamp) (timestamp_in bytes) (λ d. at.Step (at.PutTimestamp b d)) (λ d. few-fetched 0 (at.Timestamp b) r l.1 t (fetched-one r a))
-      read-counts (at.Snapshot b s m) r bytes t l = if_read-counts (ParseMetadata role.Snapshot) (snapshot_in bytes) (λ d. at.Step (at.PutSnapshot (known_of b s d) m)) (λ d. few-fetched 1 (at.Snapshot b s m) r l.1 t (fetched-one r a))
+      read-counts (at.Timestamp b) r bytes t l = if_read-counts (ParseMetadata role.Timestamp (holds_json bytes)) (timestamp_in bytes) (λ d. at.Step (at.PutTimestamp b d)) (λ d. few-fetched 0 (at.Timestamp b) r l.1 t (fetched-one r a))
+      read-counts (at.Snapshot b s m) r bytes t l = if_read-counts (ParseMetadata role.Snapshot (holds_json bytes)) (snapshot_in bytes) (λ d. at.Step (at.PutSnapshot (known_of b s d) m)) (λ d. few-fetched 1 (at.Snapshot b s m) r l.1 t (fetched-one r a))
       read-counts (at.Targets k m) r bytes t l = and_then-fine (Counts next) bad (bare_targets bytes) (accepted_targets v c.setting.enforced k m) (λ d _.
           and_then-fine (Counts next) bad (targets_checked v c.setting.enforced k m d) (λ u. Ok (at.Step (at.PutTargets k d))) (λ u _. enough))
 

@@ -15,7 +15,7 @@ use Rattle.tough_vault.specs.Documents.{timestamp_in, snapshot_in, metafile_in}
 use Rattle.tough_vault.specs.Files.{snapshot_file, targets_file}
 use Rattle.tough_vault.specs.Act.{Act, ClearRotated}
 use Rattle.tough_update.specs.Failure.{Failure, ParseTrustedMetadata, VerifyTrustedMetadata, ParseMetadata, MaxUpdatesExceeded, Checked}
-use Rattle.tough_update.specs.Walk.{if_read, if_verified, root_in, root_verdict, first_root, next_root}
+use Rattle.tough_update.specs.Walk.{holds_json, if_read, if_verified, root_in, root_verdict, first_root, next_root}
 use Rattle.tough_update.specs.Outcomes.{unless}
 use Rattle.tough_update.specs.Requests.{RequestDoc, root_request, timestamp_request}
 use Rattle.tough_update.specs.Rotation.{is_rotated}
@@ -37,7 +37,7 @@ use Rattle.tough_update.proofs.Prefixes.{in_stage, longer, run-last, run-same, w
 pub first-read : (v : Verifies) (bytes : List ℕ) (root : SignedDoc RootDoc) → first_root v bytes ≡ Ok root → root_in bytes ≡ Some root
 first-read v bytes root h =
     let fault : Refused → Failure = λ x. VerifyTrustedMetadata (Some x) in
-    let r = if_read-ok ParseTrustedMetadata (root_in bytes) (λ d. if_verified fault (root_verdict v d.role d) (Ok d)) root h in
+    let r = if_read-ok (ParseTrustedMetadata (holds_json bytes)) (root_in bytes) (λ d. if_verified fault (root_verdict v d.role d) (Ok d)) root h in
     let u = if_verified-ok fault (root_verdict v r.0.role r.0) (Ok r.0) root r.2 in
     r.1 ∙ ap Some (ok-same r.0 root (Ok r.0) refl u.1)
 
@@ -184,8 +184,8 @@ module _ (v : Verifies) (c : CoreDoc) where
     read-tells : (w : WantedDoc) (r : RequestDoc) (bytes : List ℕ) → Tells h (at.Fetch w r) → Goes (read_wanted v c.setting.enforced w bytes)
     read-tells (at.Root w) r bytes t = and_then-fine (Tells next) (bad next) (next_root v w.last.role bytes) (λ root. Ok (at.Step (at.PutRoot (record { start = w.start; first = w.first; last = root })))) (λ root is.
         (t.0.0, followed w.last root t.0.1 (next-fine v w.last bytes root is)))
-    read-tells (at.Timestamp b) r bytes t = if_read-tells (ParseMetadata role.Timestamp) (timestamp_in bytes) (λ d. at.Step (at.PutTimestamp b d)) (λ d. tt)
-    read-tells (at.Snapshot b s n) r bytes t = if_read-tells (ParseMetadata role.Snapshot) (snapshot_in bytes) (λ d. at.Step (at.PutSnapshot (known_of b s d) n)) (λ d. tt)
+    read-tells (at.Timestamp b) r bytes t = if_read-tells (ParseMetadata role.Timestamp (holds_json bytes)) (timestamp_in bytes) (λ d. at.Step (at.PutTimestamp b d)) (λ d. tt)
+    read-tells (at.Snapshot b s n) r bytes t = if_read-tells (ParseMetadata role.Snapshot (holds_json bytes)) (snapshot_in bytes) (λ d. at.Step (at.PutSnapshot (known_of b s d) n)) (λ d. tt)
     read-tells (at.Targets k n) r bytes t = and_then-fine (Tells next) (bad next) (bare_targets bytes) (accepted_targets v c.setting.enforced k n) (λ d _.
         and_then-fine (Tells next) (bad next) (targets_checked v c.setting.enforced k n d) (λ u. Ok (at.Step (at.PutTargets k d))) (λ u _. tt))
 

@@ -4,6 +4,10 @@ use Rattle.std.proofs.Common.{refl, sym, ◌∙◌, ap, subst, arith}
 use Rattle.std.proofs.lemmas.Bool.{eq-eqb, lt-ltb}
 use Rattle.std.proofs.Math.Nat.{sub_self}
 use Rattle.serde_json.specs.Data.{Data}
+use Rattle.tough_net.specs.declared.error.TransportError.{TransportError}
+use Rattle.tough_net.specs.declared.error.TransportErrorKind.{TransportErrorKind}
+use Rattle.tough_net.specs.declared.error.TransportErrorKind.TheVariants as kind
+use Rattle.tough_net.specs.Errors.{error_kind}
 use Rattle.tough_keys.specs.Same.{Verifies}
 use Rattle.tough_roles.specs.Signature.{SignedDoc}
 use Rattle.tough_roles.specs.Root.{RootDoc, root_json}
@@ -23,7 +27,7 @@ use Rattle.tough_vault.specs.Act.{Act}
 use Rattle.tough_vault.specs.Act as act
 use Rattle.tough_vault.specs.Files.{snapshot_file, targets_file}
 use Rattle.tough_update.specs.Failure.{Failure, ParseTrustedMetadata, VerifyTrustedMetadata, ParseMetadata, MaxUpdatesExceeded, Checked}
-use Rattle.tough_update.specs.Walk.{if_read, if_verified, root_in, root_verdict, first_root}
+use Rattle.tough_update.specs.Walk.{holds_json, if_read, if_verified, root_in, root_verdict, first_root}
 use Rattle.tough_update.specs.Outcomes.{unless, and_then}
 use Rattle.tough_update.specs.Requests.{RequestDoc, fits_request, root_request, timestamp_request, snapshot_request, targets_request}
 use Rattle.tough_update.specs.Rotation.{is_rotated}
@@ -31,11 +35,12 @@ use Rattle.tough_update.specs.Listed.{targets_in, targets_text, targets_verdict,
 use Rattle.tough_update.specs.Stages.{WalkDoc, BaseDoc, LoadedDoc, StageDoc, SettingDoc, CoreDoc}
 use Rattle.tough_update.specs.Stages as at
 use Rattle.tough_update.specs.Questions as ask
-use Rattle.tough_update.specs.Answered.{NotFound, AnswerDoc}
+use Rattle.tough_update.specs.declared.request.Fault.TheVariants as fault
+use Rattle.tough_update.specs.Answered.{AnswerDoc}
 use Rattle.tough_update.specs.Answered as got
-use Rattle.tough_update.specs.Machine.{question, question_at, answered, settled, stage_after, walked, began, base_of, walk_ended, want_snapshot, known_of, want_targets, targets_checked, accepted_targets, new_targets}
+use Rattle.tough_update.specs.Machine.{is_memory, fault_failure, question, question_at, answered, settled, stage_after, walked, began, base_of, walk_ended, want_snapshot, known_of, want_targets, targets_checked, accepted_targets, new_targets}
 use Rattle.tough_update.specs.Runs.{run, IsFresh}
-use Rattle.tough_update.specs.Loadable.{Files, delivered, Gets, refusal_at_first, step_answer, Honest, AllHonest, Loadable, IsLoaded}
+use Rattle.tough_update.specs.Loadable.{Files, Delivers, Gets, refusal_at_first, step_answer, Honest, AllHonest, Loadable, IsLoaded}
 use Rattle.tough_update.proofs.Alike.{not-rotated}
 
 signed-ok : {A : Type 0} (v : Verifies) (holder : RootDoc) (type : RoleType) (json : A → Option Data) (d : SignedDoc A) → ReachesUnder v holder type json d
@@ -44,9 +49,9 @@ signed-ok v holder type json d r =
     ap (λ p. verdict v p (text_by json d.role) d.signatures) r.there ∙ (ap (λ t. verdict v (Some r.asked) t d.signatures) r.canonical ∙ reaches-to v r.asked r.text d.signatures r.reached)
 
 gets-bytes : (r : RequestDoc) (o : Option (List ℕ)) (bytes : List ℕ) → o ≡ Some bytes → fits_request r bytes ≡ true → (x : AnswerDoc) → Gets r o x → x ≡ got.Bytes bytes
-gets-bytes r o bytes e f x h = subst (λ p. Gets r p x) e h ∙ ap (λ b. delivered b bytes) f
+gets-bytes r o bytes e f x h = subst (λ b. Delivers b bytes x) f (subst (λ p. Gets r p x) e h)
 
-gets-none : (r : RequestDoc) (o : Option (List ℕ)) → o ≡ None → (x : AnswerDoc) → Gets r o x → x ≡ got.NotStarted NotFound
+gets-none : (r : RequestDoc) (o : Option (List ℕ)) → o ≡ None → (x : AnswerDoc) → Gets r o x → (e : TransportError) × (x ≡ got.NotStarted (fault.Transport e)) × (error_kind e ≡ kind.FileNotFound)
 gets-none r o e x h = subst (λ p. Gets r p x) e h
 
 -- what has a text can be stored
@@ -75,12 +80,18 @@ module _ (v : Verifies) (files : Files) (s : SettingDoc) (l : LoadedDoc) (able :
   Leads n st = (answers : List AnswerDoc) → AllHonest v files l.known.start (in_stage st) answers
       → (length answers ≤ n) × (length answers ≡ n → question (run v (in_stage st) answers) ≡ ask.Ready) × (question (run v (in_stage st) answers) ≡ ask.Ready → (run v (in_stage st) answers).stage ≡ at.Done (Ok l))
 
+  -- each honest answer moves to the next stage
+  leads-on : (n : ℕ) (st next : StageDoc) → (question_at s.enforced st ≡ ask.Ready → ⊥)
+      → ((x : AnswerDoc) → Honest v files l.known.start (question_at s.enforced st) x → settled (stage_after v s st x) ≡ next) → Leads n next → Leads (n + 1) st
+  leads-on n st next busy moves go [] h = (omega arith, λ e. absurd (omega (arith, e)), λ ready. absurd (busy ready))
+  leads-on n st next busy moves go (x ∷ rest) h =
+      let more = (subst (λ y. Leads n y) (sym (moves x h.0)) go) rest h.1 in
+      (one-more (length rest) n more.0, λ e. more.1 (one-less (length rest) n e), more.2)
+
+  -- the same where one answer alone is honest
   leads-turn : (n : ℕ) (st next : StageDoc) (a : AnswerDoc) → (question_at s.enforced st ≡ ask.Ready → ⊥) → ((x : AnswerDoc) → Honest v files l.known.start (question_at s.enforced st) x → x ≡ a)
       → settled (stage_after v s st a) ≡ next → Leads n next → Leads (n + 1) st
-  leads-turn n st next a busy only moves go [] h = (omega arith, λ e. absurd (omega (arith, e)), λ ready. absurd (busy ready))
-  leads-turn n st next a busy only moves go (x ∷ rest) h =
-      let more = (subst (λ y. Leads n y) (sym (ap (λ y. settled (stage_after v s st y)) (only x h.0) ∙ moves)) go) rest h.1 in
-      (one-more (length rest) n more.0, λ e. more.1 (one-less (length rest) n e), more.2)
+  leads-turn n st next a busy only moves go = leads-on n st next busy (λ x h. ap (λ y. settled (stage_after v s st y)) (only x h) ∙ moves) go
 
   leads-done : Leads 0 (at.Done (Ok l))
   leads-done [] h = (omega arith, λ e. refl, λ ready. refl)
@@ -144,8 +155,8 @@ module _ (v : Verifies) (files : Files) (s : SettingDoc) (l : LoadedDoc) (able :
 
   taken : (bytes : List ℕ) → targets_in bytes ≡ Some l.targets → bare_targets bytes ≡ Ok l.targets
   taken bytes h =
-      ap (λ o. if_read (ParseMetadata role.Targets) o (λ d. unless (ParseMetadata role.Targets) (not (lists_roles d.role.delegations)) (Ok d))) h
-      ∙ ap (λ b. unless (ParseMetadata role.Targets) (not b) (Ok l.targets)) able.no_roles
+      ap (λ o. if_read (ParseMetadata role.Targets (holds_json bytes)) o (λ d. unless (ParseMetadata role.Targets true) (not (lists_roles d.role.delegations)) (Ok d))) h
+      ∙ ap (λ b. unless (ParseMetadata role.Targets true) (not b) (Ok l.targets)) able.no_roles
 
   checked : targets_checked v s.enforced l.known able.targets_entry.version l.targets ≡ Ok (tt {0})
   checked =
@@ -177,7 +188,7 @@ module _ (v : Verifies) (files : Files) (s : SettingDoc) (l : LoadedDoc) (able :
   leads-fetch_snapshot : Leads 4 snapshot_wanted
   leads-fetch_snapshot = leads-turn 3 snapshot_wanted (at.Step (at.PutSnapshot l.known able.entry.version)) (got.Bytes able.snapshot.bytes) (λ e. cc)
       (gets-bytes (snapshot_request s.limits l.known.root.role.consistent_snapshot able.entry) _ able.snapshot.bytes able.snapshot.served able.snapshot.fits)
-      (ap (λ o. settled (if_read (ParseMetadata role.Snapshot) o (λ d. Ok (at.Step (at.PutSnapshot (known_of base l.known.timestamp d) able.entry.version))))) able.snapshot.reading)
+      (ap (λ o. settled (if_read (ParseMetadata role.Snapshot (holds_json able.snapshot.bytes)) o (λ d. Ok (at.Step (at.PutSnapshot (known_of base l.known.timestamp d) able.entry.version))))) able.snapshot.reading)
       leads-put_snapshot
 
   leads-put_timestamp : Leads 5 (at.Step (at.PutTimestamp base l.known.timestamp))
@@ -187,7 +198,7 @@ module _ (v : Verifies) (files : Files) (s : SettingDoc) (l : LoadedDoc) (able :
   leads-fetch_timestamp : Leads 6 (at.Fetch (at.Timestamp base) (timestamp_request s.limits))
   leads-fetch_timestamp = leads-turn 5 (at.Fetch (at.Timestamp base) (timestamp_request s.limits)) (at.Step (at.PutTimestamp base l.known.timestamp)) (got.Bytes able.timestamp.bytes) (λ e. cc)
       (gets-bytes (timestamp_request s.limits) _ able.timestamp.bytes able.timestamp.served able.timestamp.fits)
-      (ap (λ o. settled (if_read (ParseMetadata role.Timestamp) o (λ d. Ok (at.Step (at.PutTimestamp base d))))) able.timestamp.reading)
+      (ap (λ o. settled (if_read (ParseMetadata role.Timestamp (holds_json able.timestamp.bytes)) o (λ d. Ok (at.Step (at.PutTimestamp base d))))) able.timestamp.reading)
       leads-put_timestamp
 
   leads-put_last : Leads 7 (at.Step (at.PutLast walk))
@@ -202,13 +213,19 @@ module _ (v : Verifies) (files : Files) (s : SettingDoc) (l : LoadedDoc) (able :
   abbrev root_wanted : StageDoc
   root_wanted = at.Fetch (at.Root walk) (root_request s.limits (l.known.root.role.head.version + 1))
 
+  walk-ends : (x : AnswerDoc) → (e : TransportError) × (x ≡ got.NotStarted (fault.Transport e)) × (error_kind e ≡ kind.FileNotFound) → settled (stage_after v s root_wanted x) ≡ at.Step (at.PutLast walk)
+  walk-ends x (e, is, missing) =
+      let name : List ℕ = (root_request s.limits (l.known.root.role.head.version + 1)).name in
+      ap (λ y. settled (stage_after v s root_wanted y)) is
+      ∙ ap (λ k. settled (if not (is_memory k) then Ok (at.Step (at.PutLast walk)) else Err (fault_failure name (fault.Transport e)))) missing
+
   leads-fetch_root : Leads 8 root_wanted
-  leads-fetch_root = leads-turn 7 root_wanted (at.Step (at.PutLast walk)) (got.NotStarted NotFound) (λ e. cc) (gets-none (root_request s.limits (l.known.root.role.head.version + 1)) _ able.no_next) refl leads-put_last
+  leads-fetch_root = leads-on 7 root_wanted (at.Step (at.PutLast walk)) (λ e. cc) (λ x h. walk-ends x (gets-none (root_request s.limits (l.known.root.role.head.version + 1)) _ able.no_next x h)) leads-put_last
 
   first : first_root v s.trusted ≡ Ok l.known.root
   first =
       let fault : Refused → Failure = λ r. VerifyTrustedMetadata (Some r) in
-      ap (λ o. if_read ParseTrustedMetadata o (λ d. if_verified fault (root_verdict v d.role d) (Ok d))) able.root
+      ap (λ o. if_read (ParseTrustedMetadata (holds_json s.trusted)) o (λ d. if_verified fault (root_verdict v d.role d) (Ok d))) able.root
       ∙ ap (λ w. if_verified fault w (Ok l.known.root)) (signed-ok v l.known.root.role role.Root root_json l.known.root able.root_signed)
 
   begins : walked s.limits walk ≡ Ok root_wanted

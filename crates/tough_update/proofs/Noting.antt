@@ -11,7 +11,7 @@ use Rattle.tough_vault.specs.Documents.{timestamp_in, snapshot_in, metafile_in}
 use Rattle.tough_vault.specs.Files.{snapshot_file, targets_file}
 use Rattle.tough_vault.specs.Act.{NoteTime}
 use Rattle.tough_update.specs.Failure.{Failure, ParseMetadata, MaxUpdatesExceeded, Checked}
-use Rattle.tough_update.specs.Walk.{if_read, first_root, next_root}
+use Rattle.tough_update.specs.Walk.{holds_json, if_read, first_root, next_root}
 use Rattle.tough_update.specs.Requests.{RequestDoc, root_request, timestamp_request}
 use Rattle.tough_update.specs.Rotation.{is_rotated}
 use Rattle.tough_update.specs.Listed.{bare_targets}
@@ -63,8 +63,8 @@ want_targets-late s k (Some m) = tt
 module _ (v : Verifies) where
   read-late : (s : SettingDoc) (w : WantedDoc) (bytes : List ℕ) → Fine Late bad (read_wanted v s.enforced w bytes)
   read-late s (at.Root w) bytes = and_then-fine Late bad (next_root v w.last.role bytes) (λ root. Ok (at.Step (at.PutRoot (record { start = w.start; first = w.first; last = root })))) (λ root _. tt)
-  read-late s (at.Timestamp b) bytes = if_read-late (ParseMetadata role.Timestamp) (timestamp_in bytes) (λ t. at.Step (at.PutTimestamp b t)) (λ t. tt)
-  read-late s (at.Snapshot b t n) bytes = if_read-late (ParseMetadata role.Snapshot) (snapshot_in bytes) (λ d. at.Step (at.PutSnapshot (known_of b t d) n)) (λ d. tt)
+  read-late s (at.Timestamp b) bytes = if_read-late (ParseMetadata role.Timestamp (holds_json bytes)) (timestamp_in bytes) (λ t. at.Step (at.PutTimestamp b t)) (λ t. tt)
+  read-late s (at.Snapshot b t n) bytes = if_read-late (ParseMetadata role.Snapshot (holds_json bytes)) (snapshot_in bytes) (λ d. at.Step (at.PutSnapshot (known_of b t d) n)) (λ d. tt)
   read-late s (at.Targets k n) bytes = and_then-fine Late bad (bare_targets bytes) (accepted_targets v s.enforced k n) (λ d _.
       and_then-fine Late bad (targets_checked v s.enforced k n d) (λ u. Ok (at.Step (at.PutTargets k d))) (λ u _. tt))
 

@@ -20,7 +20,7 @@ use Rattle.tough_vault.specs.Documents.{timestamp_in, snapshot_in, metafile_in, 
 use Rattle.tough_vault.specs.Files.{snapshot_file, targets_file}
 use Rattle.tough_update.specs.declared.limits.Limits.{Limits}
 use Rattle.tough_update.specs.Failure.{Failure, ParseTrustedMetadata, VerifyTrustedMetadata, ParseMetadata, MaxUpdatesExceeded, Checked}
-use Rattle.tough_update.specs.Walk.{first_root, next_root, root_in, root_verdict, if_read, if_verified, if_next}
+use Rattle.tough_update.specs.Walk.{holds_json, first_root, next_root, root_in, root_verdict, if_read, if_verified, if_next}
 use Rattle.tough_update.specs.Requests.{RequestDoc, bound, stated_digest, has_digest, fits_request, root_request, timestamp_request}
 use Rattle.tough_schema.specs.Targets.{TargetsDoc, targets_json}
 use Rattle.tough_update.specs.Outcomes.{unless, and_then}
@@ -95,7 +95,7 @@ not-true false h = refl
 
 pub first-fine : (verifies : Verifies) (bytes : List ℕ) (root : SignedDoc RootDoc) → first_root verifies bytes ≡ Ok root → Chain verifies bytes root
 first-fine verifies bytes root h =
-    let r = if_read-ok ParseTrustedMetadata (root_in bytes) (λ d. if_verified (λ x. VerifyTrustedMetadata (Some x)) (root_verdict verifies d.role d) (Ok d)) root h in
+    let r = if_read-ok (ParseTrustedMetadata (holds_json bytes)) (root_in bytes) (λ d. if_verified (λ x. VerifyTrustedMetadata (Some x)) (root_verdict verifies d.role d) (Ok d)) root h in
     let v = if_verified-ok (λ x. VerifyTrustedMetadata (Some x)) (root_verdict verifies r.0.role r.0) (Ok r.0) root r.2 in
     let same : r.0 ≡ root = ok-same r.0 root (Ok r.0) refl v.1 in
     subst (λ (x : SignedDoc RootDoc). Chain verifies bytes x) same (handed_in r.0 r.1 (under verifies r.0.role r.0 v.0))
@@ -103,7 +103,7 @@ first-fine verifies bytes root h =
 pub next-fine : (verifies : Verifies) (old : SignedDoc RootDoc) (bytes : List ℕ) (root : SignedDoc RootDoc) → next_root verifies old.role bytes ≡ Ok root → IsNext verifies old root
 next-fine verifies old bytes root h =
     let fault : Refused → Failure = λ x. Checked (VerifyMetadata role.Root (Some x)) in
-    let r = if_read-ok (ParseMetadata role.Root) (root_in bytes) (λ d. if_verified fault (root_verdict verifies old.role d) (if_verified fault (root_verdict verifies d.role d) (if_next old.role d))) root h in
+    let r = if_read-ok (ParseMetadata role.Root (holds_json bytes)) (root_in bytes) (λ d. if_verified fault (root_verdict verifies old.role d) (if_verified fault (root_verdict verifies d.role d) (if_next old.role d))) root h in
     let u = if_verified-ok fault (root_verdict verifies old.role r.0) (if_verified fault (root_verdict verifies r.0.role r.0) (if_next old.role r.0)) root r.2 in
     let v = if_verified-ok fault (root_verdict verifies r.0.role r.0) (if_next old.role r.0) root u.1 in
     let n = if-ok (r.0.role.head.version == old.role.head.version + 1) r.0 root (Checked (OlderMetadata role.Root old.role.head.version r.0.role.head.version)) v.1 in
@@ -112,15 +112,15 @@ next-fine verifies old bytes root h =
 -- targets that were taken are what the bytes are
 pub bare-read : (bytes : List ℕ) (d : SignedDoc TargetsDoc) → bare_targets bytes ≡ Ok d → targets_in bytes ≡ Some d
 bare-read bytes d h =
-    let r = if_read-ok (ParseMetadata role.Targets) (targets_in bytes) (λ x. unless (ParseMetadata role.Targets) (not (lists_roles x.role.delegations)) (Ok x)) d h in
-    let n = if-ok (not (lists_roles r.0.role.delegations)) r.0 d (ParseMetadata role.Targets) r.2 in
+    let r = if_read-ok (ParseMetadata role.Targets (holds_json bytes)) (targets_in bytes) (λ x. unless (ParseMetadata role.Targets true) (not (lists_roles x.role.delegations)) (Ok x)) d h in
+    let n = if-ok (not (lists_roles r.0.role.delegations)) r.0 d (ParseMetadata role.Targets true) r.2 in
     r.1 ∙ ap Some n.1
 
 -- and they list no roles
 pub bare-none : (bytes : List ℕ) (d : SignedDoc TargetsDoc) → bare_targets bytes ≡ Ok d → lists_roles d.role.delegations ≡ false
 bare-none bytes d h =
-    let r = if_read-ok (ParseMetadata role.Targets) (targets_in bytes) (λ x. unless (ParseMetadata role.Targets) (not (lists_roles x.role.delegations)) (Ok x)) d h in
-    let n = if-ok (not (lists_roles r.0.role.delegations)) r.0 d (ParseMetadata role.Targets) r.2 in
+    let r = if_read-ok (ParseMetadata role.Targets (holds_json bytes)) (targets_in bytes) (λ x. unless (ParseMetadata role.Targets true) (not (lists_roles x.role.delegations)) (Ok x)) d h in
+    let n = if-ok (not (lists_roles r.0.role.delegations)) r.0 d (ParseMetadata role.Targets true) r.2 in
     subst (λ (x : SignedDoc TargetsDoc). lists_roles x.role.delegations ≡ false) n.1 (not-true _ n.0)
 
 unless-ok : {A : Type 0} (f : Failure) (b : Bool) (r : Result A Failure) (a : A) → unless f b r ≡ Ok a → IsTrue b × (r ≡ Ok a)
@@ -243,9 +243,9 @@ module _ (verifies : Verifies) (s : SettingDoc) (N : ℤ → Type 0) (E : Signed
         if-fine Holds bad (is_rotated w.first.role w.last.role) (Ok (at.Step (at.Clear (base_of w)))) (Ok (at.Fetch (at.Timestamp (base_of w)) (timestamp_request s.limits)))
         (λ _. (n, c, e, not-true _ t)) (n, c, e, not-true _ t))
 
-    new_timestamp-fine : (b : BaseDoc) (o : Option (SignedDoc TimestampDoc)) → BaseFine b.start b.root → Fine Holds bad (if_read (ParseMetadata role.Timestamp) o (λ t. Ok (at.Step (at.PutTimestamp b t))))
-    new_timestamp-fine b None h = tt
-    new_timestamp-fine b (Some t) h = h
+    new_timestamp-fine : (b : BaseDoc) (bytes : List ℕ) (o : Option (SignedDoc TimestampDoc)) → BaseFine b.start b.root → Fine Holds bad (if_read (ParseMetadata role.Timestamp (holds_json bytes)) o (λ t. Ok (at.Step (at.PutTimestamp b t))))
+    new_timestamp-fine b bytes None h = tt
+    new_timestamp-fine b bytes (Some t) h = h
 
     want_snapshot-fine : (b : BaseDoc) (t : SignedDoc TimestampDoc) (o : Option MetafileDoc) → metafile_in t.role.meta snapshot_file ≡ o
         → BaseFine b.start b.root → TimestampFine b.start b.root t → Fine Holds bad (want_snapshot s.limits b t o)
@@ -269,7 +269,7 @@ module _ (verifies : Verifies) (s : SettingDoc) (N : ℤ → Type 0) (E : Signed
         )
 
     new_snapshot-fine : (b : BaseDoc) (t : SignedDoc TimestampDoc) (listed : ℕ) (r : RequestDoc) (bytes : List ℕ) (o : Option (SignedDoc SnapshotDoc)) → snapshot_in bytes ≡ o
-        → IsTrue (fits_request r bytes) → HoldsWanted (at.Snapshot b t listed) r → Fine Holds bad (if_read (ParseMetadata role.Snapshot) o (λ d. Ok (at.Step (at.PutSnapshot (known_of b t d) listed))))
+        → IsTrue (fits_request r bytes) → HoldsWanted (at.Snapshot b t listed) r → Fine Holds bad (if_read (ParseMetadata role.Snapshot (holds_json bytes)) o (λ d. Ok (at.Step (at.PutSnapshot (known_of b t d) listed))))
     new_snapshot-fine b t listed r bytes None is fit h = tt
     new_snapshot-fine b t listed r bytes (Some d) is fit h = (h.0, h.1, named-by snapshot_in t.role.meta snapshot_file s.limits.max_snapshot_size listed r bytes d is fit h.2)
 
@@ -300,7 +300,7 @@ module _ (verifies : Verifies) (s : SettingDoc) (N : ℤ → Type 0) (E : Signed
 
     read-fine : (w : WantedDoc) (r : RequestDoc) (bytes : List ℕ) → Holds (at.Fetch w r) → Heard (at.Fetch w r) (got.Bytes bytes) → Fine Holds bad (read_wanted verifies s.enforced w bytes)
     read-fine (at.Root w) r bytes h l = new_root-fine w bytes h.0 h.1
-    read-fine (at.Timestamp b) r bytes h l = new_timestamp-fine b (timestamp_in bytes) h
+    read-fine (at.Timestamp b) r bytes h l = new_timestamp-fine b bytes (timestamp_in bytes) h
     read-fine (at.Snapshot b t listed) r bytes h l = new_snapshot-fine b t listed r bytes (snapshot_in bytes) refl l.0 h
     read-fine (at.Targets k listed) r bytes h l = new_targets-fine k listed r bytes l.0 h
 

@@ -1,15 +1,20 @@
 -- A fact of stages is kept by each answer where it is kept by each file that is read, by a root's fetch that ends the walk, and by each step.
-use Rattle.std.specs.Prelude.{◌≡◌, ℤ, List, Bool, true, false, IsTrue, Result, Ok, Err, ℕ, if◌then◌else◌}
-use Rattle.std.proofs.Common.{refl}
+use Rattle.std.specs.Prelude.{◌≡◌, ◌≢◌, not, ℤ, List, Bool, true, false, IsTrue, Result, Ok, Err, ℕ, if◌then◌else◌}
+use Rattle.std.proofs.Common.{refl, ap}
+use Rattle.tough_net.specs.declared.error.TransportErrorKind.{TransportErrorKind}
+use Rattle.tough_net.specs.declared.error.TransportErrorKind.TheVariants as kind
+use Rattle.tough_net.specs.Errors.{error_kind}
 use Rattle.tough_keys.specs.Same.{Verifies}
 use Rattle.tough_update.specs.Failure.{Failure}
 use Rattle.tough_update.specs.Outcomes.{unless, and_then}
 use Rattle.tough_update.specs.Requests.{RequestDoc}
 use Rattle.tough_update.specs.Stages.{WalkDoc, WantedDoc, PendingDoc, StageDoc, SettingDoc}
 use Rattle.tough_update.specs.Stages as at
-use Rattle.tough_update.specs.Answered.{FaultDoc, Unjoined, NotFound, Faulty, NoMemory, AnswerDoc}
+use Rattle.tough_update.specs.declared.request.Fault.{Fault}
+use Rattle.tough_update.specs.declared.request.Fault.TheVariants as fault
+use Rattle.tough_update.specs.Answered.{AnswerDoc}
 use Rattle.tough_update.specs.Answered as got
-use Rattle.tough_update.specs.Machine.{fault_failure, ends_start, ends_stream, read_wanted, after, settled, stage_after}
+use Rattle.tough_update.specs.Machine.{fault_failure, is_memory, is_missing, ends_start, ends_stream, read_wanted, after, settled, stage_after}
 use Rattle.tough_update.specs.Runs.{EndsWalk}
 
 module _ (P : StageDoc → Type 0) (bad : (f : Failure) → P (at.Done (Err f))) where
@@ -28,17 +33,22 @@ module _ (P : StageDoc → Type 0) (bad : (f : Failure) → P (at.Done (Err f)))
   and_then-fine (Ok a) f good = good a refl
   and_then-fine (Err e) f good = bad e
 
-start-ends : (f : FaultDoc) → IsTrue (ends_start f) → EndsWalk (got.NotStarted f)
-start-ends Unjoined h = cc
-start-ends NotFound h = tt
-start-ends Faulty h = tt
-start-ends NoMemory h = cc
+not-wanting : (k : TransportErrorKind) → IsTrue (not (is_memory k)) → k ≢ kind.Memory
+not-wanting k h e = cc (e, ap (λ x. not (is_memory x)) e, h)
 
-stream-ends : (f : FaultDoc) → IsTrue (ends_stream f) → EndsWalk (got.Cut f)
-stream-ends Unjoined h = cc
-stream-ends NotFound h = tt
-stream-ends Faulty h = cc
-stream-ends NoMemory h = cc
+is-missing : (k : TransportErrorKind) → IsTrue (is_missing k) → k ≡ kind.FileNotFound
+is-missing kind.UnsupportedUrlScheme h = cc
+is-missing kind.FileNotFound h = refl
+is-missing kind.Other h = cc
+is-missing kind.Memory h = cc
+
+start-ends : (f : Fault) → IsTrue (ends_start f) → EndsWalk (got.NotStarted f)
+start-ends (fault.JoinUrl e) h = cc
+start-ends (fault.Transport e) h = not-wanting (error_kind e) h
+
+stream-ends : (f : Fault) → IsTrue (ends_stream f) → EndsWalk (got.Cut f)
+stream-ends (fault.JoinUrl e) h = cc
+stream-ends (fault.Transport e) h = is-missing (error_kind e) h
 
 -- the answer is of the kind that the stage waits for
 abbrev pub waits : StageDoc → AnswerDoc → Bool
@@ -63,10 +73,10 @@ module _ (verifies : Verifies) (s : SettingDoc) (P Q : StageDoc → Type 0) (bad
   pub keeps-answer : Kept → (stage : StageDoc) (a : AnswerDoc) → P stage → Heard stage a → Fine Q bad (stage_after verifies s stage a)
   keeps-answer k at.Moment (got.Moment now) h l = k.moment now h l
   keeps-answer k (at.Fetch w r) (got.Bytes bytes) h l = k.read w r bytes h l
-  keeps-answer k (at.Fetch (at.Root w) r) (got.NotStarted f) h l = if-fine Q bad (ends_start f) (Ok (at.Step (at.PutLast w))) (Err (fault_failure f)) (λ e. k.ends w r (got.NotStarted f) (start-ends f e) h l) (bad (fault_failure f))
-  keeps-answer k (at.Fetch (at.Root w) r) (got.Cut f) h l = if-fine Q bad (ends_stream f) (Ok (at.Step (at.PutLast w))) (Err (fault_failure f)) (λ e. k.ends w r (got.Cut f) (stream-ends f e) h l) (bad (fault_failure f))
-  keeps-answer k (at.Fetch w r) (got.NotStarted f) h l = bad (fault_failure f)
-  keeps-answer k (at.Fetch w r) (got.Cut f) h l = bad (fault_failure f)
+  keeps-answer k (at.Fetch (at.Root w) r) (got.NotStarted f) h l = if-fine Q bad (ends_start f) (Ok (at.Step (at.PutLast w))) (Err (fault_failure r.name f)) (λ e. k.ends w r (got.NotStarted f) (start-ends f e) h l) (bad (fault_failure r.name f))
+  keeps-answer k (at.Fetch (at.Root w) r) (got.Cut f) h l = if-fine Q bad (ends_stream f) (Ok (at.Step (at.PutLast w))) (Err (fault_failure r.name f)) (λ e. k.ends w r (got.Cut f) (stream-ends f e) h l) (bad (fault_failure r.name f))
+  keeps-answer k (at.Fetch w r) (got.NotStarted f) h l = bad (fault_failure r.name f)
+  keeps-answer k (at.Fetch w r) (got.Cut f) h l = bad (fault_failure r.name f)
   keeps-answer k (at.Step p) (got.Step (Ok u)) h l = k.step p h l
   keeps-answer k (at.Step p) (got.Step (Err f)) h l = bad f
   keeps-answer k stage a h l = k.same stage a refl refl h l

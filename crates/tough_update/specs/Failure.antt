@@ -1,5 +1,9 @@
--- Why an update failed, apart from the texts of causes.
-use Rattle.std.specs.Prelude.{◌≡◌, ℕ, ℤ, List, Option, Result, Ok, Err, string_bytes, ⊤}
+-- Why an update failed, apart from the member that makes bytes no document.
+use Rattle.std.specs.Prelude.{◌≡◌, ℕ, ℤ, List, Option, Bool, true, false, Result, Ok, Err, string_bytes, ⊤}
+use Rattle.url.specs.declared.error.ParseError.{ParseError}
+use Rattle.tough_json.specs.declared.error.ReadError.{ReadError}
+use Rattle.tough_json.specs.declared.error.ReadError.TheVariants.{Shape}
+use Rattle.tough_net.specs.declared.error.TransportError.{TransportError}
 use Rattle.tough_roles.specs.declared.role_type.RoleType.{RoleType}
 use Rattle.tough_roles.specs.Verdict.{Refused}
 use Rattle.tough_vault.specs.Checks as check
@@ -10,20 +14,20 @@ use Rattle.tough_update.specs.declared.error.Error.{Error}
 use Rattle.tough_update.specs.declared.error.Error.TheVariants as error
 
 pub data Failure : Type 0 where
-  -- the bytes that were handed in are no signed root
-  ParseTrustedMetadata : Failure
+  -- the bytes that were handed in are no signed root; whether they are JSON
+  ParseTrustedMetadata : Bool → Failure
   -- the root that was handed in doesn't reach its own threshold
   VerifyTrustedMetadata : Option Refused → Failure
-  -- the bytes are no signed document of the role
-  ParseMetadata : RoleType → Failure
+  -- the bytes are no signed document of the role; whether they are JSON
+  ParseMetadata : RoleType → Bool → Failure
   -- so many new roots were met
   MaxUpdatesExceeded : ℕ → Failure
-  -- the base URL can't be parsed
-  ParseUrl : Failure
+  -- the base URL of this text can't be parsed
+  ParseUrl : List ℕ → ParseError → Failure
   -- the file's name can't be joined to the base URL
-  JoinUrl : Failure
-  -- the file couldn't be fetched
-  Transport : Failure
+  JoinUrl : List ℕ → ParseError → Failure
+  -- the file couldn't be fetched, and what the transport told
+  Transport : TransportError → Failure
   -- a check refused
   Checked : Reason → Failure
   -- the store couldn't read, write or remove the file of this name
@@ -32,14 +36,19 @@ pub data Failure : Type 0 where
   DatastoreRemove : List ℕ → Failure
   Memory : Failure
 
+-- whether what was refused is JSON
+abbrev pub is_json : ReadError → Bool
+is_json (Shape name) = true
+is_json _ = false
+
 abbrev pub failure_of : Error → Failure
-failure_of (error.ParseTrustedMetadata source) = ParseTrustedMetadata
+failure_of (error.ParseTrustedMetadata source) = ParseTrustedMetadata (is_json source)
 failure_of (error.VerifyTrustedMetadata source) = VerifyTrustedMetadata (refused source)
-failure_of (error.ParseMetadata role source) = ParseMetadata role
+failure_of (error.ParseMetadata role source) = ParseMetadata role (is_json source)
 failure_of (error.MaxUpdatesExceeded n) = MaxUpdatesExceeded n
-failure_of (error.ParseUrl url source) = ParseUrl
-failure_of (error.JoinUrl path source) = JoinUrl
-failure_of (error.Transport source) = Transport
+failure_of (error.ParseUrl url source) = ParseUrl (string_bytes url) source
+failure_of (error.JoinUrl path source) = JoinUrl (string_bytes path) source
+failure_of (error.Transport source) = Transport source
 failure_of (error.SystemTimeSteppedBackward now later) = Checked (check.SystemTimeSteppedBackward now.nanosecond later.nanosecond)
 failure_of error.DatastoreSerialize = Checked check.DatastoreSerialize
 failure_of (error.VerifyMetadata role source) = Checked (check.VerifyMetadata role (refused source))

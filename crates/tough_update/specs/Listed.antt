@@ -1,5 +1,5 @@
 -- Targets as an update takes them (TUF specification 1.0, section 5.6).
-use Rattle.std.specs.Prelude.{ℕ, List, length, Option, Some, None, Bool, false, not, nat_lt, option_and_then, Result, Ok}
+use Rattle.std.specs.Prelude.{ℕ, List, length, Option, Some, None, Bool, true, false, not, nat_lt, option_and_then, Result, Ok}
 use Rattle.tough_json.specs.Results.{json_of}
 use Rattle.tough_keys.specs.Same.{Verifies}
 use Rattle.tough_roles.specs.Signature.{SignedDoc, signed_at, signed_json}
@@ -12,7 +12,7 @@ use Rattle.tough_schema.specs.Delegations.{DelegationsDoc}
 use Rattle.tough_schema.specs.Targets.{TargetsDoc, targets_at, targets_json}
 use Rattle.tough_vault.specs.Documents.{stored_text}
 use Rattle.tough_update.specs.Failure.{Failure, ParseMetadata}
-use Rattle.tough_update.specs.Walk.{if_read}
+use Rattle.tough_update.specs.Walk.{if_read, holds_json}
 use Rattle.tough_update.specs.Outcomes.{unless}
 
 -- the signed targets that bytes are
@@ -33,4 +33,4 @@ lists_roles (Some g) = nat_lt 0 (length g.roles)
 
 -- targets that delegate to a role aren't taken yet
 abbrev pub bare_targets : List ℕ → Result (SignedDoc TargetsDoc) Failure
-bare_targets bytes = if_read (ParseMetadata role.Targets) (targets_in bytes) (λ d. unless (ParseMetadata role.Targets) (not (lists_roles d.role.delegations)) (Ok d))
+bare_targets bytes = if_read (ParseMetadata role.Targets (holds_json bytes)) (targets_in bytes) (λ d. unless (ParseMetadata role.Targets true) (not (lists_roles d.role.delegations)) (Ok d))

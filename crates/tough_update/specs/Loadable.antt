@@ -1,5 +1,8 @@
 -- Files that serve documents, and the answers of an honest transport, clock and store (TUF specification 1.0, section 5).
 use Rattle.std.specs.Prelude.{◌≡◌, ◌≢◌, ℕ, ℤ, ◌+◌, ◌-◌, ◌^◌, ◌<◌, ◌≤◌, List, [], ◌∷◌, length, Option, Some, None, Bool, true, false, ⊤, Ok, Err}
+use Rattle.tough_net.specs.declared.error.TransportError.{TransportError}
+use Rattle.tough_net.specs.declared.error.TransportErrorKind.TheVariants as kind
+use Rattle.tough_net.specs.Errors.{error_kind}
 use Rattle.tough_keys.specs.Same.{Verifies}
 use Rattle.tough_roles.specs.Root.{root_json}
 use Rattle.tough_roles.specs.Timestamp.{MetafileDoc, timestamp_json}
@@ -22,7 +25,8 @@ use Rattle.tough_update.specs.Failure.{Checked}
 use Rattle.tough_update.specs.Stages.{LoadedDoc, SettingDoc, CoreDoc, Done}
 use Rattle.tough_update.specs.Questions.{Question}
 use Rattle.tough_update.specs.Questions as ask
-use Rattle.tough_update.specs.Answered.{NotFound, Faulty, AnswerDoc}
+use Rattle.tough_update.specs.declared.request.Fault.TheVariants as fault
+use Rattle.tough_update.specs.Answered.{AnswerDoc}
 use Rattle.tough_update.specs.Answered as got
 use Rattle.tough_update.specs.Machine.{question, answered}
 use Rattle.tough_update.specs.Runs.{run}
@@ -33,15 +37,15 @@ Files = List ℕ → Option (List ℕ)
 
 -- ---- honest answers
 
--- the bytes, where they fit what was asked
-abbrev pub delivered : Bool → List ℕ → AnswerDoc
-delivered true bytes = got.Bytes bytes
-delivered false bytes = got.Cut Faulty
+-- the bytes, where they fit what was asked; else the stream fails
+abbrev pub Delivers : Bool → List ℕ → AnswerDoc → Type 0
+Delivers true bytes a = a ≡ got.Bytes bytes
+Delivers false bytes a = (e : TransportError) × (a ≡ got.Cut (fault.Transport e)) × (error_kind e ≡ kind.Other)
 
 -- what an honest transport answers: the file's bytes where they fit, or that there is no file
 abbrev pub Gets : RequestDoc → Option (List ℕ) → AnswerDoc → Type 0
-Gets r None a = a ≡ got.NotStarted NotFound
-Gets r (Some bytes) a = a ≡ delivered (fits_request r bytes) bytes
+Gets r None a = (e : TransportError) × (a ≡ got.NotStarted (fault.Transport e)) × (error_kind e ≡ kind.FileNotFound)
+Gets r (Some bytes) a = Delivers (fits_request r bytes) bytes a
 
 -- nothing was accepted yet
 abbrev pub nothing : Last

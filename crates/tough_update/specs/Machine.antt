@@ -1,6 +1,11 @@
 -- An update as a machine (TUF specification 1.0, section 5): what is asked next, and what an answer makes of it. An answer of a kind that
 -- isn't waited for changes nothing.
 use Rattle.std.specs.Prelude.{ℕ, ℤ, ◌+◌, ◌-◌, ◌^◌, ◌==◌, List, Option, Some, None, Bool, true, false, not, nat_lt, if◌then◌else◌, Result, Ok, Err}
+use Rattle.url.specs.declared.error.ParseError.TheVariants as url
+use Rattle.tough_net.specs.declared.error.TransportError.{TransportError}
+use Rattle.tough_net.specs.declared.error.TransportErrorKind.{TransportErrorKind}
+use Rattle.tough_net.specs.declared.error.TransportErrorKind.TheVariants as kind
+use Rattle.tough_net.specs.Errors.{error_kind}
 use Rattle.tough_keys.specs.Same.{Verifies}
 use Rattle.tough_roles.specs.Signature.{SignedDoc}
 use Rattle.tough_roles.specs.Root.{RootDoc}
@@ -14,8 +19,10 @@ use Rattle.tough_vault.specs.Files.{snapshot_file, targets_file}
 use Rattle.tough_vault.specs.Act.{Act}
 use Rattle.tough_vault.specs.Act as act
 use Rattle.tough_update.specs.declared.limits.Limits.{Limits}
+use Rattle.tough_update.specs.declared.request.Fault.{Fault}
+use Rattle.tough_update.specs.declared.request.Fault.TheVariants as fault
 use Rattle.tough_update.specs.Failure.{Failure, ParseMetadata, MaxUpdatesExceeded, JoinUrl, Transport, Checked, Memory}
-use Rattle.tough_update.specs.Walk.{if_read, if_verified, first_root, next_root}
+use Rattle.tough_update.specs.Walk.{if_read, holds_json, if_verified, first_root, next_root}
 use Rattle.tough_update.specs.Outcomes.{unless, and_then}
 use Rattle.tough_update.specs.Requests.{RequestDoc, root_request, timestamp_request, snapshot_request, targets_request}
 use Rattle.tough_update.specs.Rotation.{is_rotated}
@@ -24,7 +31,7 @@ use Rattle.tough_update.specs.Stages.{WalkDoc, BaseDoc, KnownDoc, WantedDoc, Pen
 use Rattle.tough_update.specs.Stages as at
 use Rattle.tough_update.specs.Questions.{Question}
 use Rattle.tough_update.specs.Questions as ask
-use Rattle.tough_update.specs.Answered.{FaultDoc, Unjoined, NotFound, Faulty, NoMemory, AnswerDoc}
+use Rattle.tough_update.specs.Answered.{AnswerDoc}
 use Rattle.tough_update.specs.Answered as got
 
 -- ---- roots (TUF specification 5.2 and 5.3)
@@ -52,7 +59,7 @@ walk_ended l enforced w = unless (Checked (ExpiredMetadata role.Root)) (not (is_
 -- ---- the timestamp (TUF specification 5.4)
 
 abbrev pub new_timestamp : BaseDoc → List ℕ → Result StageDoc Failure
-new_timestamp b bytes = if_read (ParseMetadata role.Timestamp) (timestamp_in bytes) (λ t. Ok (at.Step (at.PutTimestamp b t)))
+new_timestamp b bytes = if_read (ParseMetadata role.Timestamp (holds_json bytes)) (timestamp_in bytes) (λ t. Ok (at.Step (at.PutTimestamp b t)))
 
 -- the snapshot is to be fetched as the timestamp's entry says
 abbrev pub want_snapshot : Limits → BaseDoc → SignedDoc TimestampDoc → Option MetafileDoc → Result StageDoc Failure
@@ -65,7 +72,7 @@ abbrev pub known_of : BaseDoc → SignedDoc TimestampDoc → SignedDoc SnapshotD
 known_of b t s = record { start = b.start; root = b.root; timestamp = t; snapshot = s }
 
 abbrev pub new_snapshot : BaseDoc → SignedDoc TimestampDoc → ℕ → List ℕ → Result StageDoc Failure
-new_snapshot b t listed bytes = if_read (ParseMetadata role.Snapshot) (snapshot_in bytes) (λ s. Ok (at.Step (at.PutSnapshot (known_of b t s) listed)))
+new_snapshot b t listed bytes = if_read (ParseMetadata role.Snapshot (holds_json bytes)) (snapshot_in bytes) (λ s. Ok (at.Step (at.PutSnapshot (known_of b t s) listed)))
 
 -- ---- the targets (TUF specification 5.6)
 
@@ -89,28 +96,39 @@ new_targets verifies enforced k listed bytes = and_then (bare_targets bytes) (ac
 
 -- ---- faults
 
-abbrev pub fault_failure : FaultDoc → Failure
-fault_failure Unjoined = JoinUrl
-fault_failure NotFound = Transport
-fault_failure Faulty = Transport
-fault_failure NoMemory = Memory
+-- what a transport told, where memory wasn't wanting
+abbrev pub told : TransportErrorKind → TransportError → Failure
+told kind.Memory e = Memory
+told _ e = Transport e
+
+-- the same of the fault, where the file of this name is needed
+abbrev pub fault_failure : List ℕ → Fault → Failure
+fault_failure name (fault.JoinUrl url.OutOfMemory) = Memory
+fault_failure name (fault.JoinUrl e) = JoinUrl name e
+fault_failure name (fault.Transport e) = told (error_kind e) e
+
+abbrev pub is_memory : TransportErrorKind → Bool
+is_memory kind.Memory = true
+is_memory _ = false
+
+abbrev pub is_missing : TransportErrorKind → Bool
+is_missing kind.FileNotFound = true
+is_missing _ = false
 
 -- any error of starting to fetch a root ends the walk, save want of memory and a name that can't be joined
-abbrev pub ends_start : FaultDoc → Bool
-ends_start Unjoined = false
-ends_start NotFound = true
-ends_start Faulty = true
-ends_start NoMemory = false
+abbrev pub ends_start : Fault → Bool
+ends_start (fault.JoinUrl e) = false
+ends_start (fault.Transport e) = not (is_memory (error_kind e))
 
 -- a root that the stream doesn't find ends the walk
-abbrev pub ends_stream : FaultDoc → Bool
-ends_stream NotFound = true
-ends_stream _ = false
+abbrev pub ends_stream : Fault → Bool
+ends_stream (fault.JoinUrl e) = false
+ends_stream (fault.Transport e) = is_missing (error_kind e)
 
--- a fetch gave no bytes: where it is a root's, it may end the walk
-abbrev pub unfetched : WantedDoc → Bool → FaultDoc → Result StageDoc Failure
-unfetched (at.Root w) ends f = if ends then Ok (at.Step (at.PutLast w)) else Err (fault_failure f)
-unfetched _ ends f = Err (fault_failure f)
+-- a fetch of the file of this name gave no bytes: where it is a root's, it may end the walk
+abbrev pub unfetched : WantedDoc → Bool → List ℕ → Fault → Result StageDoc Failure
+unfetched (at.Root w) ends name f = if ends then Ok (at.Step (at.PutLast w)) else Err (fault_failure name f)
+unfetched _ ends name f = Err (fault_failure name f)
 
 -- ---- files that came, and steps that were taken
 
@@ -134,8 +152,8 @@ after verifies s (at.PutTargets k d) = Ok (at.Done (Ok (record { known = k; targ
 abbrev pub stage_after : Verifies → SettingDoc → StageDoc → AnswerDoc → Result StageDoc Failure
 stage_after verifies s at.Moment (got.Moment now) = Ok (at.Step (at.NoteTime now))
 stage_after verifies s (at.Fetch w r) (got.Bytes bytes) = read_wanted verifies s.enforced w bytes
-stage_after verifies s (at.Fetch w r) (got.NotStarted f) = unfetched w (ends_start f) f
-stage_after verifies s (at.Fetch w r) (got.Cut f) = unfetched w (ends_stream f) f
+stage_after verifies s (at.Fetch w r) (got.NotStarted f) = unfetched w (ends_start f) r.name f
+stage_after verifies s (at.Fetch w r) (got.Cut f) = unfetched w (ends_stream f) r.name f
 stage_after verifies s (at.Step p) (got.Step (Ok u)) = after verifies s p
 stage_after verifies s (at.Step p) (got.Step (Err f)) = Err f
 stage_after verifies s stage a = Ok stage

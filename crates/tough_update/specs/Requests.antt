@@ -1,8 +1,9 @@
 -- Which file is fetched next (TUF specification 1.0, sections 5.3 to 5.6): its name as section 6.2 gives it, how long it may be, and
 -- which digest it must have.
-use Rattle.std.specs.Prelude.{ℕ, ◌^◌, ◌++◌, ◌==◌, List, [], length, Option, Some, None, Bool, true, false, ◌&&◌, nat_le, codes, decimal, option_map, if◌then◌else◌}
+use Rattle.std.specs.Prelude.{ℕ, List, length, Option, Some, None, Bool, true, ◌&&◌, nat_le, codes}
 use Rattle.std.specs.Str.{bytes_eq}
 use Rattle.sha2.specs.Sha256.{sha256}
+use Rattle.tough_roles.specs.Names.{versioned, file_name}
 use Rattle.tough_roles.specs.Timestamp.{HashesDoc, MetafileDoc}
 use Rattle.tough_update.specs.declared.limits.Limits.{Limits}
 
@@ -12,14 +13,6 @@ pub record RequestDoc : Type 0 where
   pub max_size : ℕ
   pub specifier : List ℕ
   pub sha256 : Option (List ℕ)
-
--- a name behind a version
-abbrev pub versioned : ℕ → List ℕ → List ℕ
-versioned n name = decimal n ++ codes "." ++ name
-
--- with consistent snapshots a version stands before the name
-abbrev pub name_at : Bool → ℕ → List ℕ → List ℕ
-name_at consistent n name = if consistent then versioned n name else name
 
 -- what an entry states, or else the default
 abbrev pub bound : Option ℕ → ℕ → ℕ
@@ -40,7 +33,7 @@ timestamp_request l = record { name = codes "timestamp.json"; max_size = l.max_t
 -- the snapshot, as the timestamp's entry says
 abbrev pub snapshot_request : Limits → Bool → MetafileDoc → RequestDoc
 snapshot_request l consistent m = record {
-  name = name_at consistent m.version (codes "snapshot.json");
+  name = file_name consistent m.version (codes "snapshot.json");
   max_size = bound m.length l.max_snapshot_size;
   specifier = codes "timestamp.json";
   sha256 = stated_digest m.hashes;
@@ -53,7 +46,7 @@ targets_specifier (Some n) = codes "snapshot.json"
 -- the targets, as the snapshot's entry says
 abbrev pub targets_request : Limits → Bool → MetafileDoc → RequestDoc
 targets_request l consistent m = record {
-  name = name_at consistent m.version (codes "targets.json");
+  name = file_name consistent m.version (codes "targets.json");
   max_size = bound m.length l.max_targets_size;
   specifier = targets_specifier m.length;
   sha256 = stated_digest m.hashes;

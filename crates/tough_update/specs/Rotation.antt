@@ -6,24 +6,16 @@ use Rattle.std.specs.Map.{lookup}
 use Rattle.tough_base.specs.Spelled.{Spelled}
 use Rattle.tough_keys.specs.Key.{KeyDoc}
 use Rattle.tough_keys.specs.Equal.{same_doc}
+use Rattle.tough_roles.specs.Keyring.{keys_along}
 use Rattle.tough_roles.specs.Roles.{role_cmp}
 use Rattle.tough_roles.specs.Root.{RootDoc, RoleKeysDoc, key_under}
 use Rattle.tough_roles.specs.declared.role_type.RoleType.{RoleType}
 use Rattle.tough_roles.specs.declared.role_type.RoleType.TheVariants as role
 
-abbrev pub ahead_of : Option KeyDoc → List KeyDoc → List KeyDoc
-ahead_of None ks = []
-ahead_of (Some k) ks = k ∷ ks
-
 -- the key of the first identifier
 abbrev pub key_in : List (Spelled × KeyDoc) → List Spelled → Option KeyDoc
 key_in keys [] = None
 key_in keys (id ∷ ids) = key_under keys id
-
--- the keys of these identifiers in their order, up to the first that has none
-abbrev pub keys_under : List (Spelled × KeyDoc) → List Spelled → List KeyDoc
-keys_under keys [] = []
-keys_under keys (id ∷ ids) = ahead_of (key_under keys id) (keys_under keys ids)
 
 abbrev pub ids_of : Option RoleKeysDoc → List Spelled
 ids_of None = []
@@ -31,7 +23,7 @@ ids_of (Some r) = r.keyids
 
 -- the list of a role's keys
 abbrev pub keys_in : RootDoc → RoleType → List KeyDoc
-keys_in root type = keys_under root.keys (ids_of (lookup (is_at (role_cmp type)) root.roles))
+keys_in root type = keys_along root.keys (ids_of (lookup (is_at (role_cmp type)) root.roles))
 
 abbrev pub same_keys : List KeyDoc → List KeyDoc → Bool
 same_keys [] [] = true

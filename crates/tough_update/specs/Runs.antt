@@ -1,17 +1,20 @@
 -- Runs of an update, over any answers.
-use Rattle.std.specs.Prelude.{◌≡◌, ◌⊎◌, ℕ, ℤ, ◌+◌, ◌-◌, ◌^◌, List, [], ◌∷◌, ◌++◌, Option, Some, None, Bool, true, false, IsTrue, ⊤, Result, Ok, Err, if◌then◌else◌}
+use Rattle.std.specs.Prelude.{◌≡◌, ◌≢◌, ◌⊎◌, ℕ, ℤ, ◌+◌, ◌-◌, ◌^◌, List, [], ◌∷◌, ◌++◌, Option, Some, None, Bool, true, false, IsTrue, ⊤, Result, Ok, Err, if◌then◌else◌}
+use Rattle.tough_net.specs.declared.error.TransportErrorKind.TheVariants as kind
+use Rattle.tough_net.specs.Errors.{error_kind}
 use Rattle.tough_keys.specs.Same.{Verifies}
 use Rattle.tough_roles.specs.Signature.{SignedDoc}
 use Rattle.tough_roles.specs.Root.{RootDoc}
 use Rattle.tough_vault.specs.Checks.{is_expired}
 use Rattle.tough_vault.specs.Act.{NoteTime, ClearRotated, HasChecked}
+use Rattle.tough_update.specs.declared.request.Fault.TheVariants as fault
 use Rattle.tough_update.specs.Requests.{fits_request, root_request, timestamp_request}
 use Rattle.tough_update.specs.Listed.{lists_roles}
 use Rattle.tough_update.specs.Stages.{WalkDoc, LoadedDoc, CoreDoc, Moment}
 use Rattle.tough_update.specs.Stages as at
 use Rattle.tough_update.specs.Questions.{Question}
 use Rattle.tough_update.specs.Questions as ask
-use Rattle.tough_update.specs.Answered.{FaultDoc, NotFound, Faulty, AnswerDoc}
+use Rattle.tough_update.specs.Answered.{AnswerDoc}
 use Rattle.tough_update.specs.Answered as got
 use Rattle.tough_update.specs.Machine.{question, answered}
 use Rattle.tough_update.specs.Walk.{root_in}
@@ -34,11 +37,10 @@ abbrev pub Along : Verifies → CoreDoc → List AnswerDoc → Type 0
 Along verifies c [] = ⊤
 Along verifies c (a ∷ rest) = Keeps verifies (question c) a × Along verifies (answered verifies c a) rest
 
--- an error of starting, or a file that the stream doesn't find
+-- an error of starting that isn't want of memory, or a file that the stream doesn't find
 abbrev pub EndsWalk : AnswerDoc → Type 0
-EndsWalk (got.NotStarted NotFound) = ⊤
-EndsWalk (got.NotStarted Faulty) = ⊤
-EndsWalk (got.Cut NotFound) = ⊤
+EndsWalk (got.NotStarted (fault.Transport e)) = error_kind e ≢ kind.Memory
+EndsWalk (got.Cut (fault.Transport e)) = error_kind e ≡ kind.FileNotFound
 EndsWalk _ = ⊥
 
 -- the root after this one was asked for, and answered so

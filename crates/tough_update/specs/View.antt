@@ -1,14 +1,12 @@
 -- The machine of the program, seen as plain data.
 use Rattle.std.specs.Prelude.{◌≡◌, ◌⊎◌, ℕ, List, Option, Some, None, Result, Ok, Err, option_map, string_bytes, ⊤}
-use Rattle.url.specs.declared.error.ParseError.{ParseError}
-use Rattle.url.specs.declared.error.ParseError.TheVariants as url
-use Rattle.tough_net.specs.declared.error.TransportErrorKind.{TransportErrorKind}
-use Rattle.tough_net.specs.declared.error.TransportErrorKind.TheVariants as kind
-use Rattle.tough_net.specs.Errors.{error_kind}
 use Rattle.tough_roles.specs.Signature.{SignedDoc, signed_doc}
 use Rattle.tough_roles.specs.Root.{RootDoc, root_doc}
 use Rattle.tough_roles.specs.declared.root.Root.{Root}
 use Rattle.tough_roles.specs.declared.signed.Signed.{Signed}
+use Rattle.tough_roles.specs.declared.timestamp.Timestamp.{Timestamp}
+use Rattle.tough_roles.specs.declared.snapshot.Snapshot.{Snapshot}
+use Rattle.tough_schema.specs.declared.targets.Targets.{Targets}
 use Rattle.tough_roles.specs.Timestamp.{timestamp_doc}
 use Rattle.tough_roles.specs.Snapshot.{snapshot_doc}
 use Rattle.tough_schema.specs.Targets.{targets_doc}
@@ -21,8 +19,6 @@ use Rattle.tough_update.specs.Listed.{targets_text}
 use Rattle.tough_update.specs.Failure.{Failure, failure_of, step_failure}
 use Rattle.tough_update.specs.declared.error.Error.{Error}
 use Rattle.tough_update.specs.declared.request.Request.{Request}
-use Rattle.tough_update.specs.declared.request.Fault.{Fault}
-use Rattle.tough_update.specs.declared.request.Fault.TheVariants as fault
 use Rattle.tough_update.specs.declared.request.Act.{Act}
 use Rattle.tough_update.specs.declared.request.Act.TheVariants as to
 use Rattle.tough_update.specs.declared.request.Ask.{Ask}
@@ -46,7 +42,7 @@ use Rattle.tough_update.specs.Stages.{WalkDoc, BaseDoc, KnownDoc, LoadedDoc, Wan
 use Rattle.tough_update.specs.Stages as at
 use Rattle.tough_update.specs.Questions.{Question}
 use Rattle.tough_update.specs.Questions as ask
-use Rattle.tough_update.specs.Answered.{FaultDoc, Unjoined, NotFound, Faulty, NoMemory, AnswerDoc}
+use Rattle.tough_update.specs.Answered.{AnswerDoc}
 use Rattle.tough_update.specs.Answered as got
 
 abbrev pub request_doc : Request → RequestDoc
@@ -68,20 +64,6 @@ question_of (wants.Fetch r) = ask.Fetch (request_doc r.now)
 question_of (wants.Step a) = ask.Step (act_of a)
 question_of wants.Ready = ask.Ready
 
-abbrev pub fault_of_kind : TransportErrorKind → FaultDoc
-fault_of_kind kind.UnsupportedUrlScheme = Faulty
-fault_of_kind kind.FileNotFound = NotFound
-fault_of_kind kind.Other = Faulty
-fault_of_kind kind.Memory = NoMemory
-
-abbrev pub fault_of_join : ParseError → FaultDoc
-fault_of_join url.OutOfMemory = NoMemory
-fault_of_join _ = Unjoined
-
-abbrev pub fault_doc : Fault → FaultDoc
-fault_doc (fault.JoinUrl e) = fault_of_join e
-fault_doc (fault.Transport e) = fault_of_kind (error_kind e)
-
 abbrev pub step_doc : Result ⊤ StepError → Result Unit Failure
 step_doc (Ok u) = Ok (tt {0})
 step_doc (Err e) = Err (step_failure e)
@@ -89,8 +71,8 @@ step_doc (Err e) = Err (step_failure e)
 abbrev pub answer_doc : Answer → AnswerDoc
 answer_doc (by.Moment now) = got.Moment now.nanosecond
 answer_doc (by.Bytes v) = got.Bytes v.items
-answer_doc (by.NotStarted f) = got.NotStarted (fault_doc f)
-answer_doc (by.Cut f) = got.Cut (fault_doc f)
+answer_doc (by.NotStarted f) = got.NotStarted f
+answer_doc (by.Cut f) = got.Cut f
 answer_doc (by.Step r) = got.Step (step_doc r)
 
 -- ---- stages
@@ -108,6 +90,19 @@ base_doc b = record { start = b.start.nanosecond; root = signed_doc root_doc b.r
 
 abbrev pub known_doc : Known → KnownDoc
 known_doc k = record { start = k.start.nanosecond; root = signed_doc root_doc k.root; timestamp = signed_doc timestamp_doc k.timestamp; snapshot = signed_doc snapshot_doc k.snapshot }
+
+-- the documents of an update that succeeded
+abbrev pub root_of : Loaded → Signed Root
+root_of l = l.known.root
+
+abbrev pub timestamp_of : Loaded → Signed Timestamp
+timestamp_of l = l.known.timestamp
+
+abbrev pub snapshot_of : Loaded → Signed Snapshot
+snapshot_of l = l.known.snapshot
+
+abbrev pub targets_of : Loaded → Signed Targets
+targets_of l = l.targets
 
 abbrev pub loaded_doc : Loaded → LoadedDoc
 loaded_doc l = record { known = known_doc l.known; targets = signed_doc targets_doc l.targets }

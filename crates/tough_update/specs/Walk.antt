@@ -1,5 +1,5 @@
 -- The walk from root to root (TUF specification 5.3).
-use Rattle.std.specs.Prelude.{◌≡◌, ◌⊎◌, ℕ, ◌+◌, ◌==◌, List, Option, Some, None, Result, Ok, Err, option_and_then, if◌then◌else◌}
+use Rattle.std.specs.Prelude.{◌≡◌, ◌⊎◌, ℕ, ◌+◌, ◌==◌, List, Option, Some, None, is_some, Bool, Result, Ok, Err, option_and_then, if◌then◌else◌}
 use Rattle.tough_json.specs.Results.{json_of}
 use Rattle.tough_keys.specs.Same.{Verifies}
 use Rattle.tough_roles.specs.Signature.{SignedDoc, signed_at}
@@ -17,6 +17,10 @@ use Rattle.tough_update.specs.Failure.{Failure, Memory, failure_of, ParseTrusted
 abbrev pub root_in : List ℕ → Option (SignedDoc RootDoc)
 root_in bytes = option_and_then (signed_at root_at) (json_of bytes)
 
+-- whether the bytes are JSON
+abbrev pub holds_json : List ℕ → Bool
+holds_json bytes = is_some (json_of bytes)
+
 -- what a root's verification of a signed root answers
 abbrev pub root_verdict : Verifies → RootDoc → SignedDoc RootDoc → Result Unit Refused
 root_verdict verifies root d = verdict verifies (policy root role.Root) (text_by root_json d.role) d.signatures
@@ -33,7 +37,7 @@ if_read fault (Some a) next = next a
 
 -- the root that was handed in must read, and reach its own threshold
 abbrev pub first_root : Verifies → List ℕ → Result (SignedDoc RootDoc) Failure
-first_root verifies bytes = if_read ParseTrustedMetadata (root_in bytes) (λ d. if_verified (λ r. VerifyTrustedMetadata (Some r)) (root_verdict verifies d.role d) (Ok d))
+first_root verifies bytes = if_read (ParseTrustedMetadata (holds_json bytes)) (root_in bytes) (λ d. if_verified (λ r. VerifyTrustedMetadata (Some r)) (root_verdict verifies d.role d) (Ok d))
 
 -- the version must be one more
 abbrev pub if_next : RootDoc → SignedDoc RootDoc → Result (SignedDoc RootDoc) Failure
@@ -41,7 +45,7 @@ if_next old d = if d.role.head.version == old.head.version + 1 then Ok d else Er
 
 -- the root after another must read, reach the other's threshold, then its own, and have the next version
 abbrev pub next_root : Verifies → RootDoc → List ℕ → Result (SignedDoc RootDoc) Failure
-next_root verifies old bytes = if_read (ParseMetadata role.Root) (root_in bytes) (λ d.
+next_root verifies old bytes = if_read (ParseMetadata role.Root (holds_json bytes)) (root_in bytes) (λ d.
     if_verified (λ r. Checked (VerifyMetadata role.Root (Some r))) (root_verdict verifies old d)
     (if_verified (λ r. Checked (VerifyMetadata role.Root (Some r))) (root_verdict verifies d.role d)
     (if_next old d)))

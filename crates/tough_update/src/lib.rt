@@ -15,7 +15,7 @@ pub use error::Error;
 pub use limits::Limits;
 pub use machine::Core;
 pub use request::{Act, Answer, Ask, Fault, Request};
-pub use stage::{Known, Loaded};
+pub use stage::Loaded;
 pub use tough_vault::{
     Entry, ExpirationEnforcement, ListedVersion, MemoryStore, Receipt, Refusal, SnapshotVersions,
     StepError, Store, StoreError, TimestampVersions, Tip, Vault,

@@ -2,7 +2,7 @@
 
 ghost use Rattle.std.specs.Prelude.{◌≡◌, Some, IfOk, option_map, string_bytes};
 ghost use Rattle.tough_roles.specs.Timestamp.{metafile_doc, hashes_doc};
-ghost use Rattle.tough_update.specs.Requests.{stated_digest, bound, name_at, versioned, targets_specifier, root_request, timestamp_request, snapshot_request, targets_request, fits_request};
+ghost use Rattle.tough_update.specs.Requests.{stated_digest, bound, targets_specifier, root_request, timestamp_request, snapshot_request, targets_request, fits_request};
 ghost use Rattle.tough_update.specs.View.{request_doc};
 
 use crate::limits::Limits;
@@ -10,6 +10,7 @@ use jiff::Timestamp as Instant;
 use sha2::{Digest, Sha256};
 use std::alloc::{AllocError, Global};
 use tough_net::TransportError;
+use tough_roles::names::{file_name, versioned};
 use tough_roles::{Hashes, Metafile, Root, Signed, Snapshot, Timestamp};
 use tough_schema::Targets;
 use tough_vault::{ExpirationEnforcement, StepError};
@@ -117,27 +118,6 @@ impl Request {
     }
 }
 
-// A name behind a version.
-fn versioned(alloc: Global, version: u64, name: &str) -> Result<String, AllocError>
-    ensures { IfOk result (λ s. string_bytes s ≡ versioned version name.now) }
-{
-    let mut text = version.to_string(alloc)?;
-    text.push_str(".")?;
-    text.push_str(name)?;
-    Ok(text)
-}
-
-// A file's name: with consistent snapshots its version stands before it.
-fn name_at(alloc: Global, consistent: bool, version: u64, name: &str) -> Result<String, AllocError>
-    ensures { IfOk result (λ s. string_bytes s ≡ name_at consistent version name.now) }
-{
-    if consistent {
-        versioned(alloc, version, name)
-    } else {
-        String::from_str(alloc, name)
-    }
-}
-
 // A copy of the digest, where one is stated.
 fn stated_digest(alloc: Global, hashes: &Option<Hashes>) -> Result<Option<Vec<u8>>, AllocError>
     ensures { IfOk result (λ d. option_map (λ v. v.items) d ≡ stated_digest (option_map hashes_doc hashes.now)) }
@@ -186,7 +166,7 @@ pub(crate) fn snapshot_request(
     ensures { IfOk result (λ r. request_doc r ≡ snapshot_request limits.now consistent (metafile_doc meta.now)) }
 {
     Ok(Request {
-        name: name_at(alloc, consistent, meta.version.get(), "snapshot.json")?,
+        name: file_name(alloc, consistent, meta.version, "snapshot.json")?,
         max_size: meta.length.unwrap_or(limits.max_snapshot_size),
         specifier: "timestamp.json",
         sha256: stated_digest(alloc, &meta.hashes)?,
@@ -213,7 +193,7 @@ pub(crate) fn targets_request(
     ensures { IfOk result (λ r. request_doc r ≡ targets_request limits.now consistent (metafile_doc meta.now)) }
 {
     Ok(Request {
-        name: name_at(alloc, consistent, meta.version.get(), "targets.json")?,
+        name: file_name(alloc, consistent, meta.version, "targets.json")?,
         max_size: meta.length.unwrap_or(limits.max_targets_size),
         specifier: targets_specifier(meta.length),
         sha256: stated_digest(alloc, &meta.hashes)?,

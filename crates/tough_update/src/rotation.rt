@@ -6,7 +6,8 @@ ghost use Rattle.std.specs.Map.{lookup};
 ghost use Rattle.tough_keys.specs.Key.{key_doc};
 ghost use Rattle.tough_roles.specs.Roles.{role_cmp};
 ghost use Rattle.tough_roles.specs.Root.{root_doc};
-ghost use Rattle.tough_update.specs.Rotation.{key_in, keys_under, same_keys, ids_of, is_rotated_role, is_rotated};
+ghost use Rattle.tough_roles.specs.Keyring.{keys_along};
+ghost use Rattle.tough_update.specs.Rotation.{key_in, same_keys, ids_of, is_rotated_role, is_rotated};
 
 use tough_base::{Decoded, Hex};
 use tough_keys::Key;
@@ -24,7 +25,7 @@ fn key_at<'a>(root: &'a Root, ids: &[Decoded<Hex>], place: usize) -> Option<&'a 
 
 // Whether the keys of these identifiers, up to the first that has none, are the same.
 fn are_same_keys(old: &Root, old_ids: &[Decoded<Hex>], new: &Root, new_ids: &[Decoded<Hex>]) -> bool
-    ensures { result ≡ same_keys (keys_under (root_doc old.now).keys old_ids.now) (keys_under (root_doc new.now).keys new_ids.now) }
+    ensures { result ≡ same_keys (keys_along (root_doc old.now).keys old_ids.now) (keys_along (root_doc new.now).keys new_ids.now) }
 {
     for place in 0..old_ids.len() {
         match (key_at(old, old_ids, place), key_at(new, new_ids, place)) {

@@ -5,7 +5,7 @@ ghost use Rattle.tough_roles.specs.Signature.{signed_doc};
 ghost use Rattle.tough_roles.specs.Root.{root_doc};
 ghost use Rattle.tough_vault.specs.Checks.{enforces};
 ghost use Rattle.tough_update.specs.Machine.{base_of, act_at};
-ghost use Rattle.tough_update.specs.View.{last_of, walk_doc, base_doc, pending_doc, act_of};
+ghost use Rattle.tough_update.specs.View.{last_of, walk_doc, base_doc, pending_doc, act_of, root_of, timestamp_of, snapshot_of, targets_of};
 
 use crate::error::Error;
 use crate::request::{Act, Request};
@@ -33,24 +33,18 @@ pub(crate) struct Base {
 
 /// What is known once the snapshot is there.
 #[derive(Drop)]
-pub struct Known {
-    /// When the update began.
-    pub start: Instant,
-    /// The last root.
-    pub root: Signed<Root>,
-    /// The timestamp.
-    pub timestamp: Signed<Timestamp>,
-    /// The snapshot that the timestamp names.
-    pub snapshot: Signed<Snapshot>,
+pub(crate) struct Known {
+    pub(crate) start: Instant,
+    pub(crate) root: Signed<Root>,
+    pub(crate) timestamp: Signed<Timestamp>,
+    pub(crate) snapshot: Signed<Snapshot>,
 }
 
-/// What an update ends with.
+/// What an update ends with: the last root, and the documents that it vouches for.
 #[derive(Drop)]
 pub struct Loaded {
-    /// What was known before the targets.
-    pub known: Known,
-    /// The targets that the snapshot names.
-    pub targets: Signed<Targets>,
+    pub(crate) known: Known,
+    pub(crate) targets: Signed<Targets>,
 }
 
 /// What a file is fetched for.
@@ -142,30 +136,30 @@ impl Pending {
 }
 
 impl Loaded {
-    /// The last root.
+    /// The last root of the walk (TUF 1.0, 5.3).
     pub fn root(&self) -> &Signed<Root>
-        ensures { result.now ≡ self.now.known.root }
+        ensures { result.now ≡ root_of self.now }
     {
         &self.known.root
     }
 
-    /// The timestamp.
+    /// The timestamp that the root vouches for.
     pub fn timestamp(&self) -> &Signed<Timestamp>
-        ensures { result.now ≡ self.now.known.timestamp }
+        ensures { result.now ≡ timestamp_of self.now }
     {
         &self.known.timestamp
     }
 
-    /// The snapshot.
+    /// The snapshot that the timestamp names.
     pub fn snapshot(&self) -> &Signed<Snapshot>
-        ensures { result.now ≡ self.now.known.snapshot }
+        ensures { result.now ≡ snapshot_of self.now }
     {
         &self.known.snapshot
     }
 
-    /// The targets.
+    /// The targets that the snapshot names.
     pub fn targets(&self) -> &Signed<Targets>
-        ensures { result.now ≡ self.now.targets }
+        ensures { result.now ≡ targets_of self.now }
     {
         &self.targets
     }

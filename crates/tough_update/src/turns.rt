@@ -1,6 +1,6 @@
 //! What an answer makes of a stage.
 
-ghost use Rattle.std.specs.Prelude.{◌≡◌, OnOk, IfErr, option_map, option_copied, Ok, Err};
+ghost use Rattle.std.specs.Prelude.{◌≡◌, OnOk, IfErr, option_map, option_copied, Ok, Err, string_bytes};
 ghost use Rattle.tough_keys.specs.Same.{Verifies};
 ghost use Rattle.tough_roles.specs.Signature.{signed_doc};
 ghost use Rattle.tough_roles.specs.Root.{root_doc};
@@ -17,7 +17,7 @@ ghost use Rattle.tough_update.specs.Answered as got;
 ghost use Rattle.tough_update.specs.Listed.{lists_roles, bare_targets, targets_verdict};
 ghost use Rattle.tough_schema.specs.Targets.{targets_doc};
 ghost use Rattle.tough_roles.specs.declared.role_type.RoleType.TheVariants as types;
-ghost use Rattle.tough_update.specs.View.{walk_doc, base_doc, known_doc, wanted_doc, pending_doc, stage_doc, fault_doc, setting_doc, step_doc};
+ghost use Rattle.tough_update.specs.View.{walk_doc, base_doc, known_doc, wanted_doc, pending_doc, stage_doc, setting_doc, step_doc};
 
 use crate::error::Error;
 use crate::limits::Limits;
@@ -333,7 +333,7 @@ fn take_targets<V: Verify>(
 
 // What a fault is where the file of this name is needed.
 fn fault_error(path: String, fault: Fault) -> Error
-    ensures { failure_of result ≡ fault_failure (fault_doc fault) }
+    ensures { failure_of result ≡ fault_failure (string_bytes path) fault }
 {
     match fault {
         Fault::JoinUrl(ParseError::OutOfMemory) => Error::Memory,
@@ -347,7 +347,7 @@ fn fault_error(path: String, fault: Fault) -> Error
 
 // Whether the walk ends where the fetch of a root starts with this fault.
 fn ends_start(fault: &Fault) -> bool
-    ensures { result ≡ ends_start (fault_doc fault.now) }
+    ensures { result ≡ ends_start fault.now }
 {
     match fault {
         Fault::JoinUrl(_) => false,
@@ -357,7 +357,7 @@ fn ends_start(fault: &Fault) -> bool
 
 // Whether the walk ends where the stream of a root fails with this fault.
 fn ends_stream(fault: &Fault) -> bool
-    ensures { result ≡ ends_stream (fault_doc fault.now) }
+    ensures { result ≡ ends_stream fault.now }
 {
     match fault {
         Fault::JoinUrl(_) => false,
@@ -372,7 +372,7 @@ fn end_fetch(
     ends_walk: bool,
     fault: Fault,
 ) -> Result<Stage, Error>
-    ensures { Gives stage_doc (unfetched (wanted_doc wanted) ends_walk (fault_doc fault)) result }
+    ensures { Gives stage_doc (unfetched (wanted_doc wanted) ends_walk (string_bytes request.name) fault) result }
 {
     match wanted {
         Wanted::Root(walk) => {
@@ -390,7 +390,7 @@ fn end_fetch(
 
 /// A fetch that didn't start.
 pub(crate) fn end_unstarted(wanted: Wanted, request: Request, fault: Fault) -> Result<Stage, Error>
-    ensures { Gives stage_doc (unfetched (wanted_doc wanted) (ends_start (fault_doc fault)) (fault_doc fault)) result }
+    ensures { Gives stage_doc (unfetched (wanted_doc wanted) (ends_start fault) (string_bytes request.name) fault) result }
 {
     let ends = ends_start(&fault);
     end_fetch(wanted, request, ends, fault)
@@ -398,7 +398,7 @@ pub(crate) fn end_unstarted(wanted: Wanted, request: Request, fault: Fault) -> R
 
 /// A stream that failed.
 pub(crate) fn end_cut(wanted: Wanted, request: Request, fault: Fault) -> Result<Stage, Error>
-    ensures { Gives stage_doc (unfetched (wanted_doc wanted) (ends_stream (fault_doc fault)) (fault_doc fault)) result }
+    ensures { Gives stage_doc (unfetched (wanted_doc wanted) (ends_stream fault) (string_bytes request.name) fault) result }
 {
     let ends = ends_stream(&fault);
     end_fetch(wanted, request, ends, fault)

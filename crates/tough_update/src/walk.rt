@@ -1,9 +1,9 @@
 //! The walk from root to root (TUF specification 5.3).
 
-ghost use Rattle.std.specs.Prelude.{◌≡◌, [], List, IfOk, IfErr, OnOk};
+ghost use Rattle.std.specs.Prelude.{◌≡◌, IfOk, IfErr, OnOk};
 ghost use Rattle.tough_roles.specs.Signature.{SignedDoc, signed_doc};
-ghost use Rattle.tough_roles.specs.Root.{RootDoc, root_doc};
-ghost use Rattle.tough_roles.specs.Chain.{IsChain, IsNext};
+ghost use Rattle.tough_roles.specs.Root.{RootDoc, root_doc, root_json};
+ghost use Rattle.tough_roles.specs.Chain.{ReachesUnder, IsNext};
 ghost use Rattle.tough_roles.specs.declared.role_type.RoleType.TheVariants as types;
 ghost use Rattle.tough_update.specs.Failure.{Gives};
 ghost use Rattle.tough_update.specs.Walk.{first_root, next_root, root_verdict, IsUnverified};
@@ -20,7 +20,7 @@ pub(crate) fn first_root<V: Verify>(
     verifier: &V,
 ) -> Result<Signed<Root>, Error>
     ensures answer { Gives (signed_doc root_doc) (first_root (V.verifies verifier.now) bytes.now) result }
-    ensures chain { IfOk result (λ root. IsChain (V.verifies verifier.now) (signed_doc root_doc root) []) }
+    ensures signed { IfOk result (λ root. ReachesUnder (V.verifies verifier.now) (root_doc root.signed) types.Root root_json (signed_doc root_doc root)) }
 {
     let root = match Signed::<Root>::read(alloc, bytes) {
         Ok(root) => root,
