@@ -210,7 +210,7 @@ module _ (v : Verifies) (c : CoreDoc) where
       walk_ended-counts w f =
           let cleared : Result StageDoc Failure = Ok (at.Step (at.Clear (base_of w))) in
           let kept : Result StageDoc Failure = Ok (at.Fetch (at.Timestamp (base_of w)) (timestamp_request c.setting.limits)) in
-          unless-fine (Counts next) bad (Checked (ExpiredMetadata role.Root)) (not (is_expired c.setting.enforced w.start w.last.role.head.expires)) (if is_rotated w.first.role w.last.role then cleared else kept) (λ _.
+          unless-fine (Counts next) bad (Checked (ExpiredMetadata role.Root w.last.role.head.expires w.start)) (not (is_expired c.setting.enforced w.start w.last.role.head.expires)) (if is_rotated w.first.role w.last.role then cleared else kept) (λ _.
           if-fine (Counts next) bad (is_rotated w.first.role w.last.role) cleared kept (λ _. f) f)
 
       if_read-counts : {D : Type 0} (f : Failure) (o : Option D) (to : D → StageDoc) → ((d : D) → Counts next (to d)) → Goes (if_read f o (λ d. Ok (to d)))

@@ -72,7 +72,7 @@ module _ (v : Verifies) (c : CoreDoc) where
       let cleared : Result StageDoc Failure = Ok (at.Step (at.Clear (base_of w))) in
       let kept : Result StageDoc Failure = Ok (at.Fetch (at.Timestamp (base_of w)) (timestamp_request c.setting.limits)) in
       let chosen : Result StageDoc Failure = if is_rotated w.first.role w.last.role then cleared else kept in
-      ap (λ b. question (in_stage c (settled (unless (Checked (ExpiredMetadata role.Root)) (not b) chosen)))) e ∙ by-choice w (is_rotated w.first.role w.last.role)
+      ap (λ b. question (in_stage c (settled (unless (Checked (ExpiredMetadata role.Root w.last.role.head.expires w.start)) (not b) chosen)))) e ∙ by-choice w (is_rotated w.first.role w.last.role)
 
   -- the walk's last root is about to be stored
   pub ends-walking : (h : List AnswerDoc) (w : WalkDoc) → run v c h ≡ in_stage c (at.Step (at.PutLast w)) → Walks w × IsLast v c h w.last → EndsWalking v c h w
@@ -154,7 +154,7 @@ module _ (v : Verifies) (c : CoreDoc) where
     walk_ended-tells w e stands t =
         let cleared : Result StageDoc Failure = Ok (at.Step (at.Clear (base_of w))) in
         let kept : Result StageDoc Failure = Ok (at.Fetch (at.Timestamp (base_of w)) (timestamp_request c.setting.limits)) in
-        unless-fine (Tells next) (bad next) (Checked (ExpiredMetadata role.Root)) (not (is_expired c.setting.enforced w.start w.last.role.head.expires)) (if is_rotated w.first.role w.last.role then cleared else kept) (λ _.
+        unless-fine (Tells next) (bad next) (Checked (ExpiredMetadata role.Root w.last.role.head.expires w.start)) (not (is_expired c.setting.enforced w.start w.last.role.head.expires)) (if is_rotated w.first.role w.last.role then cleared else kept) (λ _.
         if-fine (Tells next) (bad next) (is_rotated w.first.role w.last.role) cleared kept (λ r. record {
           walk = w;
           before = h;

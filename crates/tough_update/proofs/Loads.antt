@@ -120,7 +120,7 @@ module _ (v : Verifies) (files : Files) (s : SettingDoc) (l : LoadedDoc) (able :
 
   -- a document that hasn't expired
   unexpired : (type : RoleType) (expires : ℤ) → is_expired s.enforced l.known.start expires ≡ false → or_else (expiry type s.enforced l.known.start expires) None ≡ None
-  unexpired type expires e = ap (λ b. or_else (refuse b (ExpiredMetadata type)) None) e
+  unexpired type expires e = ap (λ b. or_else (refuse b (ExpiredMetadata type expires l.known.start)) None) e
 
   timestamp-formed : timestamp_form l.known.timestamp.role ≡ None
   timestamp-formed =
@@ -161,7 +161,7 @@ module _ (v : Verifies) (files : Files) (s : SettingDoc) (l : LoadedDoc) (able :
   checked : targets_checked v s.enforced l.known able.targets_entry.version l.targets ≡ Ok (tt {0})
   checked =
       let fault : Refused → Failure = λ r. Checked (VerifyMetadata role.Targets (Some r)) in
-      let expiring : Bool → Result Unit Failure = λ b. unless (Checked (ExpiredMetadata role.Targets)) (not b) (Ok (tt {0})) in
+      let expiring : Bool → Result Unit Failure = λ b. unless (Checked (ExpiredMetadata role.Targets l.targets.role.head.expires l.known.start)) (not b) (Ok (tt {0})) in
       let versioned : Bool → Result Unit Failure = λ b. unless (Checked (VersionMismatch role.Targets l.targets.role.head.version able.targets_entry.version)) b (expiring (is_expired s.enforced l.known.start l.targets.role.head.expires)) in
       ap (λ w. if_verified fault w (versioned (l.targets.role.head.version == able.targets_entry.version))) (signed-ok v l.known.root.role role.Targets targets_json l.targets able.targets_signed)
       ∙ (ap versioned (eq-eqb _ _ able.targets_version) ∙ ap expiring able.targets_in_time)
@@ -206,7 +206,7 @@ module _ (v : Verifies) (files : Files) (s : SettingDoc) (l : LoadedDoc) (able :
       (let cleared : Result StageDoc Failure = Ok (at.Step (at.Clear base)) in
       let kept : Result StageDoc Failure = Ok (at.Fetch (at.Timestamp base) (timestamp_request s.limits)) in
       ap settled
-      (ap (λ b. unless (Checked (ExpiredMetadata role.Root)) (not b) (if is_rotated l.known.root.role l.known.root.role then cleared else kept)) able.root_in_time
+      (ap (λ b. unless (Checked (ExpiredMetadata role.Root l.known.root.role.head.expires l.known.start)) (not b) (if is_rotated l.known.root.role l.known.root.role then cleared else kept)) able.root_in_time
       ∙ ap (λ b. if b then cleared else kept) (not-rotated l.known.root.role)))
       leads-fetch_timestamp
 

@@ -45,7 +45,7 @@ walk_ended-late : (s : SettingDoc) (w : WalkDoc) → Fine Late bad (walk_ended s
 walk_ended-late s w =
     let cleared : Result StageDoc Failure = Ok (at.Step (at.Clear (base_of w))) in
     let kept : Result StageDoc Failure = Ok (at.Fetch (at.Timestamp (base_of w)) (timestamp_request s.limits)) in
-    unless-fine Late bad (Checked (ExpiredMetadata role.Root)) (not (is_expired s.enforced w.start w.last.role.head.expires)) (if is_rotated w.first.role w.last.role then cleared else kept) (λ _.
+    unless-fine Late bad (Checked (ExpiredMetadata role.Root w.last.role.head.expires w.start)) (not (is_expired s.enforced w.start w.last.role.head.expires)) (if is_rotated w.first.role w.last.role then cleared else kept) (λ _.
     if-fine Late bad (is_rotated w.first.role w.last.role) cleared kept (λ _. tt) tt)
 
 if_read-late : {D : Type 0} (f : Failure) (o : Option D) (next : D → StageDoc) → ((d : D) → Late (next d)) → Fine Late bad (if_read f o (λ d. Ok (next d)))

@@ -131,11 +131,11 @@ unless-ok f false r a h = cc
 pub checked-ok : (verifies : Verifies) (enforced : Bool) (k : KnownDoc) (listed : ℕ) (d : SignedDoc TargetsDoc) (u : Unit {0}) → targets_checked verifies enforced k listed d ≡ Ok u
     → (targets_verdict verifies k.root.role d ≡ Ok (tt {0})) × (d.role.head.version ≡ listed) × (is_expired enforced k.start d.role.head.expires ≡ false)
 checked-ok verifies enforced k listed d u h =
-    let expiring = unless (Checked (ExpiredMetadata role.Targets)) (not (is_expired enforced k.start d.role.head.expires)) (Ok (tt {0})) in
+    let expiring = unless (Checked (ExpiredMetadata role.Targets d.role.head.expires k.start)) (not (is_expired enforced k.start d.role.head.expires)) (Ok (tt {0})) in
     let v = if_verified-ok (λ x. Checked (VerifyMetadata role.Targets (Some x))) (targets_verdict verifies k.root.role d)
     (unless (Checked (VersionMismatch role.Targets d.role.head.version listed)) (d.role.head.version == listed) expiring) u h in
     let w = unless-ok (Checked (VersionMismatch role.Targets d.role.head.version listed)) (d.role.head.version == listed) expiring u v.1 in
-    let x = unless-ok (Checked (ExpiredMetadata role.Targets)) (not (is_expired enforced k.start d.role.head.expires)) (Ok (tt {0})) u w.1 in
+    let x = unless-ok (Checked (ExpiredMetadata role.Targets d.role.head.expires k.start)) (not (is_expired enforced k.start d.role.head.expires)) (Ok (tt {0})) u w.1 in
     (v.0, eqb-true _ _ w.0, not-true _ x.0)
 
 -- ---- steps that succeeded
@@ -144,7 +144,7 @@ le_from_lt : (a b : ℤ) → int_lt a b ≡ false → b ≤ℤ a
 le_from_lt a b h = omega (arith, signed_arith, h)
 
 pub not-expired : (type : RoleType) (enforced : Bool) (start expires : ℤ) → expiry type enforced start expires ≡ None → is_expired enforced start expires ≡ false
-not-expired type enforced start expires h = refuse-none (is_expired enforced start expires) (ExpiredMetadata type) h
+not-expired type enforced start expires h = refuse-none (is_expired enforced start expires) (ExpiredMetadata type expires start) h
 
 pub in-time : (enforced : Bool) (start expires : ℤ) → enforced ≡ true → is_expired enforced start expires ≡ false → start ≤ℤ expires
 in-time true start expires e h = le_from_lt expires start h
@@ -238,7 +238,7 @@ module _ (verifies : Verifies) (s : SettingDoc) (N : ℤ → Type 0) (E : Signed
         (n, followed w.last root c (next-fine verifies w.last bytes root is)))
 
     walk_ended-fine : (w : WalkDoc) → N w.start → Chain verifies s.trusted w.last → E w.last → Fine Holds bad (walk_ended s.limits s.enforced w)
-    walk_ended-fine w n c e = unless-fine Holds bad (Checked (ExpiredMetadata role.Root)) (not (is_expired s.enforced w.start w.last.role.head.expires))
+    walk_ended-fine w n c e = unless-fine Holds bad (Checked (ExpiredMetadata role.Root w.last.role.head.expires w.start)) (not (is_expired s.enforced w.start w.last.role.head.expires))
         (if is_rotated w.first.role w.last.role then Ok (at.Step (at.Clear (base_of w))) else Ok (at.Fetch (at.Timestamp (base_of w)) (timestamp_request s.limits))) (λ t.
         if-fine Holds bad (is_rotated w.first.role w.last.role) (Ok (at.Step (at.Clear (base_of w)))) (Ok (at.Fetch (at.Timestamp (base_of w)) (timestamp_request s.limits)))
         (λ _. (n, c, e, not-true _ t)) (n, c, e, not-true _ t))

@@ -53,7 +53,7 @@ base_of w = record { start = w.start; root = w.last }
 
 -- the last root was stored: its expiry, and whether keys were rotated
 abbrev pub walk_ended : Limits → Bool → WalkDoc → Result StageDoc Failure
-walk_ended l enforced w = unless (Checked (ExpiredMetadata role.Root)) (not (is_expired enforced w.start w.last.role.head.expires))
+walk_ended l enforced w = unless (Checked (ExpiredMetadata role.Root w.last.role.head.expires w.start)) (not (is_expired enforced w.start w.last.role.head.expires))
     (if is_rotated w.first.role w.last.role then Ok (at.Step (at.Clear (base_of w))) else Ok (at.Fetch (at.Timestamp (base_of w)) (timestamp_request l)))
 
 -- ---- the timestamp (TUF specification 5.4)
@@ -85,7 +85,7 @@ want_targets l k (Some m) = Ok (at.Fetch (at.Targets k m.version) (targets_reque
 abbrev pub targets_checked : Verifies → Bool → KnownDoc → ℕ → SignedDoc TargetsDoc → Result Unit Failure
 targets_checked verifies enforced k listed d = if_verified (λ r. Checked (VerifyMetadata role.Targets (Some r))) (targets_verdict verifies k.root.role d)
     (unless (Checked (VersionMismatch role.Targets d.role.head.version listed)) (d.role.head.version == listed)
-    (unless (Checked (ExpiredMetadata role.Targets)) (not (is_expired enforced k.start d.role.head.expires))
+    (unless (Checked (ExpiredMetadata role.Targets d.role.head.expires k.start)) (not (is_expired enforced k.start d.role.head.expires))
     (Ok (tt {0}))))
 
 abbrev pub accepted_targets : Verifies → Bool → KnownDoc → ℕ → SignedDoc TargetsDoc → Result StageDoc Failure

@@ -157,10 +157,14 @@ pub enum Error {
         new_snapshot_version: u64,
     },
     /// The document expired before the update began.
-    #[error("{} metadata is expired", .role.name())]
+    #[error("{} metadata is expired: its expiry is {expires}, and the update began at {now}", .role.name())]
     ExpiredMetadata {
         /// The document's role.
         role: RoleType,
+        /// Its expiry.
+        expires: Instant,
+        /// When the update began.
+        now: Instant,
     },
     /// The store couldn't read a file.
     #[error("Failed to open {path} in the store")]
@@ -284,7 +288,9 @@ impl From<Refusal> for Error {
                 new_role_version,
                 new_snapshot_version,
             },
-            Refusal::ExpiredMetadata { role } => Error::ExpiredMetadata { role },
+            Refusal::ExpiredMetadata { role, expires, now } => {
+                Error::ExpiredMetadata { role, expires, now }
+            }
         }
     }
 }

@@ -135,6 +135,8 @@ fn end_walk(
     if is_expired(enforcement, walk.start, last.expires) {
         return Err(Error::ExpiredMetadata {
             role: RoleType::Root,
+            expires: last.expires,
+            now: walk.start,
         });
     }
     if is_rotated(&walk.first.signed, last) {
@@ -307,6 +309,8 @@ fn check_targets<V: Verify>(
     if is_expired(setting.enforcement, known.start, targets.signed.expires) {
         return Err(Error::ExpiredMetadata {
             role: RoleType::Targets,
+            expires: targets.signed.expires,
+            now: known.start,
         });
     }
     Ok(())

@@ -40,7 +40,8 @@ pub data Reason : Type 0 where
   SnapshotRoleMissing : List ℕ → ℕ → ℕ → Reason
   -- the name, its old version, the old snapshot's, its new version, the new snapshot's
   SnapshotRoleRollback : List ℕ → ℕ → ℕ → ℕ → ℕ → Reason
-  ExpiredMetadata : RoleType → Reason
+  -- its expiry, and when the update began
+  ExpiredMetadata : RoleType → ℤ → ℤ → Reason
 
 abbrev pub refuse : Bool → Reason → Option Reason
 refuse true r = Some r
@@ -59,7 +60,7 @@ abbrev pub is_expired : Bool → ℤ → ℤ → Bool
 is_expired enforced start expires = enforced && int_lt expires start
 
 abbrev pub expiry : RoleType → Bool → ℤ → ℤ → Option Reason
-expiry role enforced start expires = refuse (is_expired enforced start expires) (ExpiredMetadata role)
+expiry role enforced start expires = refuse (is_expired enforced start expires) (ExpiredMetadata role expires start)
 
 -- an instant later than the one to be noted
 abbrev pub later : Option ℤ → ℤ → Option Reason
@@ -197,7 +198,7 @@ reason_of (refusal.OlderMetadata role current new) = OlderMetadata role current 
 reason_of (refusal.OlderSnapshotInTimestamp a b c d) = OlderSnapshotInTimestamp a b c d
 reason_of (refusal.SnapshotRoleMissing name old new) = SnapshotRoleMissing (string_bytes name) old new
 reason_of (refusal.SnapshotRoleRollback name was old now new) = SnapshotRoleRollback (string_bytes name) was old now new
-reason_of (refusal.ExpiredMetadata role) = ExpiredMetadata role
+reason_of (refusal.ExpiredMetadata role expires now) = ExpiredMetadata role expires.nanosecond now.nanosecond
 
 -- checks were made: all passed, or the first that refuses is told, or memory was wanting
 abbrev pub Checked : {A : Type 0} → Option Reason → Result A StepError → Type 0

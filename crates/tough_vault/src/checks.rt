@@ -150,10 +150,14 @@ pub enum Refusal {
         new_snapshot_version: u64,
     },
     /// The document expired before the update began.
-    #[error("{} metadata is expired", .role.name())]
+    #[error("{} metadata is expired: its expiry is {expires}, and the update began at {now}", .role.name())]
     ExpiredMetadata {
         /// The document's role.
         role: RoleType,
+        /// Its expiry.
+        expires: Instant,
+        /// When the update began.
+        now: Instant,
     },
 }
 
@@ -310,7 +314,11 @@ pub(crate) fn check_expiry(
     match enforcement {
         ExpirationEnforcement::Safe => {
             if expires < start {
-                return Err(StepError::Refused(Refusal::ExpiredMetadata { role }));
+                return Err(StepError::Refused(Refusal::ExpiredMetadata {
+                    role,
+                    expires,
+                    now: start,
+                }));
             }
             Ok(())
         }

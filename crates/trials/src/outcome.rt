@@ -39,7 +39,7 @@ fn told(alloc: Global, error: &Error) -> Result<String, AllocError> {
         Error::VerifyMetadata { role, source } => {
             format!(in alloc; "VerifyMetadata {} {}", role.name(), unverified(source))
         }
-        Error::ExpiredMetadata { role } => format!(in alloc; "ExpiredMetadata {}", role.name()),
+        Error::ExpiredMetadata { role, .. } => format!(in alloc; "ExpiredMetadata {}", role.name()),
         other => lower(alloc, other),
     }
 }

@@ -17,6 +17,14 @@ fn put(rt: &HostRuntime, at: &str, step: &Value) -> Result<()> {
     Ok(())
 }
 
+// The text up to the moment of an expired document's update, which is another one in each run.
+fn without_moment(text: &str) -> &str {
+    match text.split_once(" and the update began at ") {
+        Some((before, _)) => before,
+        None => text,
+    }
+}
+
 // Runs the program on the words of the step, and tells its status and what it wrote on its output and beside it.
 fn run(rt: &HostRuntime, folder: &str, step: &Value) -> Result<String> {
     let alloc = rt.alloc();
@@ -27,7 +35,7 @@ fn run(rt: &HostRuntime, folder: &str, step: &Value) -> Result<String> {
     let status = tough::run(rt, words.as_slice(), &mut out, &mut err);
     let out = String::from_utf8(out)?;
     let err = String::from_utf8(err)?.replace(alloc, folder, "DIR")?;
-    Ok(format!(in alloc; "{status}\n{out}{err}")?)
+    Ok(format!(in alloc; "{status}\n{out}{}", without_moment(err.as_str()))?)
 }
 
 // The names in a folder, in order, each with a blank before it.
