@@ -5,6 +5,7 @@
 //! what was wanted; and at the end of a file how many cases it has, and how many were answered otherwise.
 #![tactic(auto)]
 
+mod errors;
 mod files;
 mod folder;
 mod judge;
@@ -34,6 +35,8 @@ fn of_devices(rt: &HostRuntime, call: &str, case: &Value) -> Result<String> {
         "SystemClock::now" => folder::clock(rt, case),
         "tough" => program::play(rt, case),
         "RetryCore" => retries::play(rt.alloc(), case),
+        "Error" => errors::told(rt.alloc(), case),
+        "schema::Error" => errors::told_of_schema(rt.alloc(), case),
         "TransportError" => streams::made(rt.alloc(), case),
         "FilesystemTransport" => streams::fetch_file(rt, case),
         _ => streams::fetch(rt, call, case),
