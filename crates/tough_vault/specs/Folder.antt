@@ -1,9 +1,21 @@
 -- What a store over a folder tells: how often the device failed, and which names its files may have (the TUF specification 1.0, section 5, leaves how a client keeps its files open).
-use Rattle.std.specs.Prelude.{◌≢◌, ◌<◌, ℕ, List, length, codes, string_bytes, Contains}
+use Rattle.std.specs.Prelude.{◌≡◌, ◌≢◌, ◌<◌, ℕ, List, length, Option, IsSome, Result, IsErrOf, codes, string_bytes, Contains}
+use Rattle.std_io.specs.declared.io.error.Error.{Error}
 use Rattle.tough_vault.specs.declared.folder.DirStore.{DirStore}
+use Rattle.tough_vault.specs.declared.store.StoreError.{StoreError}
+use Rattle.tough_vault.specs.declared.store.StoreError.TheVariants.{Failed}
 
 abbrev pub store_failures : {R : Type 0} → DirStore R → ℕ
 store_failures store = store.failures
+
+-- what the operating system said when a call last failed
+abbrev pub last_fault : {R : Type 0} → DirStore R → Option Error
+last_fault store = store.fault
+
+-- a call that failed keeps what was said of it; others change nothing of that
+pub record KeepsFault {T : Type 0} (before now : Option Error) (result : Result T StoreError) : Type 0 where
+  pub failed : IsErrOf result Failed → IsSome now
+  pub quiet : (IsErrOf result Failed → ⊥) → now ≡ before
 
 -- the folder's path
 abbrev pub folder_of : {R : Type 0} → DirStore R → List ℕ

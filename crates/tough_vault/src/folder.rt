@@ -1,7 +1,7 @@
 //! A store over a folder.
-ghost use Rattle.std.specs.Prelude.{◌≡◌, ℕ, ◌+◌, ◌%◌, ◌^◌, ◌↔◌, IsTrue, string_bytes};
+ghost use Rattle.std.specs.Prelude.{◌≡◌, ℕ, ◌+◌, ◌%◌, ◌^◌, ◌↔◌, Some, None, IsTrue, string_bytes};
 ghost use Rattle.tough_vault.specs.Stored.{HasCause};
-ghost use Rattle.tough_vault.specs.Folder.{folder_of, runtime_of, store_failures, IsFileName};
+ghost use Rattle.tough_vault.specs.Folder.{folder_of, runtime_of, store_failures, last_fault, KeepsFault, IsFileName};
 
 use crate::store::{Store, StoreError};
 use std::alloc::{AllocError, AllocGlobal, Global};
@@ -34,6 +34,7 @@ impl<R: rt::Files + AllocGlobal + Drop> DirStore<R> {
         ensures runtime { runtime_of result ≡ rt }
         ensures folder { folder_of result ≡ string_bytes folder }
         ensures failures { store_failures result ≡ 0 }
+        ensures fault { last_fault result ≡ None }
     {
         DirStore {
             rt,
@@ -44,7 +45,9 @@ impl<R: rt::Files + AllocGlobal + Drop> DirStore<R> {
     }
 
     /// What the operating system said when a call last failed, if one did.
-    pub fn into_fault(self) -> Option<io::Error> {
+    pub fn into_fault(self) -> Option<io::Error>
+        ensures { result ≡ last_fault self }
+    {
         self.fault
     }
 
@@ -52,6 +55,7 @@ impl<R: rt::Files + AllocGlobal + Drop> DirStore<R> {
     fn fail(&mut self, error: io::Error) -> StoreError
         ensures result { result ≡ StoreError.Failed }
         ensures count { store_failures self.new ≡ (store_failures self.old + 1) % 2 ^ 64 }
+        ensures kept { last_fault self.new ≡ Some error }
     {
         self.failures = self.failures.wrapping_add(1);
         self.fault = Some(error);
@@ -113,7 +117,7 @@ fn sync(files: &impl rt::Files, folder: &str) -> io::Result<()> {
 }
 
 impl<R: rt::Files + AllocGlobal + Drop> Store for DirStore<R> {
-    ghost use Rattle.std.specs.Prelude.{false, None};
+    ghost use Rattle.std.specs.Prelude.{false};
 
     ghost tells = { false };
 
@@ -124,6 +128,7 @@ impl<R: rt::Files + AllocGlobal + Drop> Store for DirStore<R> {
     fn read(&mut self, alloc: Global, name: &str) -> Result<Option<Vec<u8>>, StoreError>
         ensures none { (IsFileName name.now → ⊥) → result ≡ Ok None }
         ensures cause { HasCause (store_failures self.old) (store_failures self.new) result }
+        ensures kept { KeepsFault (last_fault self.old) (last_fault self.new) result }
     {
         if !is_plain(name) {
             return Ok(None);
@@ -144,6 +149,7 @@ impl<R: rt::Files + AllocGlobal + Drop> Store for DirStore<R> {
     fn write(&mut self, name: &str, bytes: &[u8]) -> Result<(), StoreError>
         ensures refused { (IsFileName name.now → ⊥) → result ≡ Err StoreError.Failed }
         ensures cause { HasCause (store_failures self.old) (store_failures self.new) result }
+        ensures kept { KeepsFault (last_fault self.old) (last_fault self.new) result }
     {
         if !is_plain(name) {
             return Err(self.fail(io::Error::from(ErrorKind::InvalidInput)));
@@ -160,6 +166,7 @@ impl<R: rt::Files + AllocGlobal + Drop> Store for DirStore<R> {
     fn remove(&mut self, name: &str) -> Result<(), StoreError>
         ensures absent { (IsFileName name.now → ⊥) → result ≡ Ok tt }
         ensures cause { HasCause (store_failures self.old) (store_failures self.new) result }
+        ensures kept { KeepsFault (last_fault self.old) (last_fault self.new) result }
     {
         if !is_plain(name) {
             return Ok(());
