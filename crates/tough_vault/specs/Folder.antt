@@ -1,6 +1,6 @@
 -- What a store over a folder tells: how often the device failed, and which names its files may have (the TUF specification 1.0, section 5, leaves how a client keeps its files open).
 use Rattle.std.specs.Prelude.{◌≡◌, ◌≢◌, ◌<◌, ℕ, List, length, Option, IsSome, Result, IsErrOf, codes, string_bytes, Contains}
-use Rattle.std_io.specs.declared.io.error.Error.{Error}
+use Rattle.std.specs.declared.io.Error.{Error}
 use Rattle.tough_vault.specs.declared.folder.DirStore.{DirStore}
 use Rattle.tough_vault.specs.declared.store.StoreError.{StoreError}
 use Rattle.tough_vault.specs.declared.store.StoreError.TheVariants.{Failed}
