@@ -1,4 +1,4 @@
-ghost use Rattle.std.specs.Prelude.{◌≡◌, ◌≤◌, Some, IfOk, false, option_and_then};
+ghost use Rattle.std.specs.Prelude.{◌≡◌, ◌≤◌, Some, None, IfOk, IsErrOf, false, option_and_then};
 ghost use Rattle.serde_json.specs.Data as Data;
 ghost use Rattle.serde_json.specs.Data.{depth};
 ghost use Rattle.serde_json.specs.Read.{max_depth};
@@ -6,6 +6,7 @@ ghost use Rattle.serde_json.specs.View.{view};
 ghost use Rattle.serde_json.specs.Written.{has_float, compact_text};
 ghost use Rattle.tough_json.specs.Results.{json_of, Writes};
 ghost use Rattle.tough_json.specs.Pieces.{text_in};
+ghost use Rattle.tough_json.specs.declared.error.WriteError.TheVariants as writes;
 ghost use Rattle.tough_json.specs.declared.pieces.Form.TheVariants as forms;
 ghost use Rattle.tough_roles.specs.Readable.{NestsWithin, IsTextOf};
 ghost use Rattle.tough_roles.specs.Document.{ReadsText, WritesBytes, IsSigned, IsNotSigned, document_json};
@@ -45,6 +46,7 @@ impl<T: Role> Signed<T> {
     /// The document as JSON, which is read as it; `Unwritable` where its role has none.
     pub fn to_value(&self, alloc: Global) -> Result<Value, WriteError>
         ensures written { Writes view result (document_json T.json self.now) }
+        ensures unwritable { IsErrOf result writes.Unwritable → T.json self.now.signed ≡ None }
         ensures back { T.is_kept self.now.signed → IfOk result (λ v. IsSigned T.is_read (view v) self.now) }
     {
         let role = self.signed.to_value(alloc)?;
@@ -63,6 +65,7 @@ impl<T: Role> Signed<T> {
     /// `Unwritable` where its role has no JSON, or that holds a float.
     pub fn compact(&self, alloc: Global) -> Result<Vec<u8>, WriteError>
         ensures written { Writes (λ t. t.items) result (option_and_then (text_in forms.Compact) (document_json T.json self.now)) }
+        ensures unwritable { IsErrOf result writes.Unwritable → option_and_then (text_in forms.Compact) (T.json self.now.signed) ≡ None }
         ensures back { T.is_kept self.now.signed → NestsWithin max_depth (document_json T.json self.now) → IfOk result (λ t. IsTextOf T.is_read self.now t.items) }
     {
         let value = self.to_value(alloc)?;
