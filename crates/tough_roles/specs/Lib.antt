@@ -15,3 +15,4 @@ pub mod Snapshot
 pub mod RoleId
 pub mod Names
 pub mod Keyring
+pub mod Readable

@@ -1,6 +1,6 @@
 -- Signatures, and the parts of a signed document (TUF specification 1.0, section 4.2: `signed` and `signatures`).
-use Rattle.std.specs.Prelude.{List, map, Option, Some, codes}
-use Rattle.tough_base.specs.Spelled.{Spelled}
+use Rattle.std.specs.Prelude.{◌≡◌, List, [], ◌∷◌, map, Option, Some, codes}
+use Rattle.tough_base.specs.Spelled.{Spelled, hex_bytes}
 use Rattle.serde_json.specs.Data.{Data, array, object, no_members}
 use Rattle.serde_json.specs.Find.{as_object}
 use Rattle.tough_json.specs.Reading.{◌>>=◌, required, hexadecimal, listing}
@@ -70,3 +70,12 @@ signed_at f d = do
 -- the JSON of a signed document, where f writes its role
 abbrev pub signed_json : {A : Type 0} → (A → Option Data) → SignedDoc A → Option Data
 signed_json f s = f s.role >>= λ role. signed_parts_json role s.signatures
+
+-- the spelling stands for the bytes, as that of each value of the program does
+abbrev pub IsSpelled : Spelled → Type 0
+IsSpelled s = hex_bytes s.spelling ≡ Some s.bytes
+
+-- so are the identifier and the value of each signature
+abbrev pub AreSpelled : List SignatureDoc → Type 0
+AreSpelled [] = Unit {0}
+AreSpelled (s ∷ ss) = IsSpelled s.keyid × IsSpelled s.sig × AreSpelled ss

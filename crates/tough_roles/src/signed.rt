@@ -1,4 +1,4 @@
-ghost use Rattle.std.specs.Prelude.{◌≡◌, ◌≤◌, Some, IfOk, false, option_and_then};
+ghost use Rattle.std.specs.Prelude.{◌≡◌, ◌≤◌, Some, None, IfOk, IsErrOf, false, option_and_then};
 ghost use Rattle.serde_json.specs.Data as Data;
 ghost use Rattle.serde_json.specs.Data.{depth};
 ghost use Rattle.serde_json.specs.Read.{max_depth};
@@ -6,6 +6,9 @@ ghost use Rattle.serde_json.specs.View.{view};
 ghost use Rattle.serde_json.specs.Written.{has_float, compact_text};
 ghost use Rattle.tough_json.specs.Results.{json_of, Writes};
 ghost use Rattle.tough_json.specs.Pieces.{text_in};
+ghost use Rattle.tough_json.specs.declared.error.WriteError.TheVariants as writes;
+ghost use Rattle.tough_json.specs.declared.pieces.Form.TheVariants as forms;
+ghost use Rattle.tough_roles.specs.Readable.{NestsWithin, IsTextOf};
 ghost use Rattle.tough_roles.specs.Document.{ReadsText, WritesBytes, IsSigned, IsNotSigned, document_json};
 
 use crate::read_signed::signed_of;
@@ -18,7 +21,7 @@ use tough_json::borrowed::{Scratch, borrowed};
 use tough_json::error::{ReadError, WriteError};
 use tough_json::pieces::text_in;
 use tough_json::text::bytes_of;
-use tough_json::{Form, PieceError};
+use tough_json::{Form, PieceError, holds_float};
 
 /// A role with its signatures.
 #[derive(Debug, Drop, PartialEq)]
@@ -43,6 +46,7 @@ impl<T: Role> Signed<T> {
     /// The document as JSON, which is read as it; `Unwritable` where its role has none.
     pub fn to_value(&self, alloc: Global) -> Result<Value, WriteError>
         ensures written { Writes view result (document_json T.json self.now) }
+        ensures unwritable { IsErrOf result writes.Unwritable → T.json self.now.signed ≡ None }
         ensures back { T.is_kept self.now.signed → IfOk result (λ v. IsSigned T.is_read (view v) self.now) }
     {
         let role = self.signed.to_value(alloc)?;
@@ -54,6 +58,20 @@ impl<T: Role> Signed<T> {
         ensures { WritesBytes result (document_json T.json self.now) }
     {
         let value = self.to_value(alloc)?;
+        Ok(bytes_of(alloc, &value)?)
+    }
+
+    /// The text of the document as compact JSON, which is read as the document where it nests no deeper than is read;
+    /// `Unwritable` where its role has no JSON, or that holds a float.
+    pub fn compact(&self, alloc: Global) -> Result<Vec<u8>, WriteError>
+        ensures written { Writes (λ t. t.items) result (option_and_then (text_in forms.Compact) (document_json T.json self.now)) }
+        ensures unwritable { IsErrOf result writes.Unwritable → option_and_then (text_in forms.Compact) (T.json self.now.signed) ≡ None }
+        ensures back { T.is_kept self.now.signed → NestsWithin max_depth (document_json T.json self.now) → IfOk result (λ t. IsTextOf T.is_read self.now t.items) }
+    {
+        let value = self.to_value(alloc)?;
+        if holds_float(&value) {
+            return Err(WriteError::Unwritable);
+        }
         Ok(bytes_of(alloc, &value)?)
     }
 

@@ -1,0 +1,5 @@
+use Rattle.tough_roles.proofs.Rereading.{text-back}
+use Rattle.tough_roles.proofs.laws.text_reads_back.Goals as goal
+
+pub returns : goal.returns
+returns c = text-back
