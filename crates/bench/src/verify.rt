@@ -6,6 +6,7 @@ use std::num::NonZeroU64;
 use std::rt::Runtime;
 use std::time::Instant;
 use tough::schema::{DemoSign, DemoVerify, Root, Signed, Timestamp};
+use tough_json::Form;
 
 const PUBLIC: &str = "3b6a27bcceb6a42d62a3a8d02a6f0d73653215771de243a63ac048a18b59da29";
 
@@ -29,7 +30,7 @@ fn measure(
     thousands: u32,
 ) -> Result<(), Error> {
     let times = thousands.saturating_mul(1000);
-    let Ok(bytes) = timestamp.to_bytes(rt.alloc()) else {
+    let Ok(bytes) = timestamp.text(rt.alloc(), Form::Compact) else {
         println!(rt; "the timestamp can't be written")?;
         return Ok(());
     };

@@ -7,7 +7,7 @@ use Rattle.std.proofs.lemmas.Bool.{cases_Bool, false≢true}
 use Rattle.tough_files.specs.declared.files.FilesError.{FilesError}
 use Rattle.tough_files.specs.declared.files.FilesError.TheVariants.{Failed, Memory}
 use Rattle.tough_files.specs.Calls.{Answered, done, refused}
-use Rattle.tough_files.specs.Contents.{Node, file, folder, link, Contents, Same, is_folder}
+use Rattle.tough_files.specs.Contents.{Node, file, folder, link, Contents, Same, node_at, is_folder}
 use Rattle.tough_files.specs.Changes.{Outcome, Gives, IsAbove, itself, under, Grows, MakesFolders, folder_over, put}
 
 -- what a call gave, by whether it found memory
@@ -97,8 +97,10 @@ module _ (path dir : List ℕ) (first before after : Contents) (parent : path_pa
   step answered (Some (file bytes)) at (inr g) = in_the_way answered (file bytes) at refl g.0 g.1
   step answered (Some (link target)) at (inr g) = in_the_way answered (link target) at refl g.0 g.1
 
-  pub grown : (answered : Answered) → Gives (folder_over path before (before path)) before answered after → MakesFolders path first answered after
-  grown answered g = step answered (before path) refl (gave (folder_over path before (before path)) before after answered g)
+  pub grown : (answered : Answered) → Gives (folder_over path before (node_at before path)) before answered after → MakesFolders path first answered after
+  grown answered g =
+      let below : node_at before path ≡ before path = rw parent refl in
+      step answered (before path) refl (gave (folder_over path before (before path)) before after answered (subst (λ there. Gives (folder_over path before there) before answered after) below g))
 
 pub passed_on : (path dir : List ℕ) (first after : Contents) (e : FilesError) → path_parent path ≡ Some dir → MakesFolders dir first (refused e) after → MakesFolders path first (refused e) after
 passed_on path dir first after e parent held =

@@ -1,11 +1,12 @@
 -- What each call answers, and what it leaves (the calls of POSIX, section "System Interfaces", over nodes at paths).
-use Rattle.std.specs.Prelude.{◌≡◌, ◌≢◌, ◌⊎◌, ℕ, Bool, false, ◌||◌, IsSome, Contains, List, [], ◌++◌, Option, Some, None, if◌then◌else◌, take, drop, bytes_eq, codes, decimal}
+use Rattle.std.specs.Prelude.{◌≡◌, ◌≢◌, ◌⊎◌, ℕ, Bool, false, IsSome, Contains, List, [], ◌++◌, Option, Some, None, if◌then◌else◌, take, drop, bytes_eq, codes, decimal}
+use Rattle.std.specs.List.{IsDistinct}
 use Rattle.std.specs.Map.{update}
 use Rattle.std.specs.Path.{path_join, path_parent, path_file_name}
 use Rattle.tough_files.specs.declared.files.FileKind.TheVariants.{File, Folder, Link}
 use Rattle.tough_files.specs.declared.files.FilesError.TheVariants.{NotFound, Failed, Memory}
 use Rattle.tough_files.specs.Calls.{Answered, done, found, got, named, listed, refused}
-use Rattle.tough_files.specs.Contents.{Node, file, folder, link, Contents, Same, followed, seen, is_base, is_folder, has_folder}
+use Rattle.tough_files.specs.Contents.{Node, file, folder, link, Contents, Same, followed, seen, is_base, node_at, is_folder, has_folder}
 
 -- what a call answers where there is memory, and what is there after it
 pub record Outcome : Type 0 where
@@ -33,7 +34,7 @@ kind_answer (Some folder) = found Folder
 kind_answer (Some (link target)) = found Link
 
 abbrev pub kind_outcome : List ℕ → Bool → Contents → Outcome
-kind_outcome path follows contents = answer_only (kind_answer (contents (seen follows contents path))) contents
+kind_outcome path follows contents = answer_only (kind_answer (node_at contents (seen follows contents path))) contents
 
 abbrev pub read_answer : ℕ → ℕ → Option Node → Answered
 read_answer start len None = refused NotFound
@@ -41,7 +42,7 @@ read_answer start len (Some (file bytes)) = got (take len (drop start bytes))
 read_answer start len (Some node) = refused Failed
 
 abbrev pub read_outcome : List ℕ → ℕ → ℕ → Contents → Outcome
-read_outcome path start len contents = answer_only (read_answer start len (contents (followed contents path))) contents
+read_outcome path start len contents = answer_only (read_answer start len (node_at contents (followed contents path))) contents
 
 -- a new file where the folder is there
 abbrev pub new_outcome : Contents → List ℕ → Node → Outcome
@@ -54,7 +55,7 @@ write_over bytes contents path (Some (file old)) = does contents path (Some (fil
 write_over bytes contents path (Some other) = answer_only (refused Failed) contents
 
 abbrev pub write_outcome : List ℕ → List ℕ → Contents → Outcome
-write_outcome bytes path contents = write_over bytes contents (followed contents path) (contents (followed contents path))
+write_outcome bytes path contents = write_over bytes contents (followed contents path) (node_at contents (followed contents path))
 
 abbrev pub create_outcome : List ℕ → Contents → Outcome
 create_outcome path contents = write_outcome [] path contents
@@ -65,7 +66,7 @@ append_over bytes contents path (Some (file old)) = does contents path (Some (fi
 append_over bytes contents path (Some other) = answer_only (refused Failed) contents
 
 abbrev pub append_outcome : List ℕ → List ℕ → Contents → Outcome
-append_outcome path bytes contents = append_over bytes contents (followed contents path) (contents (followed contents path))
+append_outcome path bytes contents = append_over bytes contents (followed contents path) (node_at contents (followed contents path))
 
 abbrev pub copy_over : List ℕ → Contents → Option Node → Outcome
 copy_over path contents None = answer_only (refused NotFound) contents
@@ -74,7 +75,7 @@ copy_over path contents (Some other) = answer_only (refused Failed) contents
 
 -- the first path is the original's
 abbrev pub copy_outcome : List ℕ → List ℕ → Contents → Outcome
-copy_outcome original path contents = copy_over path contents (contents (followed contents original))
+copy_outcome original path contents = copy_over path contents (node_at contents (followed contents original))
 
 -- the node stands at the new path, and no longer at the old one
 abbrev pub moved : List ℕ → List ℕ → Node → Contents → Contents
@@ -87,11 +88,11 @@ move_over old new node contents there = if has_folder contents new then record {
 abbrev pub rename_over : List ℕ → List ℕ → Contents → Option Node → Outcome
 rename_over old new contents None = answer_only (refused NotFound) contents
 rename_over old new contents (Some folder) = answer_only (refused Failed) contents
-rename_over old new contents (Some node) = move_over old new node contents (contents new)
+rename_over old new contents (Some node) = move_over old new node contents (node_at contents new)
 
 -- folders aren't moved; links are, as they stand
 abbrev pub rename_outcome : List ℕ → List ℕ → Contents → Outcome
-rename_outcome old new contents = rename_over old new contents (contents old)
+rename_outcome old new contents = rename_over old new contents (node_at contents old)
 
 abbrev pub place_over : Node → List ℕ → Contents → Option Node → Outcome
 place_over node path contents None = new_outcome contents path node
@@ -99,7 +100,7 @@ place_over node path contents (Some there) = answer_only (refused Failed) conten
 
 -- a link to the original, which need not be there
 abbrev pub link_outcome : List ℕ → List ℕ → Contents → Outcome
-link_outcome original path contents = place_over (link original) path contents (contents path)
+link_outcome original path contents = place_over (link original) path contents (node_at contents path)
 
 -- the path of a temporary file in a folder
 abbrev pub temp_path : List ℕ → ℕ → List ℕ
@@ -111,12 +112,12 @@ temp_over path contents (Some there) = answer_only (refused Failed) contents
 
 abbrev pub temp_in : List ℕ → Contents → Option Node → Outcome
 temp_in path contents None = answer_only (refused NotFound) contents
-temp_in path contents (Some folder) = temp_over path contents (contents path)
+temp_in path contents (Some folder) = temp_over path contents (node_at contents path)
 temp_in path contents (Some other) = answer_only (refused Failed) contents
 
 -- an empty file at this path in the folder
 abbrev pub temp_outcome : List ℕ → List ℕ → Contents → Outcome
-temp_outcome dir path contents = if is_base dir then temp_over path contents (contents path) else temp_in path contents (contents dir)
+temp_outcome dir path contents = temp_in path contents (node_at contents dir)
 
 -- an empty file in the folder, at the path of some number
 abbrev pub CreatesTemp : List ℕ → Contents → Answered → Contents → Type 0
@@ -129,7 +130,7 @@ remove_over path contents (Some node) = does contents path None
 
 -- a file or a link itself
 abbrev pub remove_outcome : List ℕ → Contents → Outcome
-remove_outcome path contents = remove_over path contents (contents path)
+remove_outcome path contents = remove_over path contents (node_at contents path)
 
 abbrev pub canonical_answer : List ℕ → Option Node → Answered
 canonical_answer path None = refused NotFound
@@ -137,7 +138,7 @@ canonical_answer path (Some (link target)) = refused Failed
 canonical_answer path (Some node) = named path
 
 abbrev pub canonical_outcome : List ℕ → Contents → Outcome
-canonical_outcome path contents = answer_only (canonical_answer (followed contents path) (contents (followed contents path))) contents
+canonical_outcome path contents = answer_only (canonical_answer (followed contents path) (node_at contents (followed contents path))) contents
 
 -- p is the path, or stands above it
 pub data IsAbove (p : List ℕ) : List ℕ → Type 0 where
@@ -168,19 +169,20 @@ is_child_of dir (Some parent) = bytes_eq parent dir
 abbrev pub name_in : List ℕ → List ℕ → Option (List ℕ)
 name_in dir path = if is_child_of dir (path_parent path) then path_file_name path else None
 
--- the names of what stands in the folder, in some order
+-- the names of what stands in the folder, each once, in some order
 pub record IsListing (dir : List ℕ) (contents : Contents) (names : List (List ℕ)) : Type 0 where
   pub there : (name : List ℕ) → Contains names name → (path : List ℕ) × IsSome (contents path) × (name_in dir path ≡ Some name)
   pub all : (path name : List ℕ) → IsSome (contents path) → name_in dir path ≡ Some name → Contains names name
+  pub once : IsDistinct bytes_eq names
 
--- the refusal where no folder is
-abbrev pub no_folder : Option Node → Answered
-no_folder None = refused NotFound
-no_folder (Some other) = refused Failed
+abbrev pub list_answer : List (List ℕ) → Option Node → Answered
+list_answer names None = refused NotFound
+list_answer names (Some folder) = listed names
+list_answer names (Some other) = refused Failed
 
 -- such names of what stands in the folder
 abbrev pub list_outcome : List ℕ → List (List ℕ) → Contents → Outcome
-list_outcome dir names contents = if is_base dir || is_folder (contents dir) then answer_only (listed names) contents else answer_only (no_folder (contents dir)) contents
+list_outcome dir names contents = answer_only (list_answer names (node_at contents dir)) contents
 
 abbrev pub Lists : List ℕ → Contents → Answered → Contents → Type 0
 Lists dir before answered after = (names : List (List ℕ)) × (answered ≡ listed names → IsListing dir before names) × Gives (list_outcome dir names before) before answered after

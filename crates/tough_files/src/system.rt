@@ -16,7 +16,8 @@ const TEMP_TRIES: usize = 65_536;
 
 /// The files of the operating system, reached through a runtime.
 ///
-/// A path where nothing stands is `NotFound`; every other fault but want of memory is `Failed`, and counts.
+/// The empty path is the current folder. A path where nothing stands is `NotFound`; every other fault but want of memory is
+/// `Failed`, and counts.
 #[derive(Drop)]
 pub struct OsFiles<R> {
     rt: R,
@@ -44,6 +45,11 @@ impl<R: rt::Files + AllocGlobal + Clone + Drop> OsFiles<R> {
             }
         }
     }
+}
+
+// The path for the system, to which the empty one, the current folder, is none.
+fn place(path: &str) -> &str {
+    if path.is_empty() { "." } else { path }
 }
 
 // What the system says that a file is.
@@ -129,9 +135,9 @@ impl<R: rt::Files + AllocGlobal + Clone + Drop> Files for OsFiles<R> {
 
     fn kind(&mut self, path: &str, follow: bool) -> Result<FileKind, FilesError> {
         let found = if follow {
-            fs::metadata(&self.rt, path)
+            fs::metadata(&self.rt, place(path))
         } else {
-            fs::symlink_metadata(&self.rt, path)
+            fs::symlink_metadata(&self.rt, place(path))
         };
         match found {
             Ok(metadata) => Ok(kind_of(&metadata)),
@@ -140,14 +146,14 @@ impl<R: rt::Files + AllocGlobal + Clone + Drop> Files for OsFiles<R> {
     }
 
     fn read(&mut self, path: &str, from: u64, buf: &mut [u8]) -> Result<usize, FilesError> {
-        match read_at(&self.rt, path, from, buf) {
+        match read_at(&self.rt, place(path), from, buf) {
             Ok(count) => Ok(count),
             Err(e) => Err(self.fault(&e)),
         }
     }
 
     fn create(&mut self, path: &str) -> Result<(), FilesError> {
-        match fs::create(&self.rt, path) {
+        match fs::create(&self.rt, place(path)) {
             Ok(_) => Ok(()),
             Err(e) => Err(self.fault(&e)),
         }
@@ -161,56 +167,56 @@ impl<R: rt::Files + AllocGlobal + Clone + Drop> Files for OsFiles<R> {
     }
 
     fn append(&mut self, path: &str, bytes: &[u8]) -> Result<(), FilesError> {
-        match append_to(&self.rt, path, bytes) {
+        match append_to(&self.rt, place(path), bytes) {
             Ok(()) => Ok(()),
             Err(e) => Err(self.fault(&e)),
         }
     }
 
     fn rename(&mut self, from: &str, to: &str) -> Result<(), FilesError> {
-        match fs::rename(&self.rt, from, to) {
+        match fs::rename(&self.rt, place(from), place(to)) {
             Ok(()) => Ok(()),
             Err(e) => Err(self.fault(&e)),
         }
     }
 
     fn copy(&mut self, from: &str, to: &str) -> Result<(), FilesError> {
-        match fs::copy(&self.rt, from, to) {
+        match fs::copy(&self.rt, place(from), place(to)) {
             Ok(_) => Ok(()),
             Err(e) => Err(self.fault(&e)),
         }
     }
 
     fn link(&mut self, original: &str, path: &str) -> Result<(), FilesError> {
-        match symlink(&self.rt, original, path) {
+        match symlink(&self.rt, original, place(path)) {
             Ok(()) => Ok(()),
             Err(e) => Err(self.fault(&e)),
         }
     }
 
     fn remove(&mut self, path: &str) -> Result<(), FilesError> {
-        match fs::remove_file(&self.rt, path) {
+        match fs::remove_file(&self.rt, place(path)) {
             Ok(()) => Ok(()),
             Err(e) => Err(self.fault(&e)),
         }
     }
 
     fn make_folders(&mut self, path: &str) -> Result<(), FilesError> {
-        match fs::create_dir_all(&self.rt, path) {
+        match fs::create_dir_all(&self.rt, place(path)) {
             Ok(()) => Ok(()),
             Err(e) => Err(self.fault(&e)),
         }
     }
 
     fn canonical(&mut self, path: &str) -> Result<String, FilesError> {
-        match fs::canonicalize(&self.rt, path) {
+        match fs::canonicalize(&self.rt, place(path)) {
             Ok(path) => Ok(path.into_string()),
             Err(e) => Err(self.fault(&e)),
         }
     }
 
     fn list(&mut self, path: &str) -> Result<Vec<String>, FilesError> {
-        match names_in(&self.rt, path) {
+        match names_in(&self.rt, place(path)) {
             Ok(names) => Ok(names),
             Err(e) => Err(self.fault(&e)),
         }

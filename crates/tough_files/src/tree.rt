@@ -1,12 +1,13 @@
 //! What stands at each path, in memory.
-ghost use Rattle.std.specs.Prelude.{◌≡◌, ◌||◌, ℕ, List, Some, None, OnOk, IfOk, OnErr, IfErr, string_bytes, option_map, option_copied, ◌≢◌, ◌++◌, ◌≤◌, length, map, take, drop};
+ghost use Rattle.std.specs.Prelude.{◌≡◌, bytes_eq, ℕ, List, [], Some, None, OnOk, IfOk, OnErr, IfErr, string_bytes, option_map, option_copied, ◌≢◌, ◌++◌, ◌≤◌, length, map, take, drop};
+ghost use Rattle.std.specs.List.{list_any};
 ghost use Rattle.tough_files.specs.declared.files.FilesError.TheVariants.{Memory};
 ghost use Rattle.tough_files.specs.Calls.{done_or, found_or, got_or, named_if, listed_or, named, refused};
-ghost use Rattle.tough_files.specs.Contents.{Same, followed, seen};
+ghost use Rattle.tough_files.specs.Contents.{Same, followed, seen, node_at};
 ghost use Rattle.tough_files.specs.Contents as there;
 ghost use Rattle.tough_files.specs.Changes.{Gives, MakesFolders, Lists, create_outcome, write_outcome, append_outcome, rename_outcome, copy_outcome, link_outcome, remove_outcome, temp_outcome, temp_over, kind_answer, read_answer, canonical_answer};
 ghost use Rattle.tough_files.specs.Changes as change;
-ghost use Rattle.tough_files.specs.Tree.{node_of, contents_of, entry_names};
+ghost use Rattle.tough_files.specs.Tree.{node_of, seen_node, contents_of, and_name, entry_names};
 
 use crate::files::{FileKind, FilesError, MAX_LINKS};
 use std::alloc::{AllocError, Global};
@@ -19,6 +20,14 @@ pub(crate) enum Stored {
     File(Vec<u8>),
     Folder,
     Link(String),
+}
+
+// The same, to look at.
+#[derive(Clone, Copy)]
+enum Seen<'a> {
+    File(&'a Vec<u8>),
+    Folder,
+    Link(&'a String),
 }
 
 /// What stands at each path.
@@ -56,9 +65,9 @@ impl Tree {
         let mut path = path;
         for _ in 0..MAX_LINKS {
             match self.node(path) {
-                Some(Stored::Link(target)) => path = target.as_str(),
-                Some(Stored::File(_)) => return path,
-                Some(Stored::Folder) => return path,
+                Some(Seen::Link(target)) => path = target.as_str(),
+                Some(Seen::File(_)) => return path,
+                Some(Seen::Folder) => return path,
                 None => return path,
             }
         }
@@ -80,24 +89,26 @@ impl Tree {
         copied(self.alloc, self.follow(path))
     }
 
-    // What stands at the path.
-    fn node(&self, path: &str) -> Option<&Stored>
-        ensures { option_map node_of (option_copied result) ≡ contents_of self.now path.now }
+    // What stands at the path. The root and the current folder are always there.
+    fn node(&self, path: &str) -> Option<Seen<'_>>
+        ensures { option_map seen_node result ≡ node_at (contents_of self.now) path.now }
     {
-        self.nodes.get(path)
+        if is_base(path) {
+            return Some(Seen::Folder);
+        }
+        match self.nodes.get(path) {
+            None => None,
+            Some(Stored::File(bytes)) => Some(Seen::File(bytes)),
+            Some(Stored::Folder) => Some(Seen::Folder),
+            Some(Stored::Link(target)) => Some(Seen::Link(target)),
+        }
     }
 
+    // Whether things may stand here.
     fn is_folder(&self, path: &str) -> bool
-        ensures { result ≡ there.is_folder (contents_of self.now path.now) }
+        ensures { result ≡ there.is_folder (node_at (contents_of self.now) path.now) }
     {
-        matches!(self.node(path), Some(Stored::Folder))
-    }
-
-    // Whether things may stand here: a folder, the root or the current folder.
-    fn is_place(&self, path: &str) -> bool
-        ensures { result ≡ (there.is_base path.now || there.is_folder (contents_of self.now path.now)) }
-    {
-        is_base(path) || self.is_folder(path)
+        matches!(self.node(path), Some(Seen::Folder))
     }
 
     // Whether the path's folder is there.
@@ -106,7 +117,7 @@ impl Tree {
     {
         match Path::new(path).parent() {
             None => false,
-            Some(folder) => self.is_place(folder.as_str()),
+            Some(folder) => self.is_folder(folder.as_str()),
         }
     }
 
@@ -141,13 +152,13 @@ impl Tree {
     }
 
     pub(crate) fn kind(&self, path: &str, follow: bool) -> Result<FileKind, FilesError>
-        ensures { found_or result ≡ kind_answer (contents_of self.now (seen follow (contents_of self.now) path.now)) }
+        ensures { found_or result ≡ kind_answer (node_at (contents_of self.now) (seen follow (contents_of self.now) path.now)) }
     {
         match self.node(self.seen(path, follow)) {
             None => Err(FilesError::NotFound),
-            Some(Stored::File(_)) => Ok(FileKind::File),
-            Some(Stored::Folder) => Ok(FileKind::Folder),
-            Some(Stored::Link(_)) => Ok(FileKind::Link),
+            Some(Seen::File(_)) => Ok(FileKind::File),
+            Some(Seen::Folder) => Ok(FileKind::Folder),
+            Some(Seen::Link(_)) => Ok(FileKind::Link),
         }
     }
 
@@ -169,13 +180,13 @@ impl Tree {
 
     // The same, at a path itself.
     fn write_at(&mut self, path: String, bytes: Vec<u8>) -> Result<(), FilesError>
-        ensures { Gives (change.write_over bytes.items (contents_of self.old) (string_bytes path) (contents_of self.old (string_bytes path))) (contents_of self.old) (done_or result) (contents_of self.new) }
+        ensures { Gives (change.write_over bytes.items (contents_of self.old) (string_bytes path) (node_at (contents_of self.old) (string_bytes path))) (contents_of self.old) (done_or result) (contents_of self.new) }
     {
         match self.node(path.as_str()) {
             None => self.put_new(path, Stored::File(bytes)),
-            Some(Stored::File(_)) => self.put(path, Stored::File(bytes)),
-            Some(Stored::Folder) => Err(FilesError::Failed),
-            Some(Stored::Link(_)) => Err(FilesError::Failed),
+            Some(Seen::File(_)) => self.put(path, Stored::File(bytes)),
+            Some(Seen::Folder) => Err(FilesError::Failed),
+            Some(Seen::Link(_)) => Err(FilesError::Failed),
         }
     }
 
@@ -184,7 +195,7 @@ impl Tree {
     {
         match self.node(path) {
             None => Err(FilesError::NotFound),
-            Some(Stored::Folder) => Err(FilesError::Failed),
+            Some(Seen::Folder) => Err(FilesError::Failed),
             Some(_) => {
                 self.take_out(path);
                 Ok(())
@@ -209,14 +220,14 @@ impl Tree {
 
     // The bytes of the file from `from` on, as many as the buffer takes.
     pub(crate) fn read(&self, path: &str, from: u64, buf: &mut [u8]) -> Result<usize, FilesError>
-        ensures answer { got_or buf.new result ≡ read_answer from (length buf.old) (contents_of self.now (followed (contents_of self.now) path.now)) }
+        ensures answer { got_or buf.new result ≡ read_answer from (length buf.old) (node_at (contents_of self.now) (followed (contents_of self.now) path.now)) }
         ensures len { IfOk result (λ n. n ≤ length buf.new) }
     {
         match self.node(self.follow(path)) {
             None => Err(FilesError::NotFound),
-            Some(Stored::File(bytes)) => Ok(fill(bytes, from, buf)),
-            Some(Stored::Folder) => Err(FilesError::Failed),
-            Some(Stored::Link(_)) => Err(FilesError::Failed),
+            Some(Seen::File(bytes)) => Ok(fill(bytes, from, buf)),
+            Some(Seen::Folder) => Err(FilesError::Failed),
+            Some(Seen::Link(_)) => Err(FilesError::Failed),
         }
     }
 
@@ -231,16 +242,16 @@ impl Tree {
 
     // The same, at a path itself.
     fn append_at(&mut self, path: String, bytes: &[u8]) -> Result<(), FilesError>
-        ensures { Gives (change.append_over bytes.now (contents_of self.old) (string_bytes path) (contents_of self.old (string_bytes path))) (contents_of self.old) (done_or result) (contents_of self.new) }
+        ensures { Gives (change.append_over bytes.now (contents_of self.old) (string_bytes path) (node_at (contents_of self.old) (string_bytes path))) (contents_of self.old) (done_or result) (contents_of self.new) }
     {
         match self.node(path.as_str()) {
             None => Err(FilesError::NotFound),
-            Some(Stored::File(old)) => match joined(self.alloc, old, bytes) {
+            Some(Seen::File(old)) => match joined(self.alloc, old, bytes) {
                 Ok(all) => self.put(path, Stored::File(all)),
                 Err(e) => Err(e),
             },
-            Some(Stored::Folder) => Err(FilesError::Failed),
-            Some(Stored::Link(_)) => Err(FilesError::Failed),
+            Some(Seen::Folder) => Err(FilesError::Failed),
+            Some(Seen::Link(_)) => Err(FilesError::Failed),
         }
     }
 
@@ -255,16 +266,16 @@ impl Tree {
 
     // The same, from a path itself.
     fn copy_at(&mut self, from: &str, to: &str) -> Result<(), FilesError>
-        ensures { Gives (change.copy_over to.now (contents_of self.old) (contents_of self.old from.now)) (contents_of self.old) (done_or result) (contents_of self.new) }
+        ensures { Gives (change.copy_over to.now (contents_of self.old) (node_at (contents_of self.old) from.now)) (contents_of self.old) (done_or result) (contents_of self.new) }
     {
         match self.node(from) {
             None => Err(FilesError::NotFound),
-            Some(Stored::File(bytes)) => match joined(self.alloc, bytes, b"") {
+            Some(Seen::File(bytes)) => match joined(self.alloc, bytes, b"") {
                 Ok(bytes) => self.write(to, bytes),
                 Err(e) => Err(e),
             },
-            Some(Stored::Folder) => Err(FilesError::Failed),
-            Some(Stored::Link(_)) => Err(FilesError::Failed),
+            Some(Seen::Folder) => Err(FilesError::Failed),
+            Some(Seen::Link(_)) => Err(FilesError::Failed),
         }
     }
 
@@ -273,12 +284,12 @@ impl Tree {
     {
         match self.node(from) {
             None => Err(FilesError::NotFound),
-            Some(Stored::Folder) => Err(FilesError::Failed),
-            Some(Stored::File(bytes)) => match joined(self.alloc, bytes, b"") {
+            Some(Seen::Folder) => Err(FilesError::Failed),
+            Some(Seen::File(bytes)) => match joined(self.alloc, bytes, b"") {
                 Ok(bytes) => self.move_to(from, to, Stored::File(bytes)),
                 Err(e) => Err(e),
             },
-            Some(Stored::Link(target)) => match String::from_str(self.alloc, target.as_str()) {
+            Some(Seen::Link(target)) => match String::from_str(self.alloc, target.as_str()) {
                 Ok(target) => self.move_to(from, to, Stored::Link(target)),
                 Err(_) => Err(FilesError::Memory),
             },
@@ -289,19 +300,16 @@ impl Tree {
     pub(crate) fn create_new(&mut self, folder: &str, path: &str) -> Result<(), FilesError>
         ensures { Gives (temp_outcome folder.now path.now (contents_of self.old)) (contents_of self.old) (named_if path.now result) (contents_of self.new) }
     {
-        if is_base(folder) {
-            return self.create_over(path);
-        }
         match self.node(folder) {
             None => Err(FilesError::NotFound),
-            Some(Stored::Folder) => self.create_over(path),
-            Some(Stored::File(_)) => Err(FilesError::Failed),
-            Some(Stored::Link(_)) => Err(FilesError::Failed),
+            Some(Seen::Folder) => self.create_over(path),
+            Some(Seen::File(_)) => Err(FilesError::Failed),
+            Some(Seen::Link(_)) => Err(FilesError::Failed),
         }
     }
 
     fn create_over(&mut self, path: &str) -> Result<(), FilesError>
-        ensures { Gives (temp_over path.now (contents_of self.old) (contents_of self.old path.now)) (contents_of self.old) (named_if path.now result) (contents_of self.new) }
+        ensures { Gives (temp_over path.now (contents_of self.old) (node_at (contents_of self.old) path.now)) (contents_of self.old) (named_if path.now result) (contents_of self.new) }
     {
         if self.node(path).is_some() {
             return Err(FilesError::Failed);
@@ -314,7 +322,7 @@ impl Tree {
 
     // Puts this copy of what stands at the one path at the other, and takes out the first.
     fn move_to(&mut self, from: &str, to: &str, node: Stored) -> Result<(), FilesError>
-        ensures { Gives (change.move_over from.now to.now (node_of node) (contents_of self.old) (contents_of self.old to.now)) (contents_of self.old) (done_or result) (contents_of self.new) }
+        ensures { Gives (change.move_over from.now to.now (node_of node) (contents_of self.old) (node_at (contents_of self.old) to.now)) (contents_of self.old) (done_or result) (contents_of self.new) }
     {
         if self.is_folder(to) {
             return Err(FilesError::Failed);
@@ -338,15 +346,15 @@ impl Tree {
     }
 
     pub(crate) fn canonical(&self, path: &str) -> Result<String, FilesError>
-        ensures answer { IfOk result (λ text. named (string_bytes text) ≡ canonical_answer (followed (contents_of self.now) path.now) (contents_of self.now (followed (contents_of self.now) path.now))) }
-        ensures err { IfErr result (λ e. e ≢ Memory → refused e ≡ canonical_answer (followed (contents_of self.now) path.now) (contents_of self.now (followed (contents_of self.now) path.now))) }
+        ensures answer { IfOk result (λ text. named (string_bytes text) ≡ canonical_answer (followed (contents_of self.now) path.now) (node_at (contents_of self.now) (followed (contents_of self.now) path.now))) }
+        ensures err { IfErr result (λ e. e ≢ Memory → refused e ≡ canonical_answer (followed (contents_of self.now) path.now) (node_at (contents_of self.now) (followed (contents_of self.now) path.now))) }
     {
         let path = self.follow(path);
         match self.node(path) {
             None => Err(FilesError::NotFound),
-            Some(Stored::Link(_)) => Err(FilesError::Failed),
-            Some(Stored::File(_)) => copied(self.alloc, path),
-            Some(Stored::Folder) => copied(self.alloc, path),
+            Some(Seen::Link(_)) => Err(FilesError::Failed),
+            Some(Seen::File(_)) => copied(self.alloc, path),
+            Some(Seen::Folder) => copied(self.alloc, path),
         }
     }
 
@@ -364,48 +372,65 @@ impl Tree {
 
     // Makes a folder where nothing stands.
     fn make_folder(&mut self, path: &str) -> Result<(), FilesError>
-        ensures { Gives (change.folder_over path.now (contents_of self.old) (contents_of self.old path.now)) (contents_of self.old) (done_or result) (contents_of self.new) }
+        ensures { Gives (change.folder_over path.now (contents_of self.old) (node_at (contents_of self.old) path.now)) (contents_of self.old) (done_or result) (contents_of self.new) }
     {
         match self.node(path) {
             None => match copied(self.alloc, path) {
                 Ok(path) => self.put(path, Stored::Folder),
                 Err(e) => Err(e),
             },
-            Some(Stored::Folder) => Ok(()),
-            Some(Stored::File(_)) => Err(FilesError::Failed),
-            Some(Stored::Link(_)) => Err(FilesError::Failed),
+            Some(Seen::Folder) => Ok(()),
+            Some(Seen::File(_)) => Err(FilesError::Failed),
+            Some(Seen::Link(_)) => Err(FilesError::Failed),
         }
     }
 
     pub(crate) fn list(&self, path: &str) -> Result<Vec<String>, FilesError>
         ensures { Lists path.now (contents_of self.now) (listed_or result) (contents_of self.now) }
     {
-        if self.is_place(path) {
-            match self.names_in(path) {
+        match self.node(path) {
+            None => Err(FilesError::NotFound),
+            Some(Seen::Folder) => match self.names_in(path) {
                 Ok(names) => Ok(names),
                 Err(_) => Err(FilesError::Memory),
-            }
-        } else {
-            match self.node(path) {
-                None => Err(FilesError::NotFound),
-                Some(_) => Err(FilesError::Failed),
-            }
+            },
+            Some(Seen::File(_)) => Err(FilesError::Failed),
+            Some(Seen::Link(_)) => Err(FilesError::Failed),
         }
     }
 
-    // The names of what stands in the folder.
+    // The names of what stands in the folder, each once: `d/x` and `d//x` are two paths.
     fn names_in(&self, folder: &str) -> Result<Vec<String>, AllocError>
-        ensures { IfOk result (λ names. map string_bytes names.items ≡ entry_names folder.now self.now.nodes.entries) }
+        ensures { IfOk result (λ names. map string_bytes names.items ≡ entry_names folder.now [] self.now.nodes.entries) }
     {
         let mut names = Vec::new(self.alloc);
         for (path, _) in self.nodes.iter() {
             match name_in(folder, path.as_str()) {
                 None => {}
-                Some(name) => names.push(String::from_str(self.alloc, name)?)?,
+                Some(name) => add_name(self.alloc, &mut names, name)?,
             }
         }
         Ok(names)
     }
+}
+
+// Whether the name is among these.
+fn is_among(names: &[String], name: &str) -> bool
+    ensures { result ≡ list_any (λ known. bytes_eq name.now (string_bytes known)) names.now }
+{
+    names.iter().any(|known| name == known.as_str())
+}
+
+// Adds the name, unless it is among these.
+#[tactic(auto, using(crate::proofs::Listing::among))]
+fn add_name(alloc: Global, names: &mut Vec<String>, name: &str) -> Result<(), AllocError>
+    ensures { OnOk result (map string_bytes names.new.items ≡ and_name (map string_bytes names.old.items) (Some name.now)) }
+{
+    if is_among(names, name) {
+        return Ok(());
+    }
+    names.push(String::from_str(alloc, name)?)?;
+    Ok(())
 }
 
 // The name of this path in the folder, if it stands in it.

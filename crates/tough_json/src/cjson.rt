@@ -1,10 +1,11 @@
 //! Canonical JSON.
 
-ghost use Rattle.std.specs.Prelude.{◌≡◌, ◌≢◌, ℕ, List, Some, None, IfOk, IfErr, true};
+ghost use Rattle.std.specs.Prelude.{◌≡◌, ◌≢◌, ℕ, List, Some, None, IfOk, IfErr, true, false};
 ghost use Rattle.serde_json.specs.View.{view};
 ghost use Rattle.serde_json.specs.Written.{has_float};
 ghost use Rattle.tough_json.specs.Canon.{Canon, IsRefused, IsTextOrMemory};
 ghost use Rattle.tough_json.specs.CanonicalText.{canonical_of};
+ghost use Rattle.tough_json.specs.Small.{IsSmall};
 
 mod error;
 mod float;
@@ -26,6 +27,7 @@ pub fn canonical(alloc: Global, value: &Value) -> Result<Vec<u8>, CjsonError>
     ensures text { IfOk result (λ t. canonical_of (view value.now) ≡ Some t.items) }
     ensures none { IfErr result (λ e. e ≢ CjsonError.Memory → canonical_of (view value.now) ≡ None) }
     ensures float { has_float (view value.now) ≡ true → result ≡ Err CjsonError.Float }
+    ensures small { has_float (view value.now) ≡ false → IsSmall (view value.now) }
 {
     if holds_float(value) {
         return Err(CjsonError::Float);

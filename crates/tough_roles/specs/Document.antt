@@ -1,15 +1,12 @@
 -- What reading and writing a signed document answers, over what its role says of itself.
-use Rattle.std.specs.Prelude.{◌≡◌, ◌≤◌, ℕ, List, Option, Some, None, Result, Ok, Err, ⊤, ◌⊎◌, Vec, false}
-use Rattle.std.specs.declared.alloc.Global.{Global}
+use Rattle.std.specs.Prelude.{◌≡◌, ℕ, List, Option, Some, None, Result, Ok, Err, ⊤, ◌⊎◌}
 use Rattle.json.specs.Value.{value_view}
 use Rattle.json.specs.declared.value.Value.{Value}
-use Rattle.serde_json.specs.Data.{Data, depth}
-use Rattle.serde_json.specs.Read.{max_depth, of_json}
-use Rattle.serde_json.specs.Written.{has_float, compact_text}
+use Rattle.serde_json.specs.Data.{Data}
+use Rattle.serde_json.specs.Read.{of_json}
 use Rattle.tough_json.specs.declared.error.ReadError.{ReadError}
 use Rattle.tough_json.specs.declared.error.ReadError.TheVariants as errors
-use Rattle.tough_json.specs.declared.error.WriteError.{WriteError}
-use Rattle.tough_json.specs.Results.{json_of, Refuses, RefusesWrite}
+use Rattle.tough_json.specs.Results.{json_of, Refuses}
 use Rattle.tough_roles.specs.declared.signed.Signed.{Signed}
 use Rattle.tough_roles.specs.Signature.{SignatureDoc, signatures_doc, signed_parts, signed_parts_json}
 use Rattle.tough_json.specs.Reading.{◌>>=◌}
@@ -54,12 +51,3 @@ IsNotSigned refused d = (signed_parts d ≡ None) ⊎ ((role : Data) × (ss : Li
 -- the JSON that is written for the document, where json gives the role's
 abbrev pub document_json : {T : Type 0} → (T → Option Data) → Signed T → Option Data
 document_json json s = json s.signed >>= λ role. signed_parts_json role (signatures_doc s.signatures.items)
-
--- the bytes are the compact JSON of the value, and are read as it where it nests no deeper than is read
-pub record IsText (d : Data) (bytes : List ℕ) : Type 0 where
-  pub compact : has_float d ≡ false → bytes ≡ compact_text d
-  pub back : depth d ≤ max_depth → json_of bytes ≡ Some d
-
-abbrev pub WritesBytes : Result (Vec ℕ Global) WriteError → Option Data → Type 0
-WritesBytes (Ok v) answer = (d : Data) × (answer ≡ Some d) × IsText d v.items
-WritesBytes (Err e) answer = RefusesWrite e answer

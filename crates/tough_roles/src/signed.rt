@@ -1,15 +1,12 @@
-ghost use Rattle.std.specs.Prelude.{◌≡◌, ◌≤◌, Some, None, IfOk, IsErrOf, false, option_and_then};
-ghost use Rattle.serde_json.specs.Data as Data;
-ghost use Rattle.serde_json.specs.Data.{depth};
+ghost use Rattle.std.specs.Prelude.{◌≡◌, Some, None, IfOk, IsErrOf, option_and_then};
 ghost use Rattle.serde_json.specs.Read.{max_depth};
 ghost use Rattle.serde_json.specs.View.{view};
-ghost use Rattle.serde_json.specs.Written.{has_float, compact_text};
-ghost use Rattle.tough_json.specs.Results.{json_of, Writes};
+ghost use Rattle.tough_json.specs.Results.{Writes};
 ghost use Rattle.tough_json.specs.Pieces.{text_in};
 ghost use Rattle.tough_json.specs.declared.error.WriteError.TheVariants as writes;
 ghost use Rattle.tough_json.specs.declared.pieces.Form.TheVariants as forms;
 ghost use Rattle.tough_roles.specs.Readable.{NestsWithin, IsTextOf};
-ghost use Rattle.tough_roles.specs.Document.{ReadsText, WritesBytes, IsSigned, IsNotSigned, document_json};
+ghost use Rattle.tough_roles.specs.Document.{ReadsText, IsSigned, IsNotSigned, document_json};
 
 use crate::read_signed::signed_of;
 use crate::role::Role;
@@ -51,14 +48,6 @@ impl<T: Role> Signed<T> {
     {
         let role = self.signed.to_value(alloc)?;
         Ok(signed_value(alloc, role, &self.signatures)?)
-    }
-
-    /// The document as compact JSON, with the members in the order of their names' bytes.
-    pub fn to_bytes(&self, alloc: Global) -> Result<Vec<u8>, WriteError>
-        ensures { WritesBytes result (document_json T.json self.now) }
-    {
-        let value = self.to_value(alloc)?;
-        Ok(bytes_of(alloc, &value)?)
     }
 
     /// The text of the document as compact JSON, which is read as the document where it nests no deeper than is read;

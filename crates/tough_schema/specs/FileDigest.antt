@@ -2,7 +2,7 @@
 use Rattle.std.specs.Prelude.{◌≡◌, ⊤, ℕ, ◌+◌, ◌-◌, ◌^◌, ◌≤◌, List, length, take, Option, Some, None, Result, Ok, Err, String}
 use Rattle.sha2.specs.Sha256.{sha256}
 use Rattle.sha2.specs.Hashers.{Holds256}
-use Rattle.tough_files.specs.Contents.{Node, file, folder, link, Contents, followed}
+use Rattle.tough_files.specs.Contents.{Node, file, folder, link, Contents, node_at, followed}
 use Rattle.std.specs.declared.alloc.Global.{Global}
 use Rattle.tough_files.specs.declared.files.FilesError.{FilesError}
 use Rattle.tough_files.specs.declared.files.FilesError.TheVariants as fault
@@ -15,7 +15,7 @@ use Rattle.tough_roles.specs.declared.error.Error.TheVariants as errors
 
 -- what stands at the path, links followed
 abbrev pub there : List ℕ → Contents → Option Node
-there path contents = contents (followed contents path)
+there path contents = node_at contents (followed contents path)
 
 abbrev pub IsFile : Option Node → Type 0
 IsFile n = (bytes : List ℕ) × (n ≡ Some (file bytes))

@@ -12,16 +12,18 @@ use trials_values::case::{flag, number, text};
 // The base folder on the system, below the folder that the program runs in.
 const FOLDER: &str = "steps";
 
-// The path of a step: below the base, or that of a temporary file that was made.
+// The path of a step: below the base, that of a temporary file that was made, or one that is always there.
 fn path_of(alloc: Global, base: &str, temporary: &[String], step: &Value) -> Result<String> {
     let path = text(step, "path");
-    let made = match path {
-        "first temporary" => temporary.first(),
-        "last temporary" => temporary.last(),
+    let known = match path {
+        "first temporary" => temporary.first().map(String::as_str),
+        "last temporary" => temporary.last().map(String::as_str),
+        "the root" => Some("/"),
+        "the current folder" => Some(""),
         _ => None,
     };
-    match made {
-        Some(path) => Ok(path.clone()?),
+    match known {
+        Some(path) => Ok(String::from_str(alloc, path)?),
         None => Ok(format!(in alloc; "{base}{path}")?),
     }
 }

@@ -65,7 +65,7 @@ fn about<T: Role + Drop>(
     match call {
         "head" => head(alloc, &document.signed),
         "Root::verify_role" => verified(alloc, root, &document),
-        _ => Ok(String::from_utf8(document.to_bytes(alloc)?)?),
+        _ => Ok(String::from_utf8(document.text(alloc, Form::Compact)?)?),
     }
 }
 

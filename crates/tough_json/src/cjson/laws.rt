@@ -30,7 +30,7 @@ pub fn accepted()
         → (has_float v ≡ false) × (shares_name v ≡ false) }
 {}
 
-/// What holds no float, and no name twice, has a text.
+/// What holds no float, and no name twice, has a text. A value of a program that holds none is small (`canonical small`).
 pub fn has_text()
     ensures { (v : Data.Data) → IsSmall v → has_float v ≡ false → shares_name v ≡ false
         → (t : List ℕ) × Canon v t }
