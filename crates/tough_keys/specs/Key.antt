@@ -2,6 +2,7 @@
 use Rattle.std.specs.Prelude.{◌≡◌, ℕ, List, Option, Some, None, option_map, option_and_then, codes, if◌then◌else◌, ⊤}
 use Rattle.std.specs.Str.{bytes_eq}
 use Rattle.tough_base.specs.Spelled.{Spelled, hex_bytes, pem_bytes, flex_bytes}
+use Rattle.tough_json.specs.Canon.{Canon}
 use Rattle.tough_json.specs.CanonicalText.{canonical_of}
 use Rattle.sha2.specs.Sha256.{sha256}
 use Rattle.serde_json.specs.Data.{Data, string, object, Members}
@@ -102,3 +103,11 @@ key_text k = option_and_then canonical_of (key_json k)
 
 unfoldable pub key_id_of : KeyDoc → Option (List ℕ)
 key_id_of k = option_map sha256 (key_text k)
+
+-- the same by the relation: these are the SHA-256 of the text that is canonical for the key's JSON
+pub record IsKeyId (k : KeyDoc) (id : List ℕ) : Type 0 where
+  pub json : Data
+  pub text : List ℕ
+  pub written : key_json k ≡ Some json
+  pub canonical : Canon json text
+  pub digest : id ≡ sha256 text

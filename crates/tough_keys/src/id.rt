@@ -1,9 +1,10 @@
 ghost use Rattle.std.specs.Prelude.{◌≡◌, IfOk};
 ghost use Rattle.hex.specs.Hex.{encode_lower};
 ghost use Rattle.serde_json.specs.View.{view};
+ghost use Rattle.tough_json.specs.Canon.{Canon};
 ghost use Rattle.tough_json.specs.CanonicalText.{canonical_of};
 ghost use Rattle.tough_json.specs.Results.{Writes};
-ghost use Rattle.tough_keys.specs.Key.{key_doc, key_id_of};
+ghost use Rattle.tough_keys.specs.Key.{key_doc, key_id_of, IsKeyId};
 
 use crate::key::Key;
 use serde_json::Value;
@@ -15,7 +16,8 @@ use tough_json::{CjsonError, canonical};
 
 /// The canonical text of a value; `Unwritable` where it has none.
 pub fn text_of(alloc: Global, value: &Value) -> Result<Vec<u8>, WriteError>
-    ensures { Writes (λ t. t.items) result (canonical_of (view value.now)) }
+    ensures text { Writes (λ t. t.items) result (canonical_of (view value.now)) }
+    ensures canonical { IfOk result (λ t. Canon (view value.now) t.items) }
 {
     match canonical(alloc, value) {
         Ok(text) => Ok(text),
@@ -28,7 +30,8 @@ impl Key {
     /// The key's identifier, 32 bytes: the SHA-256 of the canonical text of its JSON; `Unwritable` where it has none.
     #[tactic(auto, unfolding(crate::specs::Key::key_id_of))]
     pub fn digest(&self, alloc: Global) -> Result<[u8; 32], WriteError>
-        ensures { Writes (λ id. id) result (key_id_of (key_doc self.now)) }
+        ensures id { Writes (λ id. id) result (key_id_of (key_doc self.now)) }
+        ensures standard { IfOk result (λ id. IsKeyId (key_doc self.now) id) }
     {
         let value = self.to_value(alloc)?;
         let text = text_of(alloc, &value)?;
@@ -38,6 +41,7 @@ impl Key {
     /// The key's identifier, spelled in lower-case digits; `Unwritable` where it has none.
     pub fn key_id(&self, alloc: Global) -> Result<Decoded<Hex>, WriteError>
         ensures id { Writes (λ id. id.bytes) result (key_id_of (key_doc self.now)) }
+        ensures standard { IfOk result (λ id. IsKeyId (key_doc self.now) id.bytes) }
         ensures spelling { IfOk result (λ id. id.spelling ≡ encode_lower id.bytes) }
     {
         let digest = self.digest(alloc)?;
