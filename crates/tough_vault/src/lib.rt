@@ -7,6 +7,7 @@ mod document;
 mod document_name;
 mod entry;
 mod folder;
+pub mod laws;
 mod memory;
 mod parts;
 mod prepare;

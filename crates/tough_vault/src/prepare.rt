@@ -188,8 +188,10 @@ pub(crate) fn prepare_timestamp<S: Store, V: Verify>(
     if let Err(error) = check_timestamp_late(&old, tip.timestamp, &new.signed, start, enforcement) {
         return Err(error);
     }
-    let Ok(bytes) = document_bytes(alloc, new) else {
-        return Err(StepError::Memory);
+    let bytes = match new.compact(alloc) {
+        Ok(bytes) => bytes,
+        Err(WriteError::Memory) => return Err(StepError::Memory),
+        Err(WriteError::Unwritable) => unreachable!(),
     };
     let versions = TimestampVersions {
         version: new.signed.version.get(),

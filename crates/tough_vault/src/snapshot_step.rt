@@ -11,7 +11,6 @@ ghost use Rattle.tough_vault.specs.Steps.{snapshot_step, stored_snapshot};
 ghost use Rattle.tough_vault.specs.Parts.{Prepares};
 
 use crate::checks::{ExpirationEnforcement, StepError};
-use crate::document::document_bytes;
 use crate::entry::{Entry, Tip};
 use crate::parts::Prepared;
 use crate::prepare::{SNAPSHOT, read_file};
@@ -19,7 +18,7 @@ use crate::snapshot_checks::{check_snapshot, check_snapshot_late, versions_of};
 use crate::store::Store;
 use jiff::Timestamp as Instant;
 use std::alloc::{AllocError, Global};
-use tough_roles::{Error, ReadError, Root, Signed, Snapshot, Verify};
+use tough_roles::{Error, ReadError, Root, Signed, Snapshot, Verify, WriteError};
 
 // The stored snapshot, where the file reads and the root verifies it. The only refusal is want of memory.
 fn read_snapshot<V: Verify>(
@@ -78,8 +77,10 @@ pub(crate) fn prepare_snapshot<S: Store, V: Verify>(
     ) {
         return Err(error);
     }
-    let Ok(bytes) = document_bytes(alloc, new) else {
-        return Err(StepError::Memory);
+    let bytes = match new.compact(alloc) {
+        Ok(bytes) => bytes,
+        Err(WriteError::Memory) => return Err(StepError::Memory),
+        Err(WriteError::Unwritable) => unreachable!(),
     };
     let Ok(versions) = versions_of(alloc, &new.signed) else {
         return Err(StepError::Memory);

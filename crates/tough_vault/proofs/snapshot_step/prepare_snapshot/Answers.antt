@@ -1,11 +1,19 @@
-use Rattle.std.proofs.Common.{sym, ap, ◌∙◌}
+use Rattle.std.proofs.Common.{Err, sym, ap, ◌∙◌}
+use Rattle.tough_roles.specs.Root.{root_doc}
+use Rattle.tough_roles.specs.Signature.{signed_doc}
 use Rattle.tough_roles.specs.Snapshot.{snapshot_doc}
 use Rattle.tough_vault.specs.Stored.{content}
 use Rattle.tough_vault.specs.Journal.{Snapshot, roles_where}
 use Rattle.tough_vault.specs.Checks.{snapshot_after, enforces}
 use Rattle.tough_vault.specs.Steps.{roles_in}
 use Rattle.tough_vault.proofs.Preparing.{prepared, refused_after, checked_at, had_snapshot}
+use Rattle.tough_vault.proofs.Verified.{snapshot-unwritten}
 use Rattle.tough_vault.proofs.snapshot_step.prepare_snapshot.Goals as goal
+
+pub unreachable-requires : goal.unreachable-requires
+unreachable-requires g c =
+    snapshot-unwritten (g.V.Verify.verifies c.args.verifier.now) (root_doc c.args.root.now) c.args.listed (signed_doc snapshot_doc c.args.new.now) c.in_default.ensures
+    (c.in-Err-Unwritable.ensures.unwritable (ap Err c.in-Err-Unwritable.field-0-is))
 
 pub returns-in-Err-check_snapshot_late : goal.returns-in-Err-check_snapshot_late
 returns-in-Err-check_snapshot_late g c = refused_after _ _ _ _ _ _ (content c.in-Ok.found) _ c.in-Ok.ensures.found c.in_default.ensures
@@ -18,6 +26,6 @@ returns g c =
     (ap (λ o. snapshot_after o (roles_where c.args.tip.now.snapshot) (snapshot_doc c.args.new.now.signed) c.args.start.nanosecond (enforces c.args.enforcement)) (sym old) ∙ c.in_default-check_snapshot_late.ensures)
     (record {
       entry = ap (λ x. Snapshot x c.is_some.result) c.in-Ok-versions_of.ensures ∙ ap (Snapshot (roles_in (snapshot_doc c.args.new.now.signed))) (had_snapshot _ _ _ c.is_some.ensures old);
-      bytes = c.in-Ok-document_bytes.ensures;
+      bytes = c.in-Ok-compact.ensures.written;
     })
     (c.in-Ok.ensures.quiet) c.in-Ok.ensures.same
