@@ -1,13 +1,13 @@
 -- What passed the checks of a step follows the tip, and its file then holds it.
-use Rattle.std.proofs.Common.{◌≡◌, ℕ, ℤ, ◌≤◌, ◌≤ℤ◌, List, [], ◌∷◌, Option, None, Some, Bool, true, false, nat_lt, nat_le, int_lt, is_some, Result, refl, sym, ap, ◌∙◌, subst, arith, rules}
+use Rattle.std.proofs.Common.{◌≡◌, ℕ, ℤ, ◌≤◌, ◌≤ℤ◌, List, [], ◌∷◌, Option, None, Some, Bool, true, false, nat_lt, nat_le, int_lt, is_some, Result, Ok, Err, OnOk, refl, sym, ap, ◌∙◌, subst, arith, rules}
 use Rattle.std.proofs.lemmas.Bool.Decides.{nat_tests}
 use Rattle.std.proofs.lemmas.Slice.Eq.{bytes_eq-Decides}
 use Rattle.std.specs.Str.{bytes_eq}
 use Rattle.std.specs.Prelude.{if◌then◌else◌}
-use Rattle.tough_roles.specs.Signature.{SignedDoc}
-use Rattle.tough_roles.specs.Root.{RootDoc}
-use Rattle.tough_roles.specs.Timestamp.{TimestampDoc}
-use Rattle.tough_roles.specs.Snapshot.{SnapshotDoc}
+use Rattle.tough_roles.specs.Signature.{SignedDoc, signed_json}
+use Rattle.tough_roles.specs.Root.{RootDoc, AreOwn, root_json}
+use Rattle.tough_roles.specs.Timestamp.{TimestampDoc, timestamp_json}
+use Rattle.tough_roles.specs.Snapshot.{SnapshotDoc, snapshot_json}
 use Rattle.tough_keys.specs.Same.{Verifies}
 use Rattle.tough_roles.specs.declared.role_type.RoleType.TheVariants as role
 use Rattle.tough_vault.specs.declared.entry.Receipt.{Receipt}
@@ -17,13 +17,14 @@ use Rattle.tough_vault.specs.Stored.{Files}
 use Rattle.tough_vault.specs.Files.{IsFree}
 use Rattle.tough_vault.specs.Journal.{Pair, PairAtMost, Item, Roles, KeepsNames, RolesAtMost, has_at_least, version_in}
 use Rattle.tough_vault.specs.Checks.{Reason, SnapshotRoleRollback, fallen_at, fallen, items_in, snapshot_older, snapshot_against, snapshot_tip, snapshot_after, SystemTimeSteppedBackward, later, time_after, OlderMetadata, OlderSnapshotInTimestamp, refuse, or_else, first_of, snapshot_version, expiry, timestamp_older, timestamp_below, timestamp_against, timestamp_tip, timestamp_after}
-use Rattle.tough_vault.specs.Step.{Step, Parts, Passes}
+use Rattle.tough_vault.specs.Documents.{root_text, root_in, timestamp_text, timestamp_in, snapshot_text, snapshot_in, ReadsBack}
+use Rattle.tough_vault.specs.Step.{Step, Parts, Passes, Takes}
 use Rattle.tough_vault.specs.Steps.{versions_in, roles_in, stored_snapshot, snapshot_step, stored_time, stored_timestamp, time_text, needs, time_step, root_step, timestamp_step, document_step}
 use Rattle.tough_vault.specs.Parts.{NamesFree, Prepares, Concludes}
 use Rattle.tough_vault.proofs.Holding.{holds_noted, holds_root, holds_timestamp, holds_snapshot, holds_document}
 use Rattle.tough_vault.proofs.Journals.{some_inj}
 use Rattle.tough_vault.proofs.Taking.{takes}
-use Rattle.tough_vault.proofs.Keeping.{Fits, Sound, kept}
+use Rattle.tough_vault.proofs.Keeping.{Fits, Sound, kept, kept_refused}
 
 pub or_else_none : (a b : Option Reason) → or_else a b ≡ None → (a ≡ None) × (b ≡ None)
 or_else_none None b h = (refl, h)
@@ -92,20 +93,20 @@ snapshot_follows old tip s start enforced q h e =
     )
 
 module _ {S : Type 0} (tells : Bool) (files : S → Files) (count : S → ℕ) (old : Parts S) (free : NamesFree old.notes) (now : Files) where
-  pub fits_timestamp : (verifies : Verifies) (root : RootDoc) (new : SignedDoc TimestampDoc) (start : ℤ) (enforced : Bool) (found : Option (List ℕ))
+  pub fits_timestamp : (verifies : Verifies) (root : RootDoc) (new : SignedDoc TimestampDoc) (start : ℤ) (enforced : Bool) → ReadsBack timestamp_in (signed_json timestamp_json new) new (timestamp_text new) → (found : Option (List ℕ))
       → Passes tells files count (timestamp_step verifies root old.tip new start enforced) old.store found → Fits tells files count (timestamp_step verifies root old.tip new start enforced) old now found
-  fits_timestamp verifies root new start enforced found p = record {
+  fits_timestamp verifies root new start enforced back found p = record {
     follows = λ q e. timestamp_follows (stored_timestamp verifies root found) old.tip.timestamp new.role start enforced q p.after e;
     free = λ name x. absurd (cc (x));
-    holds = λ h same is there. holds_timestamp (files old.store) now old.notes old.tip h free new (is_some (stored_timestamp verifies root found)) same is there;
+    holds = λ h same is there. holds_timestamp (files old.store) now old.notes old.tip h free new (is_some (stored_timestamp verifies root found)) same is there back;
   }
 
-  pub fits_snapshot : (verifies : Verifies) (root : RootDoc) (listed : ℕ) (new : SignedDoc SnapshotDoc) (start : ℤ) (enforced : Bool) (found : Option (List ℕ))
+  pub fits_snapshot : (verifies : Verifies) (root : RootDoc) (listed : ℕ) (new : SignedDoc SnapshotDoc) (start : ℤ) (enforced : Bool) → ReadsBack snapshot_in (signed_json snapshot_json new) new (snapshot_text new) → (found : Option (List ℕ))
       → Passes tells files count (snapshot_step verifies root old.tip listed new start enforced) old.store found → Fits tells files count (snapshot_step verifies root old.tip listed new start enforced) old now found
-  fits_snapshot verifies root listed new start enforced found p = record {
+  fits_snapshot verifies root listed new start enforced back found p = record {
     follows = λ q e. snapshot_follows (stored_snapshot verifies root found) old.tip.snapshot new.role start enforced q p.after e;
     free = λ name x. absurd (cc (x));
-    holds = λ h same is there. holds_snapshot (files old.store) now old.notes old.tip h free new (is_some (stored_snapshot verifies root found)) same is there;
+    holds = λ h same is there. holds_snapshot (files old.store) now old.notes old.tip h free new (is_some (stored_snapshot verifies root found)) same is there back;
   }
 
   pub fits_time : (t : ℤ) (found : Option (List ℕ)) → Passes tells files count (time_step old.tip t) old.store found → Fits tells files count (time_step old.tip t) old now found
@@ -117,11 +118,11 @@ module _ {S : Type 0} (tells : Bool) (files : S → Files) (count : S → ℕ) (
         holds = λ h same is there. holds_noted (files old.store) now old.notes old.tip h free t same is there;
       }
 
-  pub fits_root : (root : SignedDoc RootDoc) (found : Option (List ℕ)) → Passes tells files count (root_step root) old.store found → Fits tells files count (root_step root) old now found
-  fits_root root found p = record {
+  pub fits_root : (root : SignedDoc RootDoc) → (AreOwn root.role.keys → ReadsBack root_in (signed_json root_json root) root (root_text root)) → (found : Option (List ℕ)) → Passes tells files count (root_step root) old.store found → Fits tells files count (root_step root) old now found
+  fits_root root back found p = record {
     follows = tt;
     free = λ name x. absurd (cc (x));
-    holds = λ h same is there. holds_root (files old.store) now old.notes old.tip h free root same is there;
+    holds = λ h same is there. holds_root (files old.store) now old.notes old.tip h free root same is there back;
   }
 
   pub fits_document : (name : List ℕ) (text : Option (List ℕ)) → IsFree name → (found : Option (List ℕ))
@@ -137,6 +138,13 @@ module _ {S : Type 0} (tells : Bool) (files : S → Files) (count : S → ℕ) w
   pub after_step : (step : Step) (old new : Parts S) (mid : S) (prepared : Result Prepared StepError) (result : Result Receipt StepError)
       → Sound tells files count old
       → Prepares tells files count step old.store mid prepared → Concludes tells files count step.file prepared (record { store = mid; notes = old.notes; tip = old.tip }) new result
-      → ((found : Option (List ℕ)) → Passes tells files count step old.store found → Fits tells files count step old (files new.store) found)
+      → ((p : Prepared) → prepared ≡ Ok p → (found : Option (List ℕ)) → Passes tells files count step old.store found → Fits tells files count step old (files new.store) found)
       → Sound tells files count new
-  after_step step old new mid prepared result s p c f = kept tells files count step old new result s f (takes tells files count step old new mid prepared result p c)
+  after_step step old new mid (Ok q) (Ok r) s p c f = kept tells files count step old new r s (f q refl) (takes tells files count step old new mid (Ok q) (Ok r) p c)
+  after_step step old new mid (Ok q) (Err e) s p c f = kept_refused tells files count step old new e s (takes tells files count step old new mid (Ok q) (Err e) p c)
+  after_step step old new mid (Err e) result s p c f =
+      kept_refused tells files count step old new e s (subst (λ (r : Result Receipt StepError). Takes tells files count step old new r) c.refused.0 (takes tells files count step old new mid (Err e) result p c))
+
+-- what was prepared is so
+pub when_ready : {P : Type 0} (prepared : Result Prepared StepError) (p : Prepared) → OnOk prepared P → prepared ≡ Ok p → P
+when_ready {P} prepared p h is = subst (λ (r : Result Prepared StepError). OnOk r P) is h

@@ -1,16 +1,16 @@
 -- What the files hold after a write.
-use Rattle.std.proofs.Common.{◌≡◌, ◌≢◌, ℕ, ℤ, List, [], ◌∷◌, ◌++◌, Option, None, Some, Bool, false, slice_get, refl, sym, ap, ◌∙◌, inl, inr, nat_eq, length, arith}
+use Rattle.std.proofs.Common.{◌≡◌, ◌≢◌, ℕ, ℤ, List, [], ◌∷◌, ◌++◌, Option, None, Some, Bool, false, slice_get, refl, sym, ap, ◌∙◌, subst, inl, inr, nat_eq, length, arith}
 use Rattle.std.proofs.lemmas.Bool.Decides.{nat_tests}
 use Rattle.tough_vault.specs.Stored.{Files, SameElsewhere}
-use Rattle.tough_roles.specs.Signature.{SignedDoc}
-use Rattle.tough_roles.specs.Root.{RootDoc}
-use Rattle.tough_roles.specs.Timestamp.{TimestampDoc}
-use Rattle.tough_roles.specs.Snapshot.{SnapshotDoc}
+use Rattle.tough_roles.specs.Signature.{SignedDoc, signed_json}
+use Rattle.tough_roles.specs.Root.{RootDoc, AreOwn, root_json}
+use Rattle.tough_roles.specs.Timestamp.{TimestampDoc, timestamp_json}
+use Rattle.tough_roles.specs.Snapshot.{SnapshotDoc, snapshot_json}
 use Rattle.tough_vault.specs.Files.{time_file, root_file, timestamp_file, snapshot_file, IsFree}
-use Rattle.tough_vault.specs.Documents.{root_text, timestamp_text, snapshot_text}
+use Rattle.tough_vault.specs.Documents.{root_text, root_in, timestamp_text, timestamp_in, snapshot_text, snapshot_in, ReadsBack}
 use Rattle.tough_vault.specs.Steps.{time_text, versions_in, roles_in}
 use Rattle.tough_vault.specs.Journal.{Pair, Note, Noted, Root, Timestamp, Snapshot, Cleared, Document, Last, Roles, applied, last_root}
-use Rattle.tough_vault.specs.Parts.{Holds, NamesFree}
+use Rattle.tough_vault.specs.Parts.{Holds, HoldsTimestamp, HoldsSnapshot, HoldsRoot, NamesFree}
 use Rattle.tough_vault.proofs.Journals.{some_inj, last_root-append, get_append}
 
 not_eq : (a b : ℕ) → nat_eq a b ≡ false → a ≡ b → ⊥
@@ -26,14 +26,14 @@ module _ (files now : Files) (notes : List Note) (tip : Last)
     keep_time : time_file ≢ file → (t : ℤ) → tip.time ≡ Some t → (now time_file ≡ time_text t) × (now time_file ≢ None)
     keep_time ne t e = let p = h.time t e in (same time_file ne ∙ p.0, λ x. p.1 (sym (same time_file ne) ∙ x))
 
-    keep_timestamp : timestamp_file ≢ file → (p : Pair) → tip.timestamp ≡ Some p → (d : SignedDoc TimestampDoc) × (now timestamp_file ≡ timestamp_text d) × (now timestamp_file ≢ None) × (versions_in d.role ≡ p)
-    keep_timestamp ne t e = let p = h.timestamp t e in (p.0, same timestamp_file ne ∙ p.1, λ x. p.2 (sym (same timestamp_file ne) ∙ x), p.3)
+    keep_timestamp : timestamp_file ≢ file → (p : Pair) → tip.timestamp ≡ Some p → HoldsTimestamp p (now timestamp_file)
+    keep_timestamp ne p e = subst (HoldsTimestamp p) (sym (same timestamp_file ne)) (h.timestamp p e)
 
-    keep_snapshot : snapshot_file ≢ file → (r : Roles) → tip.snapshot ≡ Some r → (d : SignedDoc SnapshotDoc) × (now snapshot_file ≡ snapshot_text d) × (now snapshot_file ≢ None) × (roles_in d.role ≡ r)
-    keep_snapshot ne t e = let p = h.snapshot t e in (p.0, same snapshot_file ne ∙ p.1, λ x. p.2 (sym (same snapshot_file ne) ∙ x), p.3)
+    keep_snapshot : snapshot_file ≢ file → (r : Roles) → tip.snapshot ≡ Some r → HoldsSnapshot r (now snapshot_file)
+    keep_snapshot ne r e = subst (HoldsSnapshot r) (sym (same snapshot_file ne)) (h.snapshot r e)
 
-    keep_root : root_file ≢ file → (v : ℕ) → last_root None notes ≡ Some v → (r : SignedDoc RootDoc) × (now root_file ≡ root_text r) × (now root_file ≢ None) × (r.role.head.version ≡ v)
-    keep_root ne v e = let p = h.root v e in (p.0, same root_file ne ∙ p.1, λ x. p.2 (sym (same root_file ne) ∙ x), p.3)
+    keep_root : root_file ≢ file → (v : ℕ) → last_root None notes ≡ Some v → HoldsRoot v (now root_file)
+    keep_root ne v e = subst (HoldsRoot v) (sym (same root_file ne)) (h.root v e)
 
     -- the documents' files stay there, where the written file is there or has no free name
     keep_document : (k : ℕ) (name : List ℕ) → name ≢ file → slice_get notes k ≡ Some (Document name) → now name ≢ None
@@ -50,32 +50,35 @@ module _ (files now : Files) (notes : List Note) (tip : Last)
   }
 
   pub holds_timestamp : (d : SignedDoc TimestampDoc) (had : Bool) → SameElsewhere timestamp_file files now → now timestamp_file ≡ timestamp_text d → timestamp_text d ≢ None
+      → ReadsBack timestamp_in (signed_json timestamp_json d) d (timestamp_text d)
       → Holds now (notes ++ Timestamp (versions_in d.role) had ∷ []) (applied tip (Timestamp (versions_in d.role) had))
-  holds_timestamp d had same is there = record {
+  holds_timestamp d had same is there back = record {
     time = keep_time timestamp_file same (distinct _ _ refl);
-    timestamp = λ p e. (d, is, λ x. there (sym is ∙ x), some_inj (versions_in d.role) p e);
+    timestamp = λ p e. (d, is, λ x. there (sym is ∙ x), some_inj (versions_in d.role) p e, λ bytes f. back bytes (sym is ∙ f));
     snapshot = keep_snapshot timestamp_file same (distinct _ _ refl);
     root = λ v e. keep_root timestamp_file same (distinct _ _ refl) v (sym (last_root-append None notes (Timestamp (versions_in d.role) had)) ∙ e);
     documents = λ k name e. elim (get_append notes (Timestamp (versions_in d.role) had) k (Document name) e) [ inl a ↦ keep_document timestamp_file same k name (free k name a).timestamp a | inr b ↦ absurd (cc (b)) ];
   }
 
   pub holds_snapshot : (d : SignedDoc SnapshotDoc) (had : Bool) → SameElsewhere snapshot_file files now → now snapshot_file ≡ snapshot_text d → snapshot_text d ≢ None
+      → ReadsBack snapshot_in (signed_json snapshot_json d) d (snapshot_text d)
       → Holds now (notes ++ Snapshot (roles_in d.role) had ∷ []) (applied tip (Snapshot (roles_in d.role) had))
-  holds_snapshot d had same is there = record {
+  holds_snapshot d had same is there back = record {
     time = keep_time snapshot_file same (distinct _ _ refl);
     timestamp = keep_timestamp snapshot_file same (distinct _ _ refl);
-    snapshot = λ r e. (d, is, λ x. there (sym is ∙ x), some_inj (roles_in d.role) r e);
+    snapshot = λ r e. (d, is, λ x. there (sym is ∙ x), some_inj (roles_in d.role) r e, λ bytes f. back bytes (sym is ∙ f));
     root = λ v e. keep_root snapshot_file same (distinct _ _ refl) v (sym (last_root-append None notes (Snapshot (roles_in d.role) had)) ∙ e);
     documents = λ k name e. elim (get_append notes (Snapshot (roles_in d.role) had) k (Document name) e) [ inl a ↦ keep_document snapshot_file same k name (free k name a).snapshot a | inr b ↦ absurd (cc (b)) ];
   }
 
   pub holds_root : (r : SignedDoc RootDoc) → SameElsewhere root_file files now → now root_file ≡ root_text r → root_text r ≢ None
+      → (AreOwn r.role.keys → ReadsBack root_in (signed_json root_json r) r (root_text r))
       → Holds now (notes ++ Root r.role.head.version ∷ []) (applied tip (Root r.role.head.version))
-  holds_root r same is there = record {
+  holds_root r same is there back = record {
     time = keep_time root_file same (distinct _ _ refl);
     timestamp = keep_timestamp root_file same (distinct _ _ refl);
     snapshot = keep_snapshot root_file same (distinct _ _ refl);
-    root = λ v e. (r, is, λ x. there (sym is ∙ x), some_inj r.role.head.version v (sym (last_root-append None notes (Root r.role.head.version)) ∙ e));
+    root = λ v e. (r, is, λ x. there (sym is ∙ x), some_inj r.role.head.version v (sym (last_root-append None notes (Root r.role.head.version)) ∙ e), λ own bytes f. back own bytes (sym is ∙ f));
     documents = λ k name e. elim (get_append notes (Root r.role.head.version) k (Document name) e) [ inl a ↦ keep_document root_file same k name (free k name a).root a | inr b ↦ absurd (cc (b)) ];
   }
 
@@ -95,9 +98,9 @@ module _ (files now : Files) (notes : List Note) (tip : Last)
   pub holds_same : ((name : List ℕ) → now name ≡ files name) → Holds now notes tip
   holds_same same = record {
     time = λ t e. let p = h.time t e in (same time_file ∙ p.0, λ x. p.1 (sym (same time_file) ∙ x));
-    timestamp = λ t e. let p = h.timestamp t e in (p.0, same timestamp_file ∙ p.1, λ x. p.2 (sym (same timestamp_file) ∙ x), p.3);
-    snapshot = λ t e. let p = h.snapshot t e in (p.0, same snapshot_file ∙ p.1, λ x. p.2 (sym (same snapshot_file) ∙ x), p.3);
-    root = λ v e. let p = h.root v e in (p.0, same root_file ∙ p.1, λ x. p.2 (sym (same root_file) ∙ x), p.3);
+    timestamp = λ p e. subst (HoldsTimestamp p) (sym (same timestamp_file)) (h.timestamp p e);
+    snapshot = λ r e. subst (HoldsSnapshot r) (sym (same snapshot_file)) (h.snapshot r e);
+    root = λ v e. subst (HoldsRoot v) (sym (same root_file)) (h.root v e);
     documents = λ k name e x. h.documents k name e (sym (same name) ∙ x);
   }
 
@@ -107,7 +110,6 @@ module _ (files now : Files) (notes : List Note) (tip : Last)
     time = λ t e. let p = h.time t e in let s = same time_file (distinct _ _ refl) (distinct _ _ refl) in (s ∙ p.0, λ x. p.1 (sym s ∙ x));
     timestamp = λ p e. absurd (cc (e));
     snapshot = λ r e. absurd (cc (e));
-    root = λ v e. let p = h.root v (sym (last_root-append None notes Cleared) ∙ e) in
-        let s = same root_file (distinct _ _ refl) (distinct _ _ refl) in (p.0, s ∙ p.1, λ x. p.2 (sym s ∙ x), p.3);
+    root = λ v e. subst (HoldsRoot v) (sym (same root_file (distinct _ _ refl) (distinct _ _ refl))) (h.root v (sym (last_root-append None notes Cleared) ∙ e));
     documents = λ k name e x. elim (get_append notes Cleared k (Document name) e) [ inl a ↦ h.documents k name a (sym (same name (free k name a).timestamp (free k name a).snapshot) ∙ x) | inr b ↦ absurd (cc (b)) ];
   }

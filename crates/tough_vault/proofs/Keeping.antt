@@ -56,19 +56,21 @@ module _ {S : Type 0} (tells : Bool) (files : S → Files) (count : S → ℕ) w
         (∥∥₁_map (s.holds told (ap has_broken (sym n) ∙ b)) (λ h. holds_same (files old.store) (files new.store) old.notes old.tip h s.free (f told))));
   }
 
-  pub kept : (step : Step) (old new : Parts S) (result : Result Receipt StepError) → Sound old
+  pub kept : (step : Step) (old new : Parts S) (r : Receipt) → Sound old
       → ((found : Option (List ℕ)) → Passes tells files count step old.store found → Fits step old (files new.store) found)
-      → Takes tells files count step old new result → Sound new
-  kept step old new (Ok r) s f t =
+      → Takes tells files count step old new (Ok r) → Sound new
+  kept step old new r s f t =
       let found = t.done.0 in
       let fits = f found t.done.1.passes in
       noted (step.entry found) old new s t.done.1.noted fits.follows fits.free
       (λ told b. ∥∥₁_map (s.holds told (unbroken-before old.notes (step.entry found) b)) (λ h. fits.holds h (t.elsewhere told) (t.stored.1 told) t.stored.0))
-  kept step old new (Err (DatastoreCreate path)) s f t = broke old new s (t.broken tt)
-  kept step old new (Err (Refused c)) s f t = let e = t.same (λ x. x) in unchanged old new s e.0 e.1 e.2
-  kept step old new (Err (DatastoreOpen path)) s f t = let e = t.same (λ x. x) in unchanged old new s e.0 e.1 e.2
-  kept step old new (Err (DatastoreRemove path)) s f t = let e = t.same (λ x. x) in unchanged old new s e.0 e.1 e.2
-  kept step old new (Err Memory) s f t = let e = t.same (λ x. x) in unchanged old new s e.0 e.1 e.2
+
+  pub kept_refused : (step : Step) (old new : Parts S) (e : StepError) → Sound old → Takes tells files count step old new (Err e) → Sound new
+  kept_refused step old new (DatastoreCreate path) s t = broke old new s (t.broken tt)
+  kept_refused step old new (Refused c) s t = let e = t.same (λ x. x) in unchanged old new s e.0 e.1 e.2
+  kept_refused step old new (DatastoreOpen path) s t = let e = t.same (λ x. x) in unchanged old new s e.0 e.1 e.2
+  kept_refused step old new (DatastoreRemove path) s t = let e = t.same (λ x. x) in unchanged old new s e.0 e.1 e.2
+  kept_refused step old new Memory s t = let e = t.same (λ x. x) in unchanged old new s e.0 e.1 e.2
 
   -- a removal of both files, however it ended
   ended : (old new : Parts S) (first second : Result Unit StoreError) (result : Result Receipt StepError) → Sound old

@@ -1,15 +1,17 @@
 -- Signed documents as the steps see them.
-use Rattle.std.specs.Prelude.{ℕ, List, Option, None, Some, option_and_then, Result, if◌then◌else◌}
+use Rattle.std.specs.Prelude.{◌≡◌, ℕ, List, Option, None, Some, option_and_then, Result, if◌then◌else◌}
 use Rattle.std.specs.Str.{bytes_eq}
 use Rattle.std.specs.Map.{lookup}
 use Rattle.serde_json.specs.Data.{Data}
+use Rattle.serde_json.specs.Read.{max_depth}
 use Rattle.serde_json.specs.Written.{has_float, compact_text}
 use Rattle.tough_json.specs.CanonicalText.{canonical_of}
 use Rattle.tough_json.specs.Results.{json_of}
 use Rattle.tough_roles.specs.Signature.{SignedDoc, signed_at, signed_json}
 use Rattle.tough_roles.specs.declared.signed.Signed.{Signed}
 use Rattle.tough_roles.specs.Document.{document_json}
-use Rattle.tough_roles.specs.Root.{RootDoc, root_json}
+use Rattle.tough_roles.specs.Readable.{NestsWithin}
+use Rattle.tough_roles.specs.Root.{RootDoc, root_at, root_json}
 use Rattle.tough_roles.specs.Timestamp.{TimestampDoc, MetafileDoc, timestamp_at, timestamp_json}
 use Rattle.tough_roles.specs.Snapshot.{SnapshotDoc, snapshot_at, snapshot_json}
 use Rattle.tough_keys.specs.Same.{Verifies}
@@ -35,6 +37,10 @@ snapshot_text d = option_and_then stored_text (signed_json snapshot_json d)
 abbrev pub role_text : {T : Type 0} → (T → Option Data) → Signed T → Option (List ℕ)
 role_text json s = option_and_then stored_text (document_json json s)
 
+-- the signed root that bytes are
+abbrev pub root_in : List ℕ → Option (SignedDoc RootDoc)
+root_in bytes = option_and_then (signed_at root_at) (json_of bytes)
+
 -- the signed timestamp that bytes are
 abbrev pub timestamp_in : List ℕ → Option (SignedDoc TimestampDoc)
 timestamp_in bytes = option_and_then (signed_at timestamp_at) (json_of bytes)
@@ -53,3 +59,7 @@ snapshot_verdict verifies root d = verdict verifies (policy root role.Snapshot) 
 -- what a document lists for a name
 abbrev pub metafile_in : List (List ℕ × MetafileDoc) → List ℕ → Option MetafileDoc
 metafile_in es name = lookup (bytes_eq name) es
+
+-- what the file holds is read as the document, where its JSON nests no deeper than is read
+abbrev pub ReadsBack : {A : Type 0} → (List ℕ → Option (SignedDoc A)) → Option Data → SignedDoc A → Option (List ℕ) → Type 0
+ReadsBack reads json d file = (bytes : List ℕ) → file ≡ Some bytes → NestsWithin max_depth json → reads bytes ≡ Some d

@@ -1,9 +1,9 @@
 -- What a vault holds, and the parts of a step's work.
 use Rattle.std.specs.Prelude.{◌≡◌, ◌≢◌, ℕ, ℤ, List, length, Option, None, Some, Result, Err, Bool, true, IfOk, IfErr, OnOk, IsErrOf, slice_get, string_bytes}
-use Rattle.tough_roles.specs.Signature.{SignedDoc}
-use Rattle.tough_roles.specs.Root.{RootDoc}
-use Rattle.tough_roles.specs.Timestamp.{TimestampDoc}
-use Rattle.tough_roles.specs.Snapshot.{SnapshotDoc}
+use Rattle.tough_roles.specs.Signature.{SignedDoc, signed_json}
+use Rattle.tough_roles.specs.Root.{RootDoc, AreOwn, root_json}
+use Rattle.tough_roles.specs.Timestamp.{TimestampDoc, timestamp_json}
+use Rattle.tough_roles.specs.Snapshot.{SnapshotDoc, snapshot_json}
 use Rattle.tough_vault.specs.Stored.{Files, SameFiles, SameElsewhere}
 use Rattle.tough_vault.specs.declared.entry.Receipt.{Receipt}
 use Rattle.tough_vault.specs.declared.entry.Entry.{Entry}
@@ -13,7 +13,7 @@ use Rattle.tough_vault.specs.declared.checks.StepError.{StepError}
 use Rattle.tough_vault.specs.declared.checks.StepError.TheVariants.{DatastoreOpen, DatastoreCreate, Memory}
 use Rattle.tough_vault.specs.declared.store.StoreError.{StoreError}
 use Rattle.tough_vault.specs.Files.{time_file, root_file, timestamp_file, snapshot_file, IsFree}
-use Rattle.tough_vault.specs.Documents.{root_text, timestamp_text, snapshot_text}
+use Rattle.tough_vault.specs.Documents.{root_text, root_in, timestamp_text, timestamp_in, snapshot_text, snapshot_in, ReadsBack}
 use Rattle.tough_vault.specs.Journal.{Pair, Roles, Note, Document, Broken, Last, note_of, notes_of, tip_of, last_root}
 use Rattle.tough_vault.specs.Step.{Step, Parts, IsNoted, IsReceipt, Finds, IsUnwritten, Passes, Why}
 use Rattle.tough_vault.specs.Steps.{time_text, versions_in, roles_in}
@@ -21,16 +21,28 @@ use Rattle.tough_vault.specs.Steps.{time_text, versions_in, roles_in}
 abbrev pub parts : {S : Type 0} → S → List Entry → Tip → Parts S
 parts store journal tip = record { store = store; notes = notes_of journal; tip = tip_of tip }
 
+-- the file is the text of a signed timestamp with these versions, and is read as it
+abbrev pub HoldsTimestamp : Pair → Option (List ℕ) → Type 0
+HoldsTimestamp p file = (d : SignedDoc TimestampDoc) × (file ≡ timestamp_text d) × (file ≢ None) × (versions_in d.role ≡ p) × ReadsBack timestamp_in (signed_json timestamp_json d) d file
+
+-- the same of a signed snapshot
+abbrev pub HoldsSnapshot : Roles → Option (List ℕ) → Type 0
+HoldsSnapshot r file = (d : SignedDoc SnapshotDoc) × (file ≡ snapshot_text d) × (file ≢ None) × (roles_in d.role ≡ r) × ReadsBack snapshot_in (signed_json snapshot_json d) d file
+
+-- the same of a signed root of this version, which is read as it where its keys stand under their own identifiers
+abbrev pub HoldsRoot : ℕ → Option (List ℕ) → Type 0
+HoldsRoot v file = (d : SignedDoc RootDoc) × (file ≡ root_text d) × (file ≢ None) × (d.role.head.version ≡ v) × (AreOwn d.role.keys → ReadsBack root_in (signed_json root_json d) d file)
+
 -- What the files of a vault hold, for each part of the tip and each entry that speaks of one.
 pub record Holds (files : Files) (notes : List Note) (tip : Last) : Type 0 where
   -- `latest_known_time.json` is the text of the tip's time
   pub time : (t : ℤ) → tip.time ≡ Some t → (files time_file ≡ time_text t) × (files time_file ≢ None)
   -- `timestamp.json` is the text of a signed timestamp with the tip's versions
-  pub timestamp : (p : Pair) → tip.timestamp ≡ Some p → (d : SignedDoc TimestampDoc) × (files timestamp_file ≡ timestamp_text d) × (files timestamp_file ≢ None) × (versions_in d.role ≡ p)
+  pub timestamp : (p : Pair) → tip.timestamp ≡ Some p → HoldsTimestamp p (files timestamp_file)
   -- `snapshot.json` is the text of a signed snapshot with the tip's versions
-  pub snapshot : (r : Roles) → tip.snapshot ≡ Some r → (d : SignedDoc SnapshotDoc) × (files snapshot_file ≡ snapshot_text d) × (files snapshot_file ≢ None) × (roles_in d.role ≡ r)
+  pub snapshot : (r : Roles) → tip.snapshot ≡ Some r → HoldsSnapshot r (files snapshot_file)
   -- `root.json` is the text of a signed root of the last Root entry's version
-  pub root : (v : ℕ) → last_root None notes ≡ Some v → (d : SignedDoc RootDoc) × (files root_file ≡ root_text d) × (files root_file ≢ None) × (d.role.head.version ≡ v)
+  pub root : (v : ℕ) → last_root None notes ≡ Some v → HoldsRoot v (files root_file)
   -- each Document entry's file is there
   pub documents : (k : ℕ) (name : List ℕ) → slice_get notes k ≡ Some (Document name) → files name ≢ None
 

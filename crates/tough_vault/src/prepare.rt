@@ -1,14 +1,14 @@
 //! The first part of each step: it reads and checks, and makes all that the write needs.
 
 ghost use Rattle.std.specs.Prelude.{◌≡◌, IfOk, IfErr, OnOk, Some, true};
-ghost use Rattle.tough_roles.specs.Signature.{signed_doc};
-ghost use Rattle.tough_roles.specs.Root.{root_doc};
-ghost use Rattle.tough_roles.specs.Timestamp.{timestamp_doc};
+ghost use Rattle.tough_roles.specs.Signature.{signed_doc, signed_json};
+ghost use Rattle.tough_roles.specs.Root.{AreOwn, root_doc, root_json};
+ghost use Rattle.tough_roles.specs.Timestamp.{timestamp_doc, timestamp_json};
 ghost use Rattle.tough_vault.specs.Stored.{content, SameFiles};
 ghost use Rattle.tough_vault.specs.Step.{Finds};
 ghost use Rattle.tough_vault.specs.Journal.{tip_of, time_where};
 ghost use Rattle.tough_vault.specs.Checks.{timestamp_where, enforces};
-ghost use Rattle.tough_vault.specs.Documents.{role_text};
+ghost use Rattle.tough_vault.specs.Documents.{role_text, root_text, root_in, timestamp_text, timestamp_in, ReadsBack};
 ghost use Rattle.tough_vault.specs.DocumentName.{name_of};
 ghost use Rattle.tough_vault.specs.Steps.{time_step, root_step, timestamp_step, document_step, stored_timestamp, stored_time, time_text};
 ghost use Rattle.tough_json.specs.Results.{Writes};
@@ -150,9 +150,10 @@ pub(crate) fn prepare_root<S: Store>(
     store: &mut S,
     root: &Signed<Root>,
 ) -> Result<Prepared, StepError>
-    ensures { Prepares S.tells S.files S.count (root_step (signed_doc root_doc root.now)) store.old store.new result }
+    ensures step { Prepares S.tells S.files S.count (root_step (signed_doc root_doc root.now)) store.old store.new result }
+    ensures back { OnOk result (AreOwn (root_doc root.now.signed).keys → ReadsBack root_in (signed_json root_json (signed_doc root_doc root.now)) (signed_doc root_doc root.now) (root_text (signed_doc root_doc root.now))) }
 {
-    let bytes = match document_bytes(alloc, root) {
+    let bytes = match root.compact(alloc) {
         Ok(bytes) => bytes,
         Err(WriteError::Unwritable) => return Err(StepError::Refused(Refusal::DatastoreSerialize)),
         Err(WriteError::Memory) => return Err(StepError::Memory),
@@ -173,7 +174,8 @@ pub(crate) fn prepare_timestamp<S: Store, V: Verify>(
     start: Instant,
     enforcement: ExpirationEnforcement,
 ) -> Result<Prepared, StepError>
-    ensures { Prepares S.tells S.files S.count (timestamp_step (V.verifies verifier.now) (root_doc root.now) (tip_of tip.now) (signed_doc timestamp_doc new.now) start.nanosecond (enforces enforcement)) store.old store.new result }
+    ensures step { Prepares S.tells S.files S.count (timestamp_step (V.verifies verifier.now) (root_doc root.now) (tip_of tip.now) (signed_doc timestamp_doc new.now) start.nanosecond (enforces enforcement)) store.old store.new result }
+    ensures back { OnOk result (ReadsBack timestamp_in (signed_json timestamp_json (signed_doc timestamp_doc new.now)) (signed_doc timestamp_doc new.now) (timestamp_text (signed_doc timestamp_doc new.now))) }
 {
     if let Err(error) = check_timestamp(alloc, verifier, root, new) {
         return Err(error);

@@ -1,9 +1,10 @@
 //! The first part of a snapshot's step: it reads and checks, and makes all that the write needs.
 
-ghost use Rattle.std.specs.Prelude.{◌≡◌, IfOk};
-ghost use Rattle.tough_roles.specs.Signature.{signed_doc};
+ghost use Rattle.std.specs.Prelude.{◌≡◌, IfOk, OnOk};
+ghost use Rattle.tough_roles.specs.Signature.{signed_doc, signed_json};
 ghost use Rattle.tough_roles.specs.Root.{root_doc};
-ghost use Rattle.tough_roles.specs.Snapshot.{snapshot_doc};
+ghost use Rattle.tough_roles.specs.Snapshot.{snapshot_doc, snapshot_json};
+ghost use Rattle.tough_vault.specs.Documents.{snapshot_text, snapshot_in, ReadsBack};
 ghost use Rattle.tough_vault.specs.Stored.{content};
 ghost use Rattle.tough_vault.specs.Journal.{tip_of};
 ghost use Rattle.tough_vault.specs.Checks.{snapshot_where, enforces};
@@ -55,7 +56,8 @@ pub(crate) fn prepare_snapshot<S: Store, V: Verify>(
     start: Instant,
     enforcement: ExpirationEnforcement,
 ) -> Result<Prepared, StepError>
-    ensures { Prepares S.tells S.files S.count (snapshot_step (V.verifies verifier.now) (root_doc root.now) (tip_of tip.now) listed (signed_doc snapshot_doc new.now) start.nanosecond (enforces enforcement)) store.old store.new result }
+    ensures step { Prepares S.tells S.files S.count (snapshot_step (V.verifies verifier.now) (root_doc root.now) (tip_of tip.now) listed (signed_doc snapshot_doc new.now) start.nanosecond (enforces enforcement)) store.old store.new result }
+    ensures back { OnOk result (ReadsBack snapshot_in (signed_json snapshot_json (signed_doc snapshot_doc new.now)) (signed_doc snapshot_doc new.now) (snapshot_text (signed_doc snapshot_doc new.now))) }
 {
     if let Err(error) = check_snapshot(alloc, verifier, root, listed, new) {
         return Err(error);

@@ -6,11 +6,11 @@ use Rattle.tough_vault.specs.Journal.{tip_of}
 use Rattle.tough_vault.specs.Steps.{snapshot_step}
 use Rattle.tough_vault.specs.Parts.{parts}
 use Rattle.tough_vault.proofs.Taking.{takes}
-use Rattle.tough_vault.proofs.Fitting.{after_step, fits_snapshot}
+use Rattle.tough_vault.proofs.Fitting.{after_step, fits_snapshot, when_ready}
 use Rattle.tough_vault.proofs.vault.Vault.advance_snapshot.Goals as goal
 
 pub returns : goal.returns
-returns g c = takes _ _ _ _ _ _ _ _ _ c.prepare_snapshot-prepared.ensures c.conclude.ensures
+returns g c = takes _ _ _ _ _ _ _ _ _ c.prepare_snapshot-prepared.ensures.step c.conclude.ensures
 
 pub invariant_of-self : goal.invariant_of-self
 invariant_of-self g c =
@@ -23,6 +23,6 @@ invariant_of-self g c =
     let s = after_step g.S.Store.tells g.S.Store.files g.S.Store.count
     (snapshot_step verifies root (tip_of self.tip) c.args.listed new c.args.start.nanosecond (enforces c.args.enforcement)) before after _ c.prepare_snapshot-prepared.result c.conclude.result
     (record { replays = self.replays; rises = self.rises; free = self.free; holds = self.holds })
-    c.prepare_snapshot-prepared.ensures c.conclude.ensures
-    (fits_snapshot g.S.Store.tells g.S.Store.files g.S.Store.count before self.free (g.S.Store.files c.conclude.new.store) verifies root c.args.listed new c.args.start.nanosecond (enforces c.args.enforcement)) in
+    c.prepare_snapshot-prepared.ensures.step c.conclude.ensures
+    (λ p ready. fits_snapshot g.S.Store.tells g.S.Store.files g.S.Store.count before self.free (g.S.Store.files c.conclude.new.store) verifies root c.args.listed new c.args.start.nanosecond (enforces c.args.enforcement) (when_ready c.prepare_snapshot-prepared.result p c.prepare_snapshot-prepared.ensures.back ready)) in
     record { replays = s.replays; rises = s.rises; free = s.free; holds = s.holds }

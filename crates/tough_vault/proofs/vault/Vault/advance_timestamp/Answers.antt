@@ -6,11 +6,11 @@ use Rattle.tough_vault.specs.Journal.{tip_of}
 use Rattle.tough_vault.specs.Steps.{timestamp_step}
 use Rattle.tough_vault.specs.Parts.{parts}
 use Rattle.tough_vault.proofs.Taking.{takes}
-use Rattle.tough_vault.proofs.Fitting.{after_step, fits_timestamp}
+use Rattle.tough_vault.proofs.Fitting.{after_step, fits_timestamp, when_ready}
 use Rattle.tough_vault.proofs.vault.Vault.advance_timestamp.Goals as goal
 
 pub returns : goal.returns
-returns g c = takes _ _ _ _ _ _ _ _ _ c.prepare_timestamp-prepared.ensures c.conclude.ensures
+returns g c = takes _ _ _ _ _ _ _ _ _ c.prepare_timestamp-prepared.ensures.step c.conclude.ensures
 
 pub invariant_of-self : goal.invariant_of-self
 invariant_of-self g c =
@@ -23,6 +23,6 @@ invariant_of-self g c =
     let s = after_step g.S.Store.tells g.S.Store.files g.S.Store.count
     (timestamp_step verifies root (tip_of self.tip) new c.args.start.nanosecond (enforces c.args.enforcement)) before after _ c.prepare_timestamp-prepared.result c.conclude.result
     (record { replays = self.replays; rises = self.rises; free = self.free; holds = self.holds })
-    c.prepare_timestamp-prepared.ensures c.conclude.ensures
-    (fits_timestamp g.S.Store.tells g.S.Store.files g.S.Store.count before self.free (g.S.Store.files c.conclude.new.store) verifies root new c.args.start.nanosecond (enforces c.args.enforcement)) in
+    c.prepare_timestamp-prepared.ensures.step c.conclude.ensures
+    (λ p ready. fits_timestamp g.S.Store.tells g.S.Store.files g.S.Store.count before self.free (g.S.Store.files c.conclude.new.store) verifies root new c.args.start.nanosecond (enforces c.args.enforcement) (when_ready c.prepare_timestamp-prepared.result p c.prepare_timestamp-prepared.ensures.back ready)) in
     record { replays = s.replays; rises = s.rises; free = s.free; holds = s.holds }

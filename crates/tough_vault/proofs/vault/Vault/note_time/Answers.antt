@@ -16,5 +16,5 @@ invariant_of-self g c =
     let s = after_step g.S.Store.tells g.S.Store.files g.S.Store.count (time_step (tip_of self.tip) c.args.now.nanosecond) before after _ c.prepare_time-prepared.result c.conclude.result
     (record { replays = self.replays; rises = self.rises; free = self.free; holds = self.holds })
     c.prepare_time-prepared.ensures c.conclude.ensures
-    (fits_time g.S.Store.tells g.S.Store.files g.S.Store.count before self.free (g.S.Store.files c.conclude.new.store) c.args.now.nanosecond) in
+    (λ p ready. fits_time g.S.Store.tells g.S.Store.files g.S.Store.count before self.free (g.S.Store.files c.conclude.new.store) c.args.now.nanosecond) in
     record { replays = s.replays; rises = s.rises; free = s.free; holds = s.holds }

@@ -19,5 +19,5 @@ invariant_of-self g c =
     let s = after_step g.S.Store.tells g.S.Store.files g.S.Store.count (document_step name text) before after _ c.prepare_document-prepared.result c.conclude.result
     (record { replays = self.replays; rises = self.rises; free = self.free; holds = self.holds })
     c.prepare_document-prepared.ensures (rw c.as_str.ensures at c.conclude.ensures)
-    (fits_document g.S.Store.tells g.S.Store.files g.S.Store.count before self.free (g.S.Store.files c.conclude.new.store) name text c.args.name.now.free) in
+    (λ p ready. fits_document g.S.Store.tells g.S.Store.files g.S.Store.count before self.free (g.S.Store.files c.conclude.new.store) name text c.args.name.now.free) in
     record { replays = s.replays; rises = s.rises; free = s.free; holds = s.holds }
