@@ -9,11 +9,11 @@ use Rattle.tough_roles.specs.Root.{RootDoc}
 use Rattle.tough_roles.specs.Timestamp.{TimestampDoc, MetafileDoc}
 use Rattle.tough_roles.specs.declared.role_type.RoleType.TheVariants as role
 use Rattle.tough_vault.specs.Checks.{ExpiredMetadata, is_expired}
-use Rattle.tough_vault.specs.Documents.{timestamp_in, snapshot_in, metafile_in}
+use Rattle.tough_vault.specs.Documents.{root_in, timestamp_in, snapshot_in, metafile_in}
 use Rattle.tough_vault.specs.Files.{snapshot_file, targets_file}
 use Rattle.tough_update.specs.declared.limits.Limits.{Limits}
 use Rattle.tough_update.specs.Failure.{Failure, ParseMetadata, MaxUpdatesExceeded, Checked}
-use Rattle.tough_update.specs.Walk.{holds_json, if_read, root_in, first_root, next_root}
+use Rattle.tough_update.specs.Walk.{holds_json, if_read, first_root, next_root}
 use Rattle.tough_update.specs.Requests.{RequestDoc, root_request, timestamp_request}
 use Rattle.tough_update.specs.Rotation.{is_rotated}
 use Rattle.tough_update.specs.Listed.{bare_targets}

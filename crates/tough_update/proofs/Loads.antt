@@ -21,13 +21,13 @@ use Rattle.tough_roles.specs.declared.role_type.RoleType.TheVariants as role
 use Rattle.tough_roles.proofs.Reached.{reaches-to}
 use Rattle.tough_schema.specs.Targets.{TargetsDoc, targets_json}
 use Rattle.tough_vault.specs.Checks.{Reason, VerifyMetadata, VersionMismatch, TimestampMetaLength, MissingSnapshotMeta, SnapshotTargetsMetaMissing, ExpiredMetadata, refuse, or_else, is_expired, expiry, verified, timestamp_form, snapshot_form}
-use Rattle.tough_vault.specs.Documents.{root_text, timestamp_in, snapshot_in, snapshot_verdict, metafile_in}
+use Rattle.tough_vault.specs.Documents.{root_in, root_text, timestamp_in, snapshot_in, snapshot_verdict, metafile_in}
 use Rattle.tough_vault.specs.Steps.{time_text, needs}
 use Rattle.tough_vault.specs.Act.{Act}
 use Rattle.tough_vault.specs.Act as act
 use Rattle.tough_vault.specs.Files.{snapshot_file, targets_file}
 use Rattle.tough_update.specs.Failure.{Failure, ParseTrustedMetadata, VerifyTrustedMetadata, ParseMetadata, MaxUpdatesExceeded, Checked}
-use Rattle.tough_update.specs.Walk.{holds_json, if_read, if_verified, root_in, root_verdict, first_root}
+use Rattle.tough_update.specs.Walk.{holds_json, if_read, if_verified, root_verdict, first_root}
 use Rattle.tough_update.specs.Outcomes.{unless, and_then}
 use Rattle.tough_update.specs.Requests.{RequestDoc, fits_request, root_request, timestamp_request, snapshot_request, targets_request}
 use Rattle.tough_update.specs.Rotation.{is_rotated}

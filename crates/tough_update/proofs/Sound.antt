@@ -16,11 +16,11 @@ use Rattle.tough_roles.specs.declared.role_type.RoleType.{RoleType}
 use Rattle.tough_roles.specs.declared.role_type.RoleType.TheVariants as role
 use Rattle.tough_roles.proofs.Reached.{ok-reaches}
 use Rattle.tough_vault.specs.Checks.{Reason, refuse, or_else, VersionMismatch, VerifyMetadata, OlderMetadata, TimestampMetaLength, expiry, is_expired, ExpiredMetadata, verified, timestamp_first, timestamp_form, snapshot_first, snapshot_form}
-use Rattle.tough_vault.specs.Documents.{timestamp_in, snapshot_in, metafile_in, timestamp_verdict, snapshot_verdict}
+use Rattle.tough_vault.specs.Documents.{root_in, timestamp_in, snapshot_in, metafile_in, timestamp_verdict, snapshot_verdict}
 use Rattle.tough_vault.specs.Files.{snapshot_file, targets_file}
 use Rattle.tough_update.specs.declared.limits.Limits.{Limits}
 use Rattle.tough_update.specs.Failure.{Failure, ParseTrustedMetadata, VerifyTrustedMetadata, ParseMetadata, MaxUpdatesExceeded, Checked}
-use Rattle.tough_update.specs.Walk.{holds_json, first_root, next_root, root_in, root_verdict, if_read, if_verified, if_next}
+use Rattle.tough_update.specs.Walk.{holds_json, first_root, next_root, root_verdict, if_read, if_verified, if_next}
 use Rattle.tough_update.specs.Requests.{RequestDoc, bound, stated_digest, has_digest, fits_request, root_request, timestamp_request}
 use Rattle.tough_schema.specs.Targets.{TargetsDoc, targets_json}
 use Rattle.tough_update.specs.Outcomes.{unless, and_then}

@@ -11,14 +11,13 @@ use Rattle.tough_roles.specs.Chain.{ReachesUnder}
 use Rattle.tough_roles.specs.declared.role_type.RoleType.TheVariants as role
 use Rattle.tough_schema.specs.Targets.{targets_json}
 use Rattle.tough_vault.specs.Checks.{Reason, or_else, is_expired}
-use Rattle.tough_vault.specs.Documents.{root_text, timestamp_in, snapshot_in, metafile_in}
+use Rattle.tough_vault.specs.Documents.{root_in, root_text, timestamp_in, snapshot_in, metafile_in}
 use Rattle.tough_vault.specs.Journal.{Last}
 use Rattle.tough_vault.specs.Step.{Step}
 use Rattle.tough_vault.specs.Steps.{time_text, time_step, root_step, timestamp_step, snapshot_step, document_step}
 use Rattle.tough_vault.specs.Act.{Act}
 use Rattle.tough_vault.specs.Act as act
 use Rattle.tough_vault.specs.Files.{snapshot_file, targets_file}
-use Rattle.tough_update.specs.Walk.{root_in}
 use Rattle.tough_update.specs.Requests.{RequestDoc, fits_request, root_request, timestamp_request, snapshot_request, targets_request}
 use Rattle.tough_update.specs.Listed.{targets_in, targets_text, lists_roles}
 use Rattle.tough_update.specs.Failure.{Checked}

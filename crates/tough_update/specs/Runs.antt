@@ -17,7 +17,7 @@ use Rattle.tough_update.specs.Questions as ask
 use Rattle.tough_update.specs.Answered.{AnswerDoc}
 use Rattle.tough_update.specs.Answered as got
 use Rattle.tough_update.specs.Machine.{question, answered}
-use Rattle.tough_update.specs.Walk.{root_in}
+use Rattle.tough_vault.specs.Documents.{root_in}
 use Rattle.tough_update.specs.Rotation.{is_rotated}
 use Rattle.tough_update.specs.Trusted.{Chain, Trusted, Unexpired}
 

@@ -8,10 +8,9 @@ use Rattle.tough_roles.specs.Timestamp.{MetafileDoc, timestamp_json}
 use Rattle.tough_roles.specs.Snapshot.{snapshot_json}
 use Rattle.tough_roles.specs.Chain.{ReachesUnder, IsNext}
 use Rattle.tough_roles.specs.declared.role_type.RoleType.TheVariants as role
-use Rattle.tough_vault.specs.Documents.{metafile_in, snapshot_in}
+use Rattle.tough_vault.specs.Documents.{root_in, metafile_in, snapshot_in}
 use Rattle.tough_schema.specs.Targets.{TargetsDoc, targets_json}
 use Rattle.tough_vault.specs.Files.{snapshot_file, targets_file}
-use Rattle.tough_update.specs.Walk.{root_in}
 use Rattle.tough_update.specs.Requests.{stated_digest}
 use Rattle.tough_update.specs.Listed.{targets_in}
 use Rattle.tough_update.specs.Stages.{KnownDoc}

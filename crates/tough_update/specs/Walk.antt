@@ -1,21 +1,18 @@
 -- The walk from root to root (TUF specification 5.3).
-use Rattle.std.specs.Prelude.{◌≡◌, ◌⊎◌, ℕ, ◌+◌, ◌==◌, List, Option, Some, None, is_some, Bool, Result, Ok, Err, option_and_then, if◌then◌else◌}
+use Rattle.std.specs.Prelude.{◌≡◌, ◌⊎◌, ℕ, ◌+◌, ◌==◌, List, Option, Some, None, is_some, Bool, Result, Ok, Err, if◌then◌else◌}
 use Rattle.tough_json.specs.Results.{json_of}
 use Rattle.tough_keys.specs.Same.{Verifies}
-use Rattle.tough_roles.specs.Signature.{SignedDoc, signed_at}
-use Rattle.tough_roles.specs.Root.{RootDoc, root_at, root_json}
+use Rattle.tough_roles.specs.Signature.{SignedDoc}
+use Rattle.tough_roles.specs.Root.{RootDoc, root_json}
 use Rattle.tough_roles.specs.Policy.{policy}
 use Rattle.tough_roles.specs.Verdict.{Refused, verdict}
 use Rattle.tough_roles.specs.Chain.{text_by}
 use Rattle.tough_roles.specs.declared.role_type.RoleType.{RoleType}
 use Rattle.tough_roles.specs.declared.role_type.RoleType.TheVariants as role
 use Rattle.tough_vault.specs.Checks.{VerifyMetadata, OlderMetadata}
+use Rattle.tough_vault.specs.Documents.{root_in}
 use Rattle.tough_update.specs.declared.error.Error.{Error}
 use Rattle.tough_update.specs.Failure.{Failure, Memory, failure_of, ParseTrustedMetadata, VerifyTrustedMetadata, ParseMetadata, Checked}
-
--- the signed root that bytes are
-abbrev pub root_in : List ℕ → Option (SignedDoc RootDoc)
-root_in bytes = option_and_then (signed_at root_at) (json_of bytes)
 
 -- whether the bytes are JSON
 abbrev pub holds_json : List ℕ → Bool
