@@ -109,13 +109,13 @@ module _ {S : Type 0} (tells : Bool) (files : S → Files) (count : S → ℕ) (
     holds = λ h same is there. holds_snapshot (files old.store) now old.notes old.tip h free new (is_some (stored_snapshot verifies root found)) same is there back;
   }
 
-  pub fits_time : (t : ℤ) (found : Option (List ℕ)) → Passes tells files count (time_step old.tip t) old.store found → Fits tells files count (time_step old.tip t) old now found
-  fits_time t found p =
+  pub fits_time : (t : ℤ) → stored_time (time_text t) ≡ Some t → (found : Option (List ℕ)) → Passes tells files count (time_step old.tip t) old.store found → Fits tells files count (time_step old.tip t) old now found
+  fits_time t back found p =
       let s = or_else_none (time_after (stored_time found) old.tip.time t) (first_of (needs (time_text t) ∷ [])) p.after in
       record {
         follows = λ u e. time_follows (stored_time found) old.tip.time t u s.0 e;
         free = λ name x. absurd (cc (x));
-        holds = λ h same is there. holds_noted (files old.store) now old.notes old.tip h free t same is there;
+        holds = λ h same is there. holds_noted (files old.store) now old.notes old.tip h free t same is there back;
       }
 
   pub fits_root : (root : SignedDoc RootDoc) → (AreOwn root.role.keys → ReadsBack root_in (signed_json root_json root) root (root_text root)) → (found : Option (List ℕ)) → Passes tells files count (root_step root) old.store found → Fits tells files count (root_step root) old now found

@@ -8,9 +8,9 @@ use Rattle.tough_roles.specs.Timestamp.{TimestampDoc, timestamp_json}
 use Rattle.tough_roles.specs.Snapshot.{SnapshotDoc, snapshot_json}
 use Rattle.tough_vault.specs.Files.{time_file, root_file, timestamp_file, snapshot_file, IsFree}
 use Rattle.tough_vault.specs.Documents.{root_text, root_in, timestamp_text, timestamp_in, snapshot_text, snapshot_in, ReadsBack}
-use Rattle.tough_vault.specs.Steps.{time_text, versions_in, roles_in}
+use Rattle.tough_vault.specs.Steps.{time_text, stored_time, versions_in, roles_in}
 use Rattle.tough_vault.specs.Journal.{Pair, Note, Noted, Root, Timestamp, Snapshot, Cleared, Document, Last, Roles, applied, last_root}
-use Rattle.tough_vault.specs.Parts.{Holds, HoldsTimestamp, HoldsSnapshot, HoldsRoot, NamesFree}
+use Rattle.tough_vault.specs.Parts.{Holds, HoldsTime, HoldsTimestamp, HoldsSnapshot, HoldsRoot, NamesFree}
 use Rattle.tough_vault.proofs.Journals.{some_inj, last_root-append, get_append}
 
 not_eq : (a b : ℕ) → nat_eq a b ≡ false → a ≡ b → ⊥
@@ -23,8 +23,8 @@ distinct a b h x = not_eq (length a) (length b) h (ap length x)
 module _ (files now : Files) (notes : List Note) (tip : Last)
     (h : Holds files notes tip) (free : NamesFree notes) where
   module _ (file : List ℕ) (same : SameElsewhere file files now) where
-    keep_time : time_file ≢ file → (t : ℤ) → tip.time ≡ Some t → (now time_file ≡ time_text t) × (now time_file ≢ None)
-    keep_time ne t e = let p = h.time t e in (same time_file ne ∙ p.0, λ x. p.1 (sym (same time_file ne) ∙ x))
+    keep_time : time_file ≢ file → (t : ℤ) → tip.time ≡ Some t → HoldsTime t (now time_file)
+    keep_time ne t e = subst (HoldsTime t) (sym (same time_file ne)) (h.time t e)
 
     keep_timestamp : timestamp_file ≢ file → (p : Pair) → tip.timestamp ≡ Some p → HoldsTimestamp p (now timestamp_file)
     keep_timestamp ne p e = subst (HoldsTimestamp p) (sym (same timestamp_file ne)) (h.timestamp p e)
@@ -39,10 +39,10 @@ module _ (files now : Files) (notes : List Note) (tip : Last)
     keep_document : (k : ℕ) (name : List ℕ) → name ≢ file → slice_get notes k ≡ Some (Document name) → now name ≢ None
     keep_document k name ne e x = h.documents k name e (sym (same name ne) ∙ x)
 
-  pub holds_noted : (t : ℤ) → SameElsewhere time_file files now → now time_file ≡ time_text t → time_text t ≢ None
+  pub holds_noted : (t : ℤ) → SameElsewhere time_file files now → now time_file ≡ time_text t → time_text t ≢ None → stored_time (time_text t) ≡ Some t
       → Holds now (notes ++ Noted t ∷ []) (applied tip (Noted t))
-  holds_noted t same is there = record {
-    time = λ u e. (is ∙ ap time_text (some_inj t u e), λ x. there (sym is ∙ x));
+  holds_noted t same is there back = record {
+    time = λ u e. (is ∙ ap time_text (some_inj t u e), λ x. there (sym is ∙ x), ap stored_time is ∙ (back ∙ e));
     timestamp = keep_timestamp time_file same (distinct _ _ refl);
     snapshot = keep_snapshot time_file same (distinct _ _ refl);
     root = λ v e. keep_root time_file same (distinct _ _ refl) v (sym (last_root-append None notes (Noted t)) ∙ e);
@@ -97,7 +97,7 @@ module _ (files now : Files) (notes : List Note) (tip : Last)
   -- nothing was written
   pub holds_same : ((name : List ℕ) → now name ≡ files name) → Holds now notes tip
   holds_same same = record {
-    time = λ t e. let p = h.time t e in (same time_file ∙ p.0, λ x. p.1 (sym (same time_file) ∙ x));
+    time = λ t e. subst (HoldsTime t) (sym (same time_file)) (h.time t e);
     timestamp = λ p e. subst (HoldsTimestamp p) (sym (same timestamp_file)) (h.timestamp p e);
     snapshot = λ r e. subst (HoldsSnapshot r) (sym (same snapshot_file)) (h.snapshot r e);
     root = λ v e. subst (HoldsRoot v) (sym (same root_file)) (h.root v e);
@@ -107,7 +107,7 @@ module _ (files now : Files) (notes : List Note) (tip : Last)
   pub holds_cleared : ((name : List ℕ) → name ≢ timestamp_file → name ≢ snapshot_file → now name ≡ files name)
       → Holds now (notes ++ Cleared ∷ []) (applied tip Cleared)
   holds_cleared same = record {
-    time = λ t e. let p = h.time t e in let s = same time_file (distinct _ _ refl) (distinct _ _ refl) in (s ∙ p.0, λ x. p.1 (sym s ∙ x));
+    time = λ t e. subst (HoldsTime t) (sym (same time_file (distinct _ _ refl) (distinct _ _ refl))) (h.time t e);
     timestamp = λ p e. absurd (cc (e));
     snapshot = λ r e. absurd (cc (e));
     root = λ v e. subst (HoldsRoot v) (sym (same root_file (distinct _ _ refl) (distinct _ _ refl))) (h.root v (sym (last_root-append None notes Cleared) ∙ e));

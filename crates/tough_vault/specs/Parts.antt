@@ -16,10 +16,14 @@ use Rattle.tough_vault.specs.Files.{time_file, root_file, timestamp_file, snapsh
 use Rattle.tough_vault.specs.Documents.{root_text, root_in, timestamp_text, timestamp_in, snapshot_text, snapshot_in, ReadsBack}
 use Rattle.tough_vault.specs.Journal.{Pair, Roles, Note, Document, Broken, Last, note_of, notes_of, tip_of, last_root}
 use Rattle.tough_vault.specs.Step.{Step, Parts, IsNoted, IsReceipt, Finds, IsUnwritten, Passes, Why}
-use Rattle.tough_vault.specs.Steps.{time_text, versions_in, roles_in}
+use Rattle.tough_vault.specs.Steps.{time_text, stored_time, versions_in, roles_in}
 
 abbrev pub parts : {S : Type 0} → S → List Entry → Tip → Parts S
 parts store journal tip = record { store = store; notes = notes_of journal; tip = tip_of tip }
+
+-- the file is the text of this instant, and is read as it
+abbrev pub HoldsTime : ℤ → Option (List ℕ) → Type 0
+HoldsTime t file = (file ≡ time_text t) × (file ≢ None) × (stored_time file ≡ Some t)
 
 -- the file is the text of a signed timestamp with these versions, and is read as it
 abbrev pub HoldsTimestamp : Pair → Option (List ℕ) → Type 0
@@ -36,7 +40,7 @@ HoldsRoot v file = (d : SignedDoc RootDoc) × (file ≡ root_text d) × (file �
 -- What the files of a vault hold, for each part of the tip and each entry that speaks of one.
 pub record Holds (files : Files) (notes : List Note) (tip : Last) : Type 0 where
   -- `latest_known_time.json` is the text of the tip's time
-  pub time : (t : ℤ) → tip.time ≡ Some t → (files time_file ≡ time_text t) × (files time_file ≢ None)
+  pub time : (t : ℤ) → tip.time ≡ Some t → HoldsTime t (files time_file)
   -- `timestamp.json` is the text of a signed timestamp with the tip's versions
   pub timestamp : (p : Pair) → tip.timestamp ≡ Some p → HoldsTimestamp p (files timestamp_file)
   -- `snapshot.json` is the text of a signed snapshot with the tip's versions

@@ -10,7 +10,7 @@ ghost use Rattle.tough_vault.specs.Journal.{tip_of, time_where};
 ghost use Rattle.tough_vault.specs.Checks.{timestamp_where, enforces};
 ghost use Rattle.tough_vault.specs.Documents.{role_text, root_text, root_in, timestamp_text, timestamp_in, ReadsBack};
 ghost use Rattle.tough_vault.specs.DocumentName.{name_of};
-ghost use Rattle.tough_vault.specs.Steps.{time_step, root_step, timestamp_step, document_step, stored_timestamp, stored_time, time_text};
+ghost use Rattle.tough_vault.specs.Steps.{time_step, root_step, timestamp_step, document_step, stored_timestamp, stored_time, time_text, time_in};
 ghost use Rattle.tough_json.specs.Results.{Writes};
 ghost use Rattle.tough_vault.specs.Parts.{Prepares, IsReadFault};
 
@@ -103,7 +103,8 @@ fn read_time(alloc: Global, found: &Option<Vec<u8>>) -> Result<Option<Instant>, 
 
 // The text of an instant in a store; `Unwritable` where it has none.
 fn time_bytes(alloc: Global, time: Instant) -> Result<Vec<u8>, WriteError>
-    ensures { Writes (λ b. b.items) result (time_text time.nanosecond) }
+    ensures written { Writes (λ b. b.items) result (time_text time.nanosecond) }
+    ensures back { IfOk result (λ b. time_in b.items ≡ Some time.nanosecond) }
 {
     let text = match moment_text(alloc, time) {
         Ok(text) => text,
@@ -122,7 +123,8 @@ pub(crate) fn prepare_time<S: Store>(
     tip: &Tip,
     now: Instant,
 ) -> Result<Prepared, StepError>
-    ensures { Prepares S.tells S.files S.count (time_step (tip_of tip.now) now.nanosecond) store.old store.new result }
+    ensures step { Prepares S.tells S.files S.count (time_step (tip_of tip.now) now.nanosecond) store.old store.new result }
+    ensures back { OnOk result (stored_time (time_text now.nanosecond) ≡ Some now.nanosecond) }
 {
     let found = match read_file(alloc, store, TIME) {
         Ok(found) => found,

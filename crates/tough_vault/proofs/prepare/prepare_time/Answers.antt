@@ -8,20 +8,23 @@ use Rattle.tough_vault.specs.Steps.{needs, stored_time}
 use Rattle.tough_vault.proofs.Preparing.{prepared, refused_after, checked_more, checked_at, or_none, or_second}
 use Rattle.tough_vault.proofs.prepare.prepare_time.Goals as goal
 
-pub returns-in-Err-check_time : goal.returns-in-Err-check_time
-returns-in-Err-check_time g c = refused_after _ _ _ _ _ _ (content c.in-Ok.found) _ c.in-Ok.ensures.found refl
+pub returns-in-Err-check_time-clause-step : goal.returns-in-Err-check_time-clause-step
+returns-in-Err-check_time-clause-step g c = refused_after _ _ _ _ _ _ (content c.in-Ok.found) _ c.in-Ok.ensures.found refl
     (checked_more (time_after (stored_time (content c.in-Ok.found)) (time_where c.args.tip.now.time) c.args.now.nanosecond) _ _
     (checked_at (λ o. time_after o (time_where c.args.tip.now.time) c.args.now.nanosecond) _ _ _ c.in-Ok-read_time.ensures c.in-Err-check_time.ensures)) c.in-Ok.ensures.same
 
-pub returns-in-Err-Unwritable : goal.returns-in-Err-Unwritable
-returns-in-Err-Unwritable g c = refused_after _ _ _ _ _ _ (content c.in-Ok.found) (Refused DatastoreSerialize) c.in-Ok.ensures.found refl
+pub returns-in-Err-Unwritable-clause-step : goal.returns-in-Err-Unwritable-clause-step
+returns-in-Err-Unwritable-clause-step g c = refused_after _ _ _ _ _ _ (content c.in-Ok.found) (Refused DatastoreSerialize) c.in-Ok.ensures.found refl
     (or_second (time_after (stored_time (content c.in-Ok.found)) (time_where c.args.tip.now.time) c.args.now.nanosecond) _ _
     (ap (λ o. time_after o (time_where c.args.tip.now.time) c.args.now.nanosecond) (sym c.in-Ok-read_time.ensures) ∙ c.in_default-check_time.ensures)
-    (ap (λ x. first_of (needs x ∷ [])) (rw c.in-Err-Unwritable.field-0-is at c.in-Err-Unwritable.ensures))) c.in-Ok.ensures.same
+    (ap (λ x. first_of (needs x ∷ [])) (rw c.in-Err-Unwritable.field-0-is at c.in-Err-Unwritable.ensures.written))) c.in-Ok.ensures.same
 
-pub returns : goal.returns
-returns g c = prepared _ _ _ _ _ _ (content c.in-Ok.found) _ c.in-Ok.ensures.found refl
+pub returns-clause-step : goal.returns-clause-step
+returns-clause-step g c = prepared _ _ _ _ _ _ (content c.in-Ok.found) _ c.in-Ok.ensures.found refl
     (or_none (time_after (stored_time (content c.in-Ok.found)) (time_where c.args.tip.now.time) c.args.now.nanosecond) _
     (ap (λ o. time_after o (time_where c.args.tip.now.time) c.args.now.nanosecond) (sym c.in-Ok-read_time.ensures) ∙ c.in_default-check_time.ensures)
-    (ap (λ x. first_of (needs x ∷ [])) c.in-Ok-time_bytes.ensures))
-    (record { entry = refl; bytes = c.in-Ok-time_bytes.ensures }) (c.in-Ok.ensures.quiet) c.in-Ok.ensures.same
+    (ap (λ x. first_of (needs x ∷ [])) c.in-Ok-time_bytes.ensures.written))
+    (record { entry = refl; bytes = c.in-Ok-time_bytes.ensures.written }) (c.in-Ok.ensures.quiet) c.in-Ok.ensures.same
+
+pub returns-clause-back : goal.returns-clause-back
+returns-clause-back g c = ap stored_time c.in-Ok-time_bytes.ensures.written ∙ c.in-Ok-time_bytes.ensures.back

@@ -2,11 +2,11 @@ use Rattle.tough_vault.specs.Journal.{tip_of}
 use Rattle.tough_vault.specs.Steps.{time_step}
 use Rattle.tough_vault.specs.Parts.{parts}
 use Rattle.tough_vault.proofs.Taking.{takes}
-use Rattle.tough_vault.proofs.Fitting.{after_step, fits_time}
+use Rattle.tough_vault.proofs.Fitting.{after_step, fits_time, when_ready}
 use Rattle.tough_vault.proofs.vault.Vault.note_time.Goals as goal
 
 pub returns : goal.returns
-returns g c = takes _ _ _ _ _ _ _ _ _ c.prepare_time-prepared.ensures c.conclude.ensures
+returns g c = takes _ _ _ _ _ _ _ _ _ c.prepare_time-prepared.ensures.step c.conclude.ensures
 
 pub invariant_of-self : goal.invariant_of-self
 invariant_of-self g c =
@@ -15,6 +15,6 @@ invariant_of-self g c =
     let after = parts c.conclude.new.store c.conclude.new.journal.items c.conclude.new.tip in
     let s = after_step g.S.Store.tells g.S.Store.files g.S.Store.count (time_step (tip_of self.tip) c.args.now.nanosecond) before after _ c.prepare_time-prepared.result c.conclude.result
     (record { replays = self.replays; rises = self.rises; free = self.free; holds = self.holds })
-    c.prepare_time-prepared.ensures c.conclude.ensures
-    (λ p ready. fits_time g.S.Store.tells g.S.Store.files g.S.Store.count before self.free (g.S.Store.files c.conclude.new.store) c.args.now.nanosecond) in
+    c.prepare_time-prepared.ensures.step c.conclude.ensures
+    (λ p ready. fits_time g.S.Store.tells g.S.Store.files g.S.Store.count before self.free (g.S.Store.files c.conclude.new.store) c.args.now.nanosecond (when_ready c.prepare_time-prepared.result p c.prepare_time-prepared.ensures.back ready)) in
     record { replays = s.replays; rises = s.rises; free = s.free; holds = s.holds }
