@@ -24,7 +24,7 @@ use Rattle.tough_update.specs.Answered as got
 use Rattle.tough_update.specs.Machine.{question, question_at}
 use Rattle.tough_update.specs.Promises.{Goes, ended}
 use Rattle.tough_update.specs.Runs.{Keeps, run, Along, IsFresh}
-use Rattle.tough_update.proofs.Whole.{loaded}
+use Rattle.tough_update.proofs.lemmas.Whole.{loaded}
 use Rattle.tough_vault.specs.Act.{Act, CheckedIfOk}
 use Rattle.tough_client.specs.Fetching.{Fetches, bounds}
 use Rattle.tough_client.specs.Loading.{Allows, Leads, Ends}

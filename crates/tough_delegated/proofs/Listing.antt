@@ -22,7 +22,7 @@ use Rattle.tough_schema.specs.Tree.{Entry}
 use Rattle.tough_schema.specs.Update.{listed_roles, roles_at, roles_within}
 use Rattle.tough_schema.specs.Search.{Names}
 use Rattle.tough_schema.specs.Whole.{TreeDoc, tree, Branches, HeldDoc, RoleTree, NamedTree, DelegationsTree, put_branch, branches_from, branches_of, tree_doc, delegations_tree, role_tree, held_doc, entries_in, top_doc}
-use Rattle.tough_schema.proofs.Wholes.{own, tree-out, delegations-out, role-out, named-out, top-tells}
+use Rattle.tough_schema.proofs.lemmas.Wholes.{own, tree-out, delegations-out, role-out, named-out, top-tells}
 use Rattle.tough_delegated.specs.Growing.{Metas, Look, through, unlisted, wanted, look, looked, listed_as, at_name, first_of, with_fetched}
 use Rattle.tough_delegated.specs.View.{entries_of, listed_in, fetched_doc}
 

@@ -21,7 +21,7 @@ use Rattle.tough_json.specs.declared.cjson.error.CjsonError.TheVariants.{Float, 
 use Rattle.tough_json.specs.ByName.{named, kept, AreByName}
 use Rattle.tough_json.specs.Canon.{Canon, CanonMembers, Member, IsInOrder, AreMembersRefused, Holds, nfc_text, has_name, shares_name, members_share_name}
 use Rattle.tough_json.specs.CanonicalText.{canonical_of}
-use Rattle.tough_json.proofs.Computed.{computed}
+use Rattle.tough_json.proofs.lemmas.Computed.{computed}
 use Rattle.tough_json.proofs.Ordered.{Rising}
 
 -- a member as a map of references keeps it, and as it is seen

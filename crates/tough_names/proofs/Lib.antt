@@ -1,3 +1,4 @@
+pub mod lemmas
 pub mod Keeping
 pub mod Joining
 pub mod Safe
@@ -7,5 +8,4 @@ pub mod Retry
 pub mod Texts
 pub mod Spelled
 pub mod Read
-pub mod Patterns
 pub mod Unreserved

@@ -1,5 +1,5 @@
+pub mod lemmas
 pub mod CheckLemmas
-pub mod CollectLemmas
 pub mod EndLemmas
 pub mod FileLemmas
 pub mod Going

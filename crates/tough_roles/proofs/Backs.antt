@@ -1,7 +1,7 @@
 -- What is written for a signed document is read as it.
 use Rattle.std.proofs.Common.{◌≡◌, Option, Some, refl}
 use Rattle.serde_json.specs.Data.{Data}
-use Rattle.tough_json.proofs.WriteLemmas.{bind_ok}
+use Rattle.tough_json.proofs.lemmas.Write.{bind_ok}
 use Rattle.tough_roles.specs.Signature.{SignedDoc, signed_parts_json, signed_at, signed_json}
 use Rattle.tough_roles.proofs.SignedLemmas.{signed-back}
 

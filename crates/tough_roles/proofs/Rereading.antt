@@ -23,8 +23,8 @@ use Rattle.serde_json.proofs.Texts.{print-outline}
 use Rattle.tough_json.specs.Pieces.{IsBelow, text_in}
 use Rattle.tough_json.specs.Results.{json_of}
 use Rattle.tough_json.specs.declared.pieces.Form.TheVariants as forms
-use Rattle.tough_json.proofs.JsonLemmas.{json_of-some}
-use Rattle.tough_json.proofs.WriteLemmas.{some-inj}
+use Rattle.tough_json.proofs.lemmas.Json.{json_of-some}
+use Rattle.tough_json.proofs.lemmas.Write.{some-inj}
 use Rattle.tough_roles.specs.Readable.{IsWord, IsValue, AreValues, AreMembers, IsReadable}
 
 -- ---- numbers

@@ -3,7 +3,7 @@ use Rattle.std.proofs.Common.{◌≡◌, ℕ, Result, Ok, Err, List, codes, Opti
 use Rattle.serde_json.specs.Data.{Data, array, object, no_members}
 use Rattle.tough_json.specs.Reading.{◌>>=◌, hexadecimal, listing}
 use Rattle.tough_json.specs.Writing.{with, hexadecimal_json, all_json}
-use Rattle.tough_json.proofs.WriteLemmas.{bind_ok, some-inj, required-with, hexadecimal-back, all-back}
+use Rattle.tough_json.proofs.lemmas.Write.{bind_ok, some-inj, required-with, hexadecimal-back, all-back}
 use Rattle.tough_roles.specs.Signature.{SignatureDoc, signature_at, signature_json, signed_parts, signed_parts_json, signed_at, signed_doc}
 use Rattle.tough_roles.specs.declared.signed.Signed.{Signed}
 use Rattle.tough_json.specs.Results.{json_of, Refuses}

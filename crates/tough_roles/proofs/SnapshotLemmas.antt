@@ -4,12 +4,12 @@ use Rattle.jiff_core.specs.Timestamp.{IsTimestampNanos}
 use Rattle.serde_json.specs.Data.{Data, object}
 use Rattle.tough_json.specs.Reading.{◌>>=◌, mapping}
 use Rattle.tough_json.specs.Writing.{with, named}
-use Rattle.tough_json.proofs.WriteLemmas.{bind_ok, some-inj, required-with, named-back}
+use Rattle.tough_json.proofs.lemmas.Write.{bind_ok, some-inj, required-with, named-back}
 use Rattle.tough_roles.specs.Head.{head_json}
 use Rattle.tough_roles.specs.Timestamp.{metafile_at, metafile_json}
 use Rattle.tough_roles.specs.Snapshot.{SnapshotDoc, snapshot_at, snapshot_json}
-use Rattle.tough_roles.proofs.HeadLemmas.{head-back}
-use Rattle.tough_roles.proofs.TimestampLemmas.{metafile-back}
+use Rattle.tough_roles.proofs.lemmas.Head.{head-back}
+use Rattle.tough_roles.proofs.lemmas.Timestamp.{metafile-back}
 
 pub snapshot-back : (t : SnapshotDoc) (d : Data) → IsTimestampNanos t.head.expires → snapshot_json t ≡ Some d → snapshot_at d ≡ Some t
 unfolding snapshot_json snapshot_at

@@ -9,9 +9,9 @@ use Rattle.tough_json.specs.Pieces.{text_in}
 use Rattle.tough_json.specs.declared.pieces.Form.TheVariants as forms
 use Rattle.tough_json.specs.Reading.{◌>>=◌}
 use Rattle.tough_json.specs.Writing.{with, stands_for, hexadecimal_json, all_json}
-use Rattle.tough_json.proofs.Computed.{Canon-computed, then_some}
-use Rattle.tough_json.proofs.Exactness.{accepted}
-use Rattle.tough_json.proofs.WriteLemmas.{bind_ok, some-inj}
+use Rattle.tough_json.proofs.lemmas.Computed.{Canon-computed, then_some}
+use Rattle.tough_json.proofs.lemmas.Exactness.{accepted}
+use Rattle.tough_json.proofs.lemmas.Write.{bind_ok, some-inj}
 use Rattle.tough_keys.specs.Same.{Verifies}
 use Rattle.tough_roles.specs.Policy.{Policy}
 use Rattle.tough_roles.specs.Verdict.{verdict}

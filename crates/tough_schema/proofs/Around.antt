@@ -6,8 +6,8 @@ use Rattle.tough_json.specs.Pieces.{text_in, replaced}
 use Rattle.tough_json.specs.Moment.{moment_text}
 use Rattle.tough_json.specs.Reading.{◌>>=◌}
 use Rattle.tough_json.specs.Writing.{with, with_optional, optional_json, positive_json}
-use Rattle.tough_json.proofs.PieceLemmas.{with-replaced, with-place}
-use Rattle.tough_json.proofs.WriteLemmas.{bind_ok}
+use Rattle.tough_json.proofs.lemmas.Piece.{with-replaced, with-place}
+use Rattle.tough_json.proofs.lemmas.Write.{bind_ok}
 use Rattle.tough_roles.specs.Head.{Head, with_moment, head_json}
 use Rattle.tough_schema.specs.Delegations.{delegations_json}
 use Rattle.tough_schema.specs.Targets.{TargetsDoc, listing_json, parts_json, around_json, targets_json}

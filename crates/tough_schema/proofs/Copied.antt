@@ -2,7 +2,7 @@
 use Rattle.std.proofs.Common.{◌≡◌, map, ap, sym, ◌∙◌}
 use Rattle.tough_roles.specs.Root.{keys_doc}
 use Rattle.tough_schema.specs.Whole.{DelegationsTree, branches_from, delegations_tree, role_tree}
-use Rattle.tough_schema.proofs.Wholes.{DelegationsFields, delegations-roll, delegations-out}
+use Rattle.tough_schema.proofs.lemmas.Wholes.{DelegationsFields, delegations-roll, delegations-out}
 use Rattle.tough_schema.specs.declared.delegations.Delegations.{Delegations, out-Delegations, roll-Delegations}
 
 -- delegations of the same keys and roles

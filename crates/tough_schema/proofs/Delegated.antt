@@ -11,7 +11,7 @@ use Rattle.tough_roles.specs.Verdict.{Refused, MissingRole, DuplicateKeyId, Sign
 use Rattle.tough_roles.specs.declared.role_type.RoleType.{RoleType}
 use Rattle.tough_roles.specs.declared.error.Error.{Error}
 use Rattle.tough_roles.specs.declared.error.Error.TheVariants as errors
-use Rattle.tough_roles.proofs.Reached.{reaches-from, reaches-to}
+use Rattle.tough_roles.proofs.lemmas.Reached.{reaches-from, reaches-to}
 use Rattle.tough_schema.specs.declared.delegations.DelegatedRole.{DelegatedRole}
 use Rattle.tough_schema.specs.Delegations.{DelegationsDoc, delegated_role_doc}
 use Rattle.tough_schema.specs.Verify.{role_named, delegated_policy, ReachesDelegated, NamesDelegated}

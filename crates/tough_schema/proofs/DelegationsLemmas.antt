@@ -8,12 +8,12 @@ use Rattle.tough_names.specs.Glob.{Part}
 use Rattle.tough_names.specs.Grammar.{parts_in}
 use Rattle.tough_json.specs.Reading.{◌>>=◌, required, text, positive, truth, hexadecimal, listing, all_at, as_items, unless_null, without}
 use Rattle.tough_json.specs.Writing.{with, positive_json, hexadecimal_json, all_json}
-use Rattle.tough_json.proofs.WriteLemmas.{bind_ok, some-inj, required-with, hexadecimal-back, positive-back, all-back}
+use Rattle.tough_json.proofs.lemmas.Write.{bind_ok, some-inj, required-with, hexadecimal-back, positive-back, all-back}
 use Rattle.tough_keys.specs.Key.{key_json}
 use Rattle.tough_roles.specs.Root.{by_bytes, key_entry_at, id_name, keys_at, keys_json, AreOwn}
-use Rattle.tough_roles.proofs.EntryLemmas.{own_keys, required_ok, and_then_ok, map_ok}
-use Rattle.tough_roles.proofs.RootLemmas.{by_bytes_total, keys_back}
-use Rattle.tough_roles.proofs.Tables.{table-back}
+use Rattle.tough_roles.proofs.lemmas.Entry.{own_keys, required_ok, and_then_ok, map_ok}
+use Rattle.tough_roles.proofs.lemmas.Root.{by_bytes_total, keys_back}
+use Rattle.tough_roles.proofs.lemmas.Tables.{table-back}
 use Rattle.tough_schema.specs.Paths.{PathsDoc, patterns, prefixes, if_pattern, pattern, either_at, paths_at, AllPatterns, ArePatterns, text_json, with_paths}
 use Rattle.tough_schema.specs.Delegations.{DelegatedRoleDoc, DelegationsDoc, delegated_role_at, delegations_at, ListPatterns, delegated_role_json, delegations_json}
 

@@ -15,11 +15,11 @@ use Rattle.tough_json.specs.declared.error.ReadError.TheVariants as errors
 use Rattle.serde_json.specs.Data.{Data, object, Members, no_members, member}
 use Rattle.serde_json.specs.Find.{get_member}
 use Rattle.tough_json.specs.Reading.{◌>>=◌, required, optional, without, text, positive, instant}
-use Rattle.tough_json.proofs.WriteLemmas.{bind_ok, some-inj}
+use Rattle.tough_json.proofs.lemmas.Write.{bind_ok, some-inj}
 use Rattle.tough_names.specs.Named.{Named}
 use Rattle.tough_roles.specs.Document.{RefusesValue}
 use Rattle.tough_roles.specs.Head.{Head, head_at}
-use Rattle.tough_roles.proofs.EntryLemmas.{map_ok}
+use Rattle.tough_roles.proofs.lemmas.Entry.{map_ok}
 use Rattle.tough_schema.specs.Target.{TargetDoc}
 use Rattle.tough_schema.specs.Delegations.{delegations_at}
 use Rattle.tough_schema.specs.Targets.{TargetsDoc, listing_at, targets_at, targets_around}

@@ -9,7 +9,7 @@ use Rattle.tough_schema.specs.declared.delegations.DelegatedRole.TheOpen.{Delega
 use Rattle.tough_schema.specs.Delegations.{delegated_role_doc}
 use Rattle.tough_schema.specs.Whole.{Branches, HeldDoc, RoleTree, NamedTree, DelegationsTree, put_branch, branches_from, branches_of, tree_doc, delegations_tree, named_tree, role_tree, held_doc}
 use Rattle.tough_schema.specs.Fresh.{carriers, carriers_below, IsUnloaded, IsFresh, IsFreshDelegated, AreUnloaded, DelegateUnloaded, MayDelegateUnloaded}
-use Rattle.tough_schema.proofs.Wholes.{TargetsFields, tree-roll, delegations-out, role-out, named-roll}
+use Rattle.tough_schema.proofs.lemmas.Wholes.{TargetsFields, tree-roll, delegations-out, role-out, named-roll}
 
 -- one more role
 pub unloaded-last : (rs : List DelegatedRole) (r : DelegatedRole) → AreUnloaded rs → (out-DelegatedRole r).targets ≡ None → AreUnloaded (rs ++ r ∷ [])

@@ -12,7 +12,7 @@ use Rattle.tough_schema.specs.Whole.{TreeDoc, tree, Branches, no_branches, unloa
 use Rattle.tough_schema.specs.Preorder.{Occurrence, preorder, preorder_below}
 use Rattle.tough_schema.specs.Entries.{entries, documents_of, documents_below}
 use Rattle.tough_schema.specs.Gather.{roles_in, roles_under, gathered, shown}
-use Rattle.tough_schema.proofs.Wholes.{tree-leaf, tree-inner, role-held, held-below, branches-drop}
+use Rattle.tough_schema.proofs.lemmas.Wholes.{tree-leaf, tree-inner, role-held, held-below, branches-drop}
 
 abbrev roles : List Occurrence → List RoleTree
 roles os = map (λ o. o.role) os

@@ -20,7 +20,7 @@ use Rattle.tough_roles.specs.declared.error.Error.TheVariants as errors
 use Rattle.tough_schema.specs.Search.{search, IsNotFound}
 use Rattle.tough_schema.specs.Entries.{listed_of, listed_in, all_listed, merged_into, IsListed, IsInvalid}
 use Rattle.tough_schema.specs.Gather.{shown, listed_docs, map_docs}
-use Rattle.tough_schema.proofs.Wholes.{tree-out, role-held, held-below}
+use Rattle.tough_schema.proofs.lemmas.Wholes.{tree-out, role-held, held-below}
 
 pub listing-tree : (t : Targets) → listing_of (tree_doc t) ≡ listing_doc (out-Targets t).targets.entries
 listing-tree t = ap listing_of (tree-out t)

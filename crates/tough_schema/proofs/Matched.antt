@@ -3,7 +3,7 @@ use Rattle.std.proofs.Common.{◌≡◌, ◌↔◌, ℕ, List, [], ◌∷◌, �
 use Rattle.tough_names.specs.Glob.{Part, run, one, accepts, Fits}
 use Rattle.tough_names.specs.Grammar.{parts_in}
 use Rattle.tough_names.specs.Spelling.{Matches}
-use Rattle.tough_names.proofs.Patterns.{no_pattern, matches_if, fits_if}
+use Rattle.tough_names.proofs.lemmas.Patterns.{no_pattern, matches_if, fits_if}
 use Rattle.tough_schema.specs.Matching.{some_end, fits_in, if_parts, pattern_matches}
 
 or_left : (a b : Bool) → a ≡ true → (a || b) ≡ true

@@ -3,7 +3,7 @@ use Rattle.std.proofs.Common.{◌≡◌, ℕ, List, Option, Some, None, option_m
 use Rattle.tough_names.specs.Glob.{Part}
 use Rattle.tough_names.specs.Grammar.{parts_in}
 use Rattle.tough_names.specs.Spelling.{IsPattern}
-use Rattle.tough_names.proofs.Patterns.{is_pattern, no_pattern}
+use Rattle.tough_names.proofs.lemmas.Patterns.{is_pattern, no_pattern}
 use Rattle.tough_json.specs.declared.error.ReadError.{ReadError}
 use Rattle.tough_json.specs.declared.error.ReadError.TheVariants as errors
 use Rattle.tough_json.specs.Results.{Refuses, IsRefusal}

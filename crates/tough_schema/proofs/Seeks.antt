@@ -2,7 +2,7 @@
 use Rattle.std.proofs.Common.{◌≡◌, ℕ, ◌+◌, ◌<◌, List, [], ◌∷◌, ◌++◌, drop, length, get_or, Bool, true, false, Option, Some, None, option_map, cond, if◌then◌else◌, string_bytes, refl, sym, ap, subst, ◌∙◌}
 use Rattle.std.specs.Option.{option_or}
 use Rattle.std.specs.Str.{bytes_eq}
-use Rattle.tough_json.proofs.WriteLemmas.{some-inj}
+use Rattle.tough_json.proofs.lemmas.Write.{some-inj}
 use Rattle.tough_roles.specs.declared.error.Error.{Error}
 use Rattle.tough_roles.specs.declared.error.Error.TheVariants as errors
 use Rattle.tough_roles.specs.declared.signed.Signed.{Signed}
@@ -13,7 +13,7 @@ use Rattle.tough_schema.specs.declared.targets.Targets.{Targets, out-Targets}
 use Rattle.tough_schema.specs.Whole.{TreeDoc, tree, Branches, HeldDoc, RoleTree, DelegationsTree, put_branch, tree_doc, delegations_tree, role_tree, role_branches, held_doc}
 use Rattle.tough_schema.specs.Seek.{Sought, found, missing, undocumented, undelegated, if_found, or_next, if_delegated, seek, seek_in, sought, role_of, document_of, HasNone, IsUnheld, IsUnsought, standing, standing_in, first_named}
 use Rattle.tough_schema.specs.Seeking.{below_at, step_at, standing_below, standing_at, role_at}
-use Rattle.tough_schema.proofs.Wholes.{tree-leaf, tree-inner, delegations-out, role-named, role-held, held-below, branches-drop}
+use Rattle.tough_schema.proofs.lemmas.Wholes.{tree-leaf, tree-inner, delegations-out, role-named, role-held, held-below, branches-drop}
 
 -- ---- the role of a name
 

@@ -6,9 +6,9 @@ use Rattle.serde_json.specs.View.{members_view}
 use Rattle.serde_json.proofs.Views.{Entry, get_member-put}
 use Rattle.tough_json.specs.Reading.{◌>>=◌, whole}
 use Rattle.tough_json.specs.Writing.{if_free, with, with_optional, length_json}
-use Rattle.tough_json.proofs.WriteLemmas.{bind_ok, some-inj, required-with, length-back, without-with, without-absent}
+use Rattle.tough_json.proofs.lemmas.Write.{bind_ok, some-inj, required-with, length-back, without-with, without-absent}
 use Rattle.tough_roles.specs.Timestamp.{hashes_at, hashes_json}
-use Rattle.tough_roles.proofs.TimestampLemmas.{hashes-back}
+use Rattle.tough_roles.proofs.lemmas.Timestamp.{hashes-back}
 use Rattle.tough_schema.specs.Target.{TargetDoc, target_at, target_json, custom_at, unless_empty}
 
 pub unless_empty-filled : (es : List Entry) → (length es ≡ 0 → ⊥) → unless_empty (members_view es) ≡ Some (object (members_view es))

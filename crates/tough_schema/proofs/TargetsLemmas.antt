@@ -10,11 +10,11 @@ use Rattle.tough_names.specs.declared.name.NameError.{NameError}
 use Rattle.tough_names.specs.Named.{Named, clean, by_raw_then_resolved}
 use Rattle.tough_json.specs.Reading.{◌>>=◌, required, optional, present, if_present, without}
 use Rattle.tough_json.specs.Writing.{with, with_optional, optional_json}
-use Rattle.tough_json.proofs.WriteLemmas.{bind_ok, some-inj, required-with, optional-with_some, optional-with_none}
+use Rattle.tough_json.proofs.lemmas.Write.{bind_ok, some-inj, required-with, optional-with_some, optional-with_none}
 use Rattle.tough_roles.specs.Head.{head_at, head_json}
-use Rattle.tough_roles.proofs.EntryLemmas.{map_ok}
-use Rattle.tough_roles.proofs.HeadLemmas.{head-back}
-use Rattle.tough_roles.proofs.Tables.{AreBack, table-back}
+use Rattle.tough_roles.proofs.lemmas.Entry.{map_ok}
+use Rattle.tough_roles.proofs.lemmas.Head.{head-back}
+use Rattle.tough_roles.proofs.lemmas.Tables.{AreBack, table-back}
 use Rattle.tough_schema.specs.Target.{TargetDoc, target_json}
 use Rattle.tough_schema.specs.Delegations.{DelegationsDoc, delegations_at, delegations_json}
 use Rattle.tough_schema.specs.Targets.{TargetsDoc, if_clean, name_at, entry_at, listing_at, listing_json, resolves_to, raw_name, targets_at, parts_json, around_json, targets_json, IsKept, KeysRise, AreSorted}

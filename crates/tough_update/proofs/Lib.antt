@@ -1,7 +1,7 @@
+pub mod lemmas
 pub mod Walking
 pub mod Turning
 pub mod Sound
-pub mod Whole
 pub mod Rotated
 pub mod Settling
 pub mod Alike

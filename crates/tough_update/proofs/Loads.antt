@@ -18,7 +18,7 @@ use Rattle.tough_roles.specs.Verdict.{Refused, verdict}
 use Rattle.tough_roles.specs.Chain.{ReachesUnder, text_by}
 use Rattle.tough_roles.specs.declared.role_type.RoleType.{RoleType}
 use Rattle.tough_roles.specs.declared.role_type.RoleType.TheVariants as role
-use Rattle.tough_roles.proofs.Reached.{reaches-to}
+use Rattle.tough_roles.proofs.lemmas.Reached.{reaches-to}
 use Rattle.tough_schema.specs.Targets.{TargetsDoc, targets_json}
 use Rattle.tough_vault.specs.Checks.{Reason, VerifyMetadata, VersionMismatch, TimestampMetaLength, MissingSnapshotMeta, SnapshotTargetsMetaMissing, ExpiredMetadata, refuse, or_else, is_expired, expiry, verified, timestamp_form, snapshot_form}
 use Rattle.tough_vault.specs.Documents.{root_in, root_text, timestamp_in, snapshot_in, snapshot_verdict, metafile_in}

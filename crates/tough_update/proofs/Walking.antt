@@ -5,7 +5,7 @@ use Rattle.tough_roles.specs.Signature.{SignedDoc}
 use Rattle.tough_roles.specs.Root.{RootDoc, root_json}
 use Rattle.tough_roles.specs.Chain.{ReachesUnder, IsNext}
 use Rattle.tough_roles.specs.declared.role_type.RoleType.TheVariants as role
-use Rattle.tough_roles.proofs.Reached.{ok-reaches}
+use Rattle.tough_roles.proofs.lemmas.Reached.{ok-reaches}
 use Rattle.tough_update.specs.Walk.{root_verdict}
 
 -- a verdict of Ok: the root's threshold is reached

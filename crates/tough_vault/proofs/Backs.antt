@@ -3,7 +3,7 @@ use Rattle.std.proofs.Common.{◌≡◌, ℕ, List, Option, Some, option_and_the
 use Rattle.serde_json.specs.Data.{Data}
 use Rattle.serde_json.specs.Read.{max_depth}
 use Rattle.tough_json.specs.Results.{json_of}
-use Rattle.tough_json.proofs.WriteLemmas.{some-inj}
+use Rattle.tough_json.proofs.lemmas.Write.{some-inj}
 use Rattle.tough_roles.specs.Readable.{NestsWithin, IsTextOf}
 use Rattle.tough_roles.specs.Signature.{SignedDoc, signed_at, signed_json, signed_doc}
 use Rattle.tough_roles.specs.declared.signed.Signed.{Signed}

@@ -2,7 +2,7 @@ use Rattle.std.proofs.Common.{ap, ◌∙◌, map, List}
 use Rattle.tough_schema.specs.declared.delegations.DelegatedRole.{DelegatedRole}
 use Rattle.tough_schema.specs.declared.targets.Targets.{out-Targets, out-roll-Targets}
 use Rattle.tough_schema.specs.Whole.{role_tree, role_cleared}
-use Rattle.tough_schema.proofs.Wholes.{cleared-under, TargetsFields}
+use Rattle.tough_schema.proofs.lemmas.Wholes.{cleared-under, TargetsFields}
 use Rattle.tough_schema.proofs.+clear.Goals as goal
 
 pub targets::Targets::clear_targets-returns-in-Some : goal.targets::Targets::clear_targets-returns-in-Some

@@ -1,7 +1,7 @@
 use Rattle.std.proofs.Common.{◌≡◌, drop, string_bytes, ap, sym, ◌∙◌}
 use Rattle.tough_schema.specs.Walk.{names_in}
 use Rattle.tough_schema.specs.Whole.{held_doc}
-use Rattle.tough_schema.proofs.Walks.{names_in-insert}
+use Rattle.tough_schema.proofs.lemmas.Walks.{names_in-insert}
 use Rattle.tough_delegated.specs.Growing.{unlisted, look, by_look, go_on, settle}
 use Rattle.tough_delegated.specs.View.{metas_of, waiting_in, entries_of, opens_doc, look_doc, work_doc, progress_doc}
 use Rattle.tough_delegated.proofs.Turning.{if_ok-to}

@@ -2,7 +2,7 @@ use Rattle.std.proofs.Common.{rules, ◌≡◌, Some, drop, string_bytes, ap, �
 use Rattle.tough_roles.specs.Timestamp.{metafile_doc}
 use Rattle.tough_schema.specs.Walk.{names_in}
 use Rattle.tough_schema.specs.Whole.{RoleTree, role_tree, held_doc}
-use Rattle.tough_schema.proofs.Walks.{names_in-insert}
+use Rattle.tough_schema.proofs.lemmas.Walks.{names_in-insert}
 use Rattle.tough_delegated.specs.Growing.{through, unlisted, wanted, look, past, entered}
 use Rattle.tough_delegated.specs.View.{metas_of, entries_of, listed_in}
 use Rattle.tough_delegated.proofs.Turning.{looked-whole}

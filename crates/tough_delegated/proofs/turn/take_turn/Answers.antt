@@ -5,7 +5,7 @@ use Rattle.tough_schema.specs.Update.{listed_roles}
 use Rattle.tough_schema.specs.Walk.{names_in}
 use Rattle.tough_schema.specs.Whole.{RoleTree, role_tree, held_doc}
 use Rattle.tough_schema.specs.declared.delegations.DelegatedRole.{out-DelegatedRole}
-use Rattle.tough_schema.proofs.Walks.{names_in-insert}
+use Rattle.tough_schema.proofs.lemmas.Walks.{names_in-insert}
 use Rattle.tough_delegated.specs.Growing.{look, entered, turn}
 use Rattle.tough_delegated.specs.View.{metas_of, turn_doc}
 use Rattle.tough_delegated.proofs.Listing.{role-name}

@@ -5,7 +5,7 @@ use Rattle.serde_json.specs.Data.{no_items, item, put}
 use Rattle.serde_json.specs.Read.{of_items, of_members}
 use Rattle.serde_json.specs.View.{view, members_view}
 use Rattle.serde_json.proofs.Views.{members_view-insert_entry}
-use Rattle.tough_json.proofs.BorrowedLemmas.{items_before, items_before-no_items, one_more_item, item_turn, member_turn}
+use Rattle.tough_json.proofs.lemmas.Borrowed.{items_before, items_before-no_items, one_more_item, item_turn, member_turn}
 use Rattle.tough_json.proofs.borrowed.+value_in.Goals as goal
 
 pub items_in-loop-item-preserved : goal.items_in-loop-item-preserved

@@ -3,7 +3,7 @@ use Rattle.json.specs.Value.{items_view as json_items, members_view as json_memb
 use Rattle.serde_json.specs.Data.{no_members}
 use Rattle.serde_json.specs.Read.{of_items, of_members}
 use Rattle.serde_json.specs.View.{members_view}
-use Rattle.tough_json.proofs.BorrowedLemmas.{items_before}
+use Rattle.tough_json.proofs.lemmas.Borrowed.{items_before}
 use Rattle.tough_json.proofs.borrowed.+value_in.Given as goal
 
 abbrev pub invariant-items_in-loop-item : goal.invariant-items_in-loop-item

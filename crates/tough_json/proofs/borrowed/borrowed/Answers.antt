@@ -1,8 +1,8 @@
 use Rattle.std.proofs.Common.{sym}
 use Rattle.json.specs.Value.{value_view as json_view}
 use Rattle.serde_json.specs.Read.{of_json}
-use Rattle.tough_json.proofs.BorrowedLemmas.{refused-bytes, is-value, is-no_value}
-use Rattle.tough_json.proofs.JsonLemmas.{json_of-none}
+use Rattle.tough_json.proofs.lemmas.Borrowed.{refused-bytes, is-value, is-no_value}
+use Rattle.tough_json.proofs.lemmas.Json.{json_of-none}
 use Rattle.tough_json.proofs.borrowed.borrowed.Goals as goal
 
 pub returns-in_default : goal.returns-in_default

@@ -3,7 +3,7 @@ use Rattle.json.specs.Value.{value_view as json_view, members_view as json_membe
 use Rattle.serde_json.specs.Data.{no_members, put}
 use Rattle.serde_json.specs.Read.{of_json, of_members}
 use Rattle.tough_json.specs.Borrowed.{listed}
-use Rattle.tough_json.proofs.BorrowedLemmas.{bound, listed-none, listed-put}
+use Rattle.tough_json.proofs.lemmas.Borrowed.{bound, listed-none, listed-put}
 use Rattle.tough_json.proofs.borrowed.in_order.Goals as goal
 
 pub loop-name-init : goal.loop-name-init

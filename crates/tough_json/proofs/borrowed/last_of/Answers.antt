@@ -1,7 +1,7 @@
 use Rattle.std.proofs.Common.{◌≡◌, ◌++◌, [], ◌∷◌, true, false, bytes_eq, cond, Some, sym, ap, ◌∙◌, rules}
 use Rattle.json.specs.Value.{value_view as json_view, members_view as json_members}
 use Rattle.json.specs.Find.{get_member as last_member}
-use Rattle.tough_json.proofs.BorrowedLemmas.{last-pushed}
+use Rattle.tough_json.proofs.lemmas.Borrowed.{last-pushed}
 use Rattle.tough_json.proofs.borrowed.last_of.Goals as goal
 
 pub returns-then-eq : goal.returns-then-eq

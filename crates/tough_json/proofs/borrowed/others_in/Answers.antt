@@ -4,8 +4,8 @@ use Rattle.serde_json.specs.Data.{put}
 use Rattle.serde_json.specs.View.{view, members_view}
 use Rattle.serde_json.proofs.Views.{members_view-insert_entry}
 use Rattle.tough_json.specs.Reading.{without}
-use Rattle.tough_json.proofs.BorrowedLemmas.{member-left, rises-put, without-put_again, without-put_other}
-use Rattle.tough_json.proofs.WriteLemmas.{some-inj}
+use Rattle.tough_json.proofs.lemmas.Borrowed.{member-left, rises-put, without-put_again, without-put_other}
+use Rattle.tough_json.proofs.lemmas.Write.{some-inj}
 use Rattle.tough_json.proofs.borrowed.others_in.Goals as goal
 
 pub loop-member-preserved-then-eq : goal.loop-member-preserved-then-eq

@@ -4,7 +4,7 @@ use Rattle.serde_json.specs.Data.{Members, no_members}
 use Rattle.serde_json.specs.Read.{of_members}
 use Rattle.serde_json.specs.View.{members_view}
 use Rattle.tough_json.specs.Reading.{without}
-use Rattle.tough_json.proofs.BorrowedLemmas.{Rises}
+use Rattle.tough_json.proofs.lemmas.Borrowed.{Rises}
 use Rattle.tough_json.proofs.borrowed.others_in.Given as goal
 
 abbrev pub invariant-loop-member : goal.invariant-loop-member

@@ -1,7 +1,7 @@
 use Rattle.std.proofs.Common.{◌∙◌, sym, rules}
 use Rattle.json.specs.Value.{value_view as json_view, members_view as json_members}
 use Rattle.serde_json.specs.Data.{no_members}
-use Rattle.tough_json.proofs.BorrowedLemmas.{refused-member, refused-others, has-last, has-none, value-later}
+use Rattle.tough_json.proofs.lemmas.Borrowed.{refused-member, refused-others, has-last, has-none, value-later}
 use Rattle.tough_json.specs.Reading.{without}
 use Rattle.tough_json.proofs.borrowed.take_member.Goals as goal
 

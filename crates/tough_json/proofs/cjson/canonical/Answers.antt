@@ -4,8 +4,8 @@ use Rattle.serde_json.specs.View.{view}
 use Rattle.serde_json.specs.Written.{has_float}
 use Rattle.tough_json.specs.declared.cjson.error.CjsonError.TheVariants.{Float}
 use Rattle.tough_json.specs.Canon.{Canon}
-use Rattle.tough_json.proofs.Computed.{computed, not-computed}
-use Rattle.tough_json.proofs.Exactness.{one, not_refused}
+use Rattle.tough_json.proofs.lemmas.Computed.{computed, not-computed}
+use Rattle.tough_json.proofs.lemmas.Exactness.{one, not_refused}
 use Rattle.tough_json.proofs.cjson.canonical.Goals as goal
 
 pub returns-then-holds_float-clause-only : goal.returns-then-holds_float-clause-only

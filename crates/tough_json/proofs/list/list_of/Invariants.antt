@@ -1,7 +1,7 @@
 use Rattle.std.proofs.Common.{◌≡◌, map}
 use Rattle.serde_json.specs.View.{items_view}
 use Rattle.tough_json.specs.Reading.{all_at}
-use Rattle.tough_json.proofs.ListLemmas.{after}
+use Rattle.tough_json.proofs.lemmas.List.{after}
 use Rattle.tough_json.proofs.list.list_of.Given as goal
 
 -- what is read of all is what was read, and then what is read of the rest

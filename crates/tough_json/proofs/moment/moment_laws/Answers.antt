@@ -1,5 +1,5 @@
 use Rattle.tough_json.proofs.MomentText.{moment_text-moment, moment_text-before}
-use Rattle.tough_json.proofs.MomentExists.{moment-text, parse_timestamp-text}
+use Rattle.tough_json.proofs.lemmas.MomentExists.{moment-text, parse_timestamp-text}
 use Rattle.tough_json.proofs.moment.moment_laws.Goals as goal
 
 pub returns-clause-shown : goal.returns-clause-shown

@@ -2,7 +2,7 @@ use Rattle.std.proofs.Common.{◌≡◌, ◌++◌, ◌∷◌, [], true, false, b
 use Rattle.serde_json.specs.View.{view, members_view}
 use Rattle.serde_json.proofs.Views.{Entry}
 use Rattle.tough_json.specs.Pieces.{replaced, and_last, Stands}
-use Rattle.tough_json.proofs.PieceLemmas.{replaced-same, replaced-other}
+use Rattle.tough_json.proofs.lemmas.Piece.{replaced-same, replaced-other}
 use Rattle.tough_json.proofs.pieces.object_with.Goals as goal
 
 pub loop-key-preserved-in-Continue-branch-2 : goal.loop-key-preserved-in-Continue-branch-2

@@ -3,7 +3,7 @@ use Rattle.std.proofs.lemmas.Result.{err_from_is_err_and}
 use Rattle.serde_json.specs.View.{view, members_view}
 use Rattle.serde_json.proofs.Views.{Entry}
 use Rattle.tough_json.specs.Table.{table_from}
-use Rattle.tough_json.proofs.EachLemmas.{refuses-map}
+use Rattle.tough_json.proofs.lemmas.Each.{refuses-map}
 use Rattle.tough_json.proofs.TableLemmas.{docs, insert-docs, table-more, table-refused, table-done}
 use Rattle.tough_json.proofs.table.table_of.Goals as goal
 

@@ -1,7 +1,7 @@
 use Rattle.std.proofs.Common.{string_bytes}
 use Rattle.std.proofs.lemmas.Str.{IsUtf8-had}
 use Rattle.serde_json.specs.View.{view}
-use Rattle.tough_json.proofs.JsonLemmas.{json_of-some}
+use Rattle.tough_json.proofs.lemmas.Json.{json_of-some}
 use Rattle.tough_json.proofs.text.bytes_of.Goals as goal
 
 pub returns-clause-back : goal.returns-clause-back

@@ -1,6 +1,6 @@
 use Rattle.std.proofs.Common.{◌≡◌, true, false, sym, ◌∙◌}
 use Rattle.serde_json.specs.View.{view}
-use Rattle.tough_json.proofs.JsonLemmas.{json_of-some, json_of-none}
+use Rattle.tough_json.proofs.lemmas.Json.{json_of-some, json_of-none}
 use Rattle.tough_json.proofs.text.value_of.Goals as goal
 
 pub returns-in-Ok : goal.returns-in-Ok

@@ -1,6 +1,6 @@
 use Rattle.std.proofs.Common.{is_none, not, sym, ap, ◌∙◌}
 use Rattle.serde_json.proofs.Views.{view-lookup}
-use Rattle.tough_json.proofs.WriteLemmas.{is_none-map}
+use Rattle.tough_json.proofs.lemmas.Write.{is_none-map}
 use Rattle.tough_json.proofs.write.is_free.Goals as goal
 
 pub returns : goal.returns

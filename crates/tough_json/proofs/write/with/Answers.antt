@@ -3,7 +3,7 @@ use Rattle.serde_json.specs.Data.{put}
 use Rattle.serde_json.specs.Find.{get_member}
 use Rattle.serde_json.specs.View.{view, members_view}
 use Rattle.serde_json.proofs.Views.{members_view-insert_entry}
-use Rattle.tough_json.proofs.WriteLemmas.{if_free-free}
+use Rattle.tough_json.proofs.lemmas.Write.{if_free-free}
 use Rattle.tough_json.proofs.write.with.Goals as goal
 
 pub returns : goal.returns

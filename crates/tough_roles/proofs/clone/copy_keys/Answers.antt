@@ -1,5 +1,5 @@
 use Rattle.tough_keys.specs.Key.{key_doc}
-use Rattle.tough_roles.proofs.Copies.{same_entries}
+use Rattle.tough_roles.proofs.lemmas.Copies.{same_entries}
 use Rattle.tough_roles.proofs.clone.copy_keys.Goals as goal
 
 pub returns : goal.returns

@@ -1,6 +1,6 @@
 use Rattle.std.proofs.Common.{string_bytes}
 use Rattle.tough_roles.specs.Timestamp.{metafile_doc}
-use Rattle.tough_roles.proofs.Copies.{same_entries}
+use Rattle.tough_roles.proofs.lemmas.Copies.{same_entries}
 use Rattle.tough_roles.proofs.clone.copy_metafiles.Goals as goal
 
 pub returns : goal.returns

@@ -1,4 +1,4 @@
-use Rattle.tough_roles.proofs.Reached.{reaches-from, reaches-to}
+use Rattle.tough_roles.proofs.lemmas.Reached.{reaches-from, reaches-to}
 use Rattle.tough_roles.proofs.laws.verified_exactly.Goals as goal
 
 pub returns : goal.returns

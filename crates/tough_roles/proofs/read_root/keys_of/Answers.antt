@@ -5,9 +5,9 @@ use Rattle.std.proofs.lemmas.Result.{err_from_is_err_and}
 use Rattle.serde_json.specs.View.{view, members_view}
 use Rattle.serde_json.proofs.Views.{Entry}
 use Rattle.tough_keys.specs.Key.{key_doc}
-use Rattle.tough_json.proofs.EachLemmas.{refuses-map}
+use Rattle.tough_json.proofs.lemmas.Each.{refuses-map}
 use Rattle.tough_roles.specs.Root.{keys_from, keys_doc, key_entry_at, by_bytes}
-use Rattle.tough_roles.proofs.EntryLemmas.{keys-more, keys-twice, keys-refused, keys-done, taken-keys_doc, free-keys_doc, insert-keys_doc}
+use Rattle.tough_roles.proofs.lemmas.Entry.{keys-more, keys-twice, keys-refused, keys-done, taken-keys_doc, free-keys_doc, insert-keys_doc}
 use Rattle.tough_roles.proofs.read_root.keys_of.Goals as goal
 
 pub returns-in_err-id : goal.returns-in_err-id

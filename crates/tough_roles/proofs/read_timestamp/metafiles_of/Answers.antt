@@ -7,7 +7,7 @@ use Rattle.serde_json.proofs.Views.{Entry}
 use Rattle.tough_roles.specs.Timestamp.{metafile_doc, metafiles_doc}
 use Rattle.tough_json.specs.Reading.{each}
 use Rattle.tough_roles.specs.Timestamp.{metafile_at}
-use Rattle.tough_json.proofs.EachLemmas.{each-more, each-refused, insert_entry-next, keys_of-append, refuses-map, map-append}
+use Rattle.tough_json.proofs.lemmas.Each.{each-more, each-refused, insert_entry-next, keys_of-append, refuses-map, map-append}
 use Rattle.tough_roles.proofs.read_timestamp.metafiles_of.Goals as goal
 
 pub loop-name-init : goal.loop-name-init

@@ -5,7 +5,7 @@ use Rattle.tough_roles.specs.Root.{keys_doc, role_keys_doc}
 use Rattle.tough_roles.specs.Policy.{policy_of}
 use Rattle.tough_roles.specs.Verdict.{verdict, Answers}
 use Rattle.tough_roles.specs.Chain.{text_by}
-use Rattle.tough_roles.proofs.Verdicts.{policy-get, verdict-missing, verdict-bare}
+use Rattle.tough_roles.proofs.lemmas.Verdicts.{policy-get, verdict-missing, verdict-bare}
 use Rattle.tough_roles.proofs.verify.answer.Goals as goal
 
 pub returns-in_default-clause-verdict : goal.returns-in_default-clause-verdict

@@ -3,7 +3,7 @@ use Rattle.tough_keys.specs.Key.{key_doc}
 use Rattle.tough_keys.specs.Same.{key_data}
 use Rattle.tough_roles.specs.Root.{keys_doc}
 use Rattle.tough_roles.specs.Counting.{under, key_of}
-use Rattle.tough_roles.proofs.EntryLemmas.{get-keys_doc}
+use Rattle.tough_roles.proofs.lemmas.Entry.{get-keys_doc}
 use Rattle.tough_roles.proofs.verify.is_signed.Goals as goal
 
 pub returns-in-Some : goal.returns-in-Some

@@ -8,7 +8,7 @@ use Rattle.tough_roles.specs.Verdict.{SignatureThreshold, StandsAgain, counted, 
 use Rattle.tough_roles.specs.Counting.{bytes_of, is_valid}
 use Rattle.tough_roles.proofs.Counts.{count_by-map}
 use Rattle.tough_roles.proofs.Seen.{never}
-use Rattle.tough_roles.proofs.Verdicts.{verdict-twice, verdict-counted}
+use Rattle.tough_roles.proofs.lemmas.Verdicts.{verdict-twice, verdict-counted}
 use Rattle.tough_roles.proofs.verify.judge.Goals as goal
 
 pub returns-in-Some-clause-verdict : goal.returns-in-Some-clause-verdict

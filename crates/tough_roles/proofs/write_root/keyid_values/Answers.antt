@@ -3,7 +3,7 @@ use Rattle.std.proofs.lemmas.List.{take_more}
 use Rattle.serde_json.specs.declared.value.Value.{Value}
 use Rattle.serde_json.specs.View.{view, items_view}
 use Rattle.tough_json.specs.Writing.{all_json, hexadecimal_json}
-use Rattle.tough_json.proofs.ListLemmas.{all_json-snoc, items_view-snoc}
+use Rattle.tough_json.proofs.lemmas.List.{all_json-snoc, items_view-snoc}
 use Rattle.tough_roles.proofs.write_root.keyid_values.Goals as goal
 
 pub loop-keyid-init : goal.loop-keyid-init

@@ -2,14 +2,14 @@ use Rattle.std.proofs.Common.{◌≡◌, List, ◌∷◌, Some, sym, ap, subst, 
 use Rattle.std.proofs.lemmas.Result.{err_from_is_err_and}
 use Rattle.serde_json.specs.View.{view, members_view}
 use Rattle.tough_json.specs.Writing.{with}
-use Rattle.tough_json.proofs.NamedLemmas.{refuses-write}
+use Rattle.tough_json.proofs.lemmas.Named.{refuses-write}
 use Rattle.tough_base.specs.Spelled.{Spelled, hex_bytes}
 use Rattle.tough_keys.specs.declared.key.Key.{Key}
 use Rattle.tough_keys.specs.Key.{KeyDoc, key_doc, key_json}
 use Rattle.tough_roles.specs.Root.{keys_doc, keys_json}
 use Rattle.std.specs.List.Sorted.{IsStrictlySortedBy}
 use Rattle.tough_roles.specs.Root.{by_bytes}
-use Rattle.tough_roles.proofs.TableLemmas.{keys_of-docs, keys_json-refused, keys_json-taken, keys_json-more, keys_json-done}
+use Rattle.tough_roles.proofs.lemmas.Table.{keys_of-docs, keys_json-refused, keys_json-taken, keys_json-more, keys_json-done}
 use Rattle.tough_roles.proofs.write_root.keys_value.Goals as goal
 
 pub returns-in_err-value-clause-written : goal.returns-in_err-value-clause-written

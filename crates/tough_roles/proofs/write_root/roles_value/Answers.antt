@@ -2,13 +2,13 @@ use Rattle.std.proofs.Common.{List, ◌∷◌, sym, ap, subst, ◌∙◌}
 use Rattle.std.proofs.lemmas.Result.{err_from_is_err_and}
 use Rattle.serde_json.specs.View.{view, members_view}
 use Rattle.tough_json.specs.Writing.{with}
-use Rattle.tough_json.proofs.NamedLemmas.{refuses-write}
+use Rattle.tough_json.proofs.lemmas.Named.{refuses-write}
 use Rattle.tough_roles.specs.declared.role_type.RoleType.{RoleType}
 use Rattle.tough_roles.specs.declared.root.RoleKeys.{RoleKeys}
 use Rattle.tough_roles.specs.Root.{RoleKeysDoc, role_keys_doc, roles_doc, role_keys_json, roles_json}
 use Rattle.std.specs.List.Sorted.{IsStrictlySortedBy}
 use Rattle.tough_roles.specs.Roles.{role_cmp}
-use Rattle.tough_roles.proofs.TableLemmas.{keys_of-docs, roles_json-refused, roles_json-taken, roles_json-more, roles_json-done}
+use Rattle.tough_roles.proofs.lemmas.Table.{keys_of-docs, roles_json-refused, roles_json-taken, roles_json-more, roles_json-done}
 use Rattle.tough_roles.proofs.write_root.roles_value.Goals as goal
 
 pub returns-in_err-value-clause-written : goal.returns-in_err-value-clause-written

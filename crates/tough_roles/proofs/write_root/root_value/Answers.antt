@@ -5,7 +5,7 @@ use Rattle.serde_json.proofs.Views.{view-Object}
 use Rattle.tough_json.specs.Writing.{with}
 use Rattle.tough_roles.specs.Head.{head_json}
 use Rattle.tough_roles.specs.Root.{root_doc, tables_json}
-use Rattle.tough_roles.proofs.TableLemmas.{root_json-is}
+use Rattle.tough_roles.proofs.lemmas.Table.{root_json-is}
 use Rattle.tough_roles.proofs.write_root.root_value.Goals as goal
 
 pub returns-clause-written : goal.returns-clause-written

@@ -3,7 +3,7 @@ use Rattle.std.proofs.lemmas.List.{take_more, map-append}
 use Rattle.serde_json.specs.declared.value.Value.{Value}
 use Rattle.serde_json.specs.View.{view, items_view}
 use Rattle.tough_json.specs.Writing.{all_json}
-use Rattle.tough_json.proofs.ListLemmas.{all_json-snoc, items_view-snoc}
+use Rattle.tough_json.proofs.lemmas.List.{all_json-snoc, items_view-snoc}
 use Rattle.tough_roles.specs.declared.signature.Signature.{Signature}
 use Rattle.tough_roles.specs.Signature.{signature_json, signature_doc, signatures_doc}
 use Rattle.tough_roles.proofs.write_signed.signature_values.Goals as goal

@@ -9,8 +9,8 @@ use Rattle.tough_roles.specs.declared.timestamp.Metafile.{Metafile}
 use Rattle.tough_roles.specs.Timestamp.{MetafileDoc, metafile_doc, metafiles_doc}
 use Rattle.tough_json.specs.Writing.{named}
 use Rattle.tough_roles.specs.Timestamp.{metafile_json}
-use Rattle.tough_json.proofs.EachLemmas.{keys_of-append, map-append}
-use Rattle.tough_json.proofs.NamedLemmas.{snoc, named-snoc, named-refused, put-snoc, refuses-write}
+use Rattle.tough_json.proofs.lemmas.Each.{keys_of-append, map-append}
+use Rattle.tough_json.proofs.lemmas.Named.{snoc, named-snoc, named-refused, put-snoc, refuses-write}
 use Rattle.tough_roles.proofs.write_timestamp.metafiles_value.Goals as goal
 
 pub loop-name-init : goal.loop-name-init

@@ -1,4 +1,4 @@
-use Rattle.tough_roles.proofs.Copies.{same_entries}
+use Rattle.tough_roles.proofs.lemmas.Copies.{same_entries}
 use Rattle.tough_schema.specs.Target.{target_doc}
 use Rattle.tough_schema.proofs.copy.copy_listing.Goals as goal
 

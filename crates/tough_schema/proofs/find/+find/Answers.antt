@@ -6,7 +6,7 @@ use Rattle.tough_schema.specs.Target.{target_doc}
 use Rattle.tough_schema.specs.Search.{matches}
 use Rattle.tough_schema.specs.Whole.{role_tree}
 use Rattle.tough_schema.specs.declared.targets.Targets.{out-Targets}
-use Rattle.tough_schema.proofs.Walks.{listed-get, walk-listed, walk-leaf, walk-inner, walk-done, walk-on, walk-visit}
+use Rattle.tough_schema.proofs.lemmas.Walks.{listed-get, walk-listed, walk-leaf, walk-inner, walk-done, walk-on, walk-visit}
 use Rattle.tough_schema.specs.Walk.{names_in, answer_of}
 use Rattle.tough_schema.proofs.find.+find.Goals as goal
 

@@ -1,7 +1,7 @@
 use Rattle.std.proofs.Common.{◌≡◌}
 use Rattle.serde_json.specs.View.{items_view}
 use Rattle.tough_json.specs.Reading.{all_at}
-use Rattle.tough_json.proofs.ListLemmas.{after}
+use Rattle.tough_json.proofs.lemmas.List.{after}
 use Rattle.tough_json.specs.Reading.{text}
 use Rattle.tough_schema.proofs.read_delegations.prefixes_of.Given as goal
 

@@ -4,8 +4,8 @@ use Rattle.std.proofs.lemmas.List.{map-append, nil_from_length}
 use Rattle.serde_json.specs.declared.value.Value.{Value}
 use Rattle.serde_json.specs.View.{view, items_view}
 use Rattle.tough_json.specs.Reading.{all_at}
-use Rattle.tough_json.proofs.EachLemmas.{refuses-map}
-use Rattle.tough_json.proofs.ListLemmas.{after, all-more, all-refused, all-done}
+use Rattle.tough_json.proofs.lemmas.Each.{refuses-map}
+use Rattle.tough_json.proofs.lemmas.List.{after, all-more, all-refused, all-done}
 use Rattle.tough_schema.specs.Delegations.{delegated_role_at, delegated_role_doc}
 use Rattle.tough_schema.specs.Fresh.{AreUnloaded}
 use Rattle.tough_schema.proofs.Fresh.{unloaded-last}

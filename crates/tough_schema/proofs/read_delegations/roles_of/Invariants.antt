@@ -1,7 +1,7 @@
 use Rattle.std.proofs.Common.{◌≡◌, map}
 use Rattle.serde_json.specs.View.{items_view}
 use Rattle.tough_json.specs.Reading.{all_at}
-use Rattle.tough_json.proofs.ListLemmas.{after}
+use Rattle.tough_json.proofs.lemmas.List.{after}
 use Rattle.tough_schema.specs.Delegations.{delegated_role_at, delegated_role_doc}
 use Rattle.tough_schema.specs.Fresh.{AreUnloaded}
 use Rattle.tough_schema.proofs.read_delegations.roles_of.Given as goal

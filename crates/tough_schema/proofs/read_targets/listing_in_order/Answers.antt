@@ -1,8 +1,8 @@
 use Rattle.std.proofs.Common.{sym, ap, subst, ◌∙◌, rules}
 use Rattle.tough_json.specs.Borrowed.{listed}
 use Rattle.tough_json.specs.Results.{Refuses}
-use Rattle.tough_json.proofs.BorrowedLemmas.{listed-first, listed-end}
-use Rattle.tough_json.proofs.EachLemmas.{refuses-map}
+use Rattle.tough_json.proofs.lemmas.Borrowed.{listed-first, listed-end}
+use Rattle.tough_json.proofs.lemmas.Each.{refuses-map}
 use Rattle.tough_schema.specs.Target.{target_doc}
 use Rattle.tough_schema.specs.Targets.{listing_from, listing_doc, entry_at}
 use Rattle.tough_schema.proofs.ListingLemmas.{insert-listing_doc, listing-more, listing-refused, listing-done}

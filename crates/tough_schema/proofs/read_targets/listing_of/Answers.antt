@@ -2,7 +2,7 @@ use Rattle.std.proofs.Common.{◌≡◌, List, Some, None, string_bytes, sym, ap
 use Rattle.std.proofs.lemmas.Result.{err_from_is_err_and}
 use Rattle.serde_json.specs.View.{view, members_view}
 use Rattle.serde_json.proofs.Views.{Entry}
-use Rattle.tough_json.proofs.EachLemmas.{refuses-map}
+use Rattle.tough_json.proofs.lemmas.Each.{refuses-map}
 use Rattle.tough_schema.specs.Target.{target_doc}
 use Rattle.tough_schema.specs.Targets.{listing_from, listing_doc, entry_at}
 use Rattle.tough_schema.proofs.ListingLemmas.{insert-listing_doc, listing-more, listing-refused, listing-done}

@@ -5,7 +5,7 @@ use Rattle.tough_roles.specs.Root.{role_keys_doc}
 use Rattle.tough_roles.specs.Policy.{policy_of}
 use Rattle.tough_roles.specs.Verdict.{verdict}
 use Rattle.tough_roles.specs.Chain.{text_by}
-use Rattle.tough_roles.proofs.Verdicts.{verdict-missing, verdict-bare}
+use Rattle.tough_roles.proofs.lemmas.Verdicts.{verdict-missing, verdict-bare}
 use Rattle.tough_schema.specs.declared.delegations.DelegatedRole.{DelegatedRole}
 use Rattle.tough_schema.specs.Delegations.{DelegatedRoleDoc, delegated_role_doc, delegations_doc}
 use Rattle.tough_schema.specs.Verify.{role_keys, role_named, NamesDelegated}

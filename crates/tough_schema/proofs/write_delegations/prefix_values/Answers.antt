@@ -4,7 +4,7 @@ use Rattle.serde_json.specs.Data.{string}
 use Rattle.serde_json.specs.declared.value.Value.{Value}
 use Rattle.serde_json.specs.View.{view, items_view}
 use Rattle.tough_json.specs.Writing.{all_json}
-use Rattle.tough_json.proofs.ListLemmas.{all_json-snoc, items_view-snoc}
+use Rattle.tough_json.proofs.lemmas.List.{all_json-snoc, items_view-snoc}
 use Rattle.tough_schema.specs.Paths.{text_json}
 use Rattle.tough_schema.proofs.write_delegations.prefix_values.Goals as goal
 

@@ -4,8 +4,8 @@ use Rattle.std.proofs.lemmas.Result.{err_from_is_err_and}
 use Rattle.serde_json.specs.declared.value.Value.{Value}
 use Rattle.serde_json.specs.View.{view, items_view}
 use Rattle.tough_json.specs.Writing.{all_json}
-use Rattle.tough_json.proofs.NamedLemmas.{refuses-write}
-use Rattle.tough_json.proofs.ListLemmas.{all_json-snoc, items_view-snoc}
+use Rattle.tough_json.proofs.lemmas.Named.{refuses-write}
+use Rattle.tough_json.proofs.lemmas.List.{all_json-snoc, items_view-snoc}
 use Rattle.tough_schema.specs.declared.delegations.DelegatedRole.{DelegatedRole}
 use Rattle.tough_schema.specs.Delegations.{delegated_role_json, delegated_role_doc}
 use Rattle.tough_schema.proofs.ListingLemmas.{all_json-refused}

@@ -2,7 +2,7 @@ use Rattle.std.proofs.Common.{◌≡◌, List, sym, ap, ◌∙◌, rules}
 use Rattle.serde_json.specs.Data.{no_members}
 use Rattle.tough_json.specs.Pieces.{and_last}
 use Rattle.tough_json.specs.Writing.{with}
-use Rattle.tough_json.proofs.PieceLemmas.{with-last}
+use Rattle.tough_json.proofs.lemmas.Piece.{with-last}
 use Rattle.tough_names.specs.Named.{Named, clean}
 use Rattle.tough_schema.specs.declared.target.Target.{Target}
 use Rattle.tough_schema.specs.Target.{TargetDoc, target_doc}

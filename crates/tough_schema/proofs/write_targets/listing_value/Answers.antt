@@ -2,13 +2,13 @@ use Rattle.std.proofs.Common.{List, ◌∷◌, sym, ap, subst, ◌∙◌}
 use Rattle.std.proofs.lemmas.Result.{err_from_is_err_and}
 use Rattle.serde_json.specs.View.{view, members_view}
 use Rattle.tough_json.specs.Writing.{with}
-use Rattle.tough_json.proofs.NamedLemmas.{refuses-write}
+use Rattle.tough_json.proofs.lemmas.Named.{refuses-write}
 use Rattle.tough_names.specs.Named.{Named, clean, by_raw_then_resolved}
 use Rattle.tough_schema.specs.declared.target.Target.{Target}
 use Rattle.tough_schema.specs.Target.{TargetDoc, target_doc, target_json}
 use Rattle.tough_schema.specs.Targets.{listing_doc, listing_json}
 use Rattle.std.specs.List.Sorted.{IsStrictlySortedBy}
-use Rattle.tough_roles.proofs.TableLemmas.{keys_of-docs}
+use Rattle.tough_roles.proofs.lemmas.Table.{keys_of-docs}
 use Rattle.tough_schema.proofs.ListingLemmas.{listing_json-refused, listing_json-taken, listing_json-more, listing_json-done}
 use Rattle.tough_schema.proofs.write_targets.listing_value.Goals as goal
 

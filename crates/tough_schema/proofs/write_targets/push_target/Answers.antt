@@ -1,5 +1,5 @@
 use Rattle.serde_json.specs.View.{view}
-use Rattle.tough_json.proofs.PieceLemmas.{if_ok}
+use Rattle.tough_json.proofs.lemmas.Piece.{if_ok}
 use Rattle.tough_schema.proofs.write_targets.push_target.Goals as goal
 
 pub returns : goal.returns

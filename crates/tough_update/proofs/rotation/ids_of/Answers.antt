@@ -1,6 +1,6 @@
 use Rattle.std.proofs.Common.{option_map, sym, ap, ◌∙◌}
 use Rattle.tough_roles.specs.Root.{role_keys_doc}
-use Rattle.tough_roles.proofs.Verdicts.{get-roles_doc}
+use Rattle.tough_roles.proofs.lemmas.Verdicts.{get-roles_doc}
 use Rattle.tough_update.specs.Rotation.{ids_of}
 use Rattle.tough_update.proofs.rotation.ids_of.Goals as goal
 

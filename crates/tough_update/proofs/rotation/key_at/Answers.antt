@@ -1,7 +1,7 @@
 use Rattle.std.proofs.Common.{option_map, sym, ap, ◌∙◌}
 use Rattle.tough_keys.specs.Key.{key_doc}
 use Rattle.tough_roles.specs.Root.{keys_doc}
-use Rattle.tough_roles.proofs.EntryLemmas.{get-keys_doc}
+use Rattle.tough_roles.proofs.lemmas.Entry.{get-keys_doc}
 use Rattle.tough_update.proofs.Rotated.{key_in-at}
 use Rattle.tough_update.proofs.rotation.key_at.Goals as goal
 

@@ -1,6 +1,6 @@
 use Rattle.std.proofs.Common.{Some, option_map, sym, ap, ◌∙◌}
 use Rattle.tough_roles.specs.Timestamp.{metafile_doc}
-use Rattle.tough_vault.proofs.Looking.{versioned}
+use Rattle.tough_vault.proofs.lemmas.Looking.{versioned}
 use Rattle.tough_vault.proofs.snapshot_checks.listed_version.Goals as goal
 
 pub returns-in-Some : goal.returns-in-Some

@@ -1,7 +1,7 @@
 use Rattle.std.proofs.Common.{option_map, sym, ap, ◌∙◌}
 use Rattle.tough_roles.specs.Timestamp.{metafile_doc}
 use Rattle.tough_vault.specs.Files.{targets_file}
-use Rattle.tough_vault.proofs.Looking.{looked}
+use Rattle.tough_vault.proofs.lemmas.Looking.{looked}
 use Rattle.tough_vault.proofs.snapshot_checks.targets_meta.Goals as goal
 
 pub returns : goal.returns

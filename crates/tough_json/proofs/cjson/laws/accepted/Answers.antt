@@ -1,4 +1,4 @@
-use Rattle.tough_json.proofs.Exactness as laws
+use Rattle.tough_json.proofs.lemmas.Exactness as laws
 use Rattle.tough_json.proofs.cjson.laws.accepted.Goals as goal
 
 pub returns : goal.returns

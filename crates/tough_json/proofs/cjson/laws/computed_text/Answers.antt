@@ -1,4 +1,4 @@
-use Rattle.tough_json.proofs.Computed.{Canon-computed, computed}
+use Rattle.tough_json.proofs.lemmas.Computed.{Canon-computed, computed}
 use Rattle.tough_json.proofs.cjson.laws.computed_text.Goals as goal
 
 pub returns : goal.returns

@@ -1,4 +1,4 @@
-use Rattle.tough_json.proofs.Exactness.{one}
+use Rattle.tough_json.proofs.lemmas.Exactness.{one}
 use Rattle.tough_json.proofs.cjson.laws.one_text.Goals as goal
 
 pub returns : goal.returns

@@ -1,4 +1,4 @@
-use Rattle.tough_json.proofs.Exactness.{same, text}
+use Rattle.tough_json.proofs.lemmas.Exactness.{same, text}
 use Rattle.tough_json.proofs.cjson.laws.same_text.Goals as goal
 
 pub returns : goal.returns

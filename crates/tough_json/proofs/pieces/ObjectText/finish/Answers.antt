@@ -1,4 +1,4 @@
-use Rattle.tough_json.proofs.PieceLemmas.{finished}
+use Rattle.tough_json.proofs.lemmas.Piece.{finished}
 use Rattle.tough_json.proofs.pieces.ObjectText.finish.Goals as goal
 
 pub returns : goal.returns

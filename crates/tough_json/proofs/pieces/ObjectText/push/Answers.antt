@@ -1,7 +1,7 @@
 use Rattle.std.proofs.Common.{Some, ap, sym, ◌∙◌}
 use Rattle.serde_json.specs.View.{view}
 use Rattle.tough_json.specs.Pieces.{text_in}
-use Rattle.tough_json.proofs.PieceLemmas.{if_ok}
+use Rattle.tough_json.proofs.lemmas.Piece.{if_ok}
 use Rattle.tough_json.proofs.pieces.ObjectText.push.Goals as goal
 
 pub returns : goal.returns

@@ -2,7 +2,7 @@ use Rattle.std.proofs.Common.{◌≡◌, ◌++◌, false, refl, ap, sym, ◌∙�
 use Rattle.std.specs.Cmp.Lexicographic.{slice_cmp}
 use Rattle.std.specs.Ordering.{is_le}
 use Rattle.tough_json.specs.Pieces.{IsSimple}
-use Rattle.tough_json.proofs.PieceLemmas.{below-from, stands-last}
+use Rattle.tough_json.proofs.lemmas.Piece.{below-from, stands-last}
 use Rattle.tough_json.proofs.pieces.ObjectText.push_text.Goals as goal
 
 pub returns : goal.returns

@@ -1,6 +1,6 @@
 use Rattle.serde_json.specs.View.{view}
 use Rattle.tough_keys.specs.Key.{key_doc}
-use Rattle.tough_keys.proofs.KeyLemmas.{key-back}
+use Rattle.tough_keys.proofs.lemmas.Key.{key-back}
 use Rattle.tough_keys.proofs.key.Key.to_value.Goals as goal
 
 pub returns-clause-back : goal.returns-clause-back

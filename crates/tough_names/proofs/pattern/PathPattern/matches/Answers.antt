@@ -3,7 +3,7 @@ use Rattle.tough_names.specs.Items.{parts_of}
 use Rattle.tough_names.specs.Glob.{Part, Fits}
 use Rattle.tough_names.specs.Grammar.{parts_in}
 use Rattle.tough_names.specs.Spelling.{Matches}
-use Rattle.tough_names.proofs.Patterns.{matches_if, fits_if}
+use Rattle.tough_names.proofs.lemmas.Patterns.{matches_if, fits_if}
 use Rattle.tough_names.proofs.pattern.PathPattern.matches.Goals as goal
 
 pub returns : goal.returns

@@ -2,7 +2,7 @@ use Rattle.std.proofs.Common.{chars, string_bytes, ap, sym, ◌∙◌}
 use Rattle.std.proofs.lemmas.Result.{err_from_is_err_and}
 use Rattle.tough_names.specs.Items.{parts_of}
 use Rattle.tough_names.specs.Grammar.{parts_in}
-use Rattle.tough_names.proofs.Patterns.{is_pattern, no_pattern}
+use Rattle.tough_names.proofs.lemmas.Patterns.{is_pattern, no_pattern}
 use Rattle.tough_names.proofs.pattern.PathPattern.new.Goals as goal
 
 pub returns-in_err-items-clause-refuses : goal.returns-in_err-items-clause-refuses

@@ -1,6 +1,6 @@
 use Rattle.std.proofs.Common.{Some, chars, ap, ◌∙◌, sym}
 use Rattle.tough_names.specs.Grammar.{parts_in}
-use Rattle.tough_names.proofs.Patterns.{parts_of-AllZip}
+use Rattle.tough_names.proofs.lemmas.Patterns.{parts_of-AllZip}
 use Rattle.tough_names.proofs.pattern.PathPatternClone.clone.Goals as goal
 
 pub invariant_of-result : goal.invariant_of-result

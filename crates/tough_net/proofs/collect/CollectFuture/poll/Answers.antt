@@ -1,6 +1,6 @@
 use Rattle.std.proofs.Common.{◌≡◌, ◌++◌, ◌≤◌, length, Err, rules}
 use Rattle.tough_net.specs.Collecting.{bounds_of}
-use Rattle.tough_net.proofs.CollectLemmas.{Collects-Within, Collects-After, Collects_finish, Collects_error, Collects_refused}
+use Rattle.tough_net.proofs.lemmas.Collect.{Collects-Within, Collects-After, Collects_finish, Collects_error, Collects_refused}
 use Rattle.tough_net.proofs.collect.CollectFuture.poll.Goals as goal
 
 pub returns-in-loop-clause-same : goal.returns-in-loop-clause-same

@@ -1,6 +1,6 @@
 use Rattle.tough_roles.specs.Signature.{signed_doc}
 use Rattle.tough_roles.specs.Root.{root_doc}
-use Rattle.tough_roles.proofs.Reached.{ok-reaches, reaches-ok}
+use Rattle.tough_roles.proofs.lemmas.Reached.{ok-reaches, reaches-ok}
 use Rattle.tough_roles.proofs.root.Root.verify_role.Goals as goal
 
 pub returns-clause-ok : goal.returns-clause-ok

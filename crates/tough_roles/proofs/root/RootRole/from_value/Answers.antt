@@ -1,6 +1,6 @@
 use Rattle.serde_json.specs.View.{view}
 use Rattle.tough_roles.specs.Root.{root_doc}
-use Rattle.tough_roles.proofs.EntryLemmas.{root-own}
+use Rattle.tough_roles.proofs.lemmas.Entry.{root-own}
 use Rattle.tough_roles.proofs.root.RootRole.from_value.Goals as goal
 
 pub returns-clause-kept : goal.returns-clause-kept

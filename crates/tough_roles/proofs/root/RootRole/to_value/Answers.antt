@@ -1,6 +1,6 @@
 use Rattle.serde_json.specs.View.{view}
 use Rattle.tough_roles.specs.Root.{root_doc}
-use Rattle.tough_roles.proofs.RootLemmas.{root-back}
+use Rattle.tough_roles.proofs.lemmas.Root.{root-back}
 use Rattle.tough_roles.proofs.root.RootRole.to_value.Goals as goal
 
 pub returns-clause-back : goal.returns-clause-back

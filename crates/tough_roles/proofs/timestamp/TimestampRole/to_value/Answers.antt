@@ -1,6 +1,6 @@
 use Rattle.serde_json.specs.View.{view}
 use Rattle.tough_roles.specs.Timestamp.{timestamp_doc}
-use Rattle.tough_roles.proofs.TimestampLemmas.{timestamp-back}
+use Rattle.tough_roles.proofs.lemmas.Timestamp.{timestamp-back}
 use Rattle.tough_roles.proofs.timestamp.TimestampRole.to_value.Goals as goal
 
 pub returns-clause-back : goal.returns-clause-back

@@ -1,6 +1,6 @@
 use Rattle.std.proofs.Common.{sym, ap, ◌∙◌}
 use Rattle.tough_schema.specs.Search.{matches}
-use Rattle.tough_schema.proofs.Wholes.{role-out}
+use Rattle.tough_schema.proofs.lemmas.Wholes.{role-out}
 use Rattle.tough_schema.proofs.delegations.DelegatedRole.matches.Goals as goal
 
 pub returns : goal.returns

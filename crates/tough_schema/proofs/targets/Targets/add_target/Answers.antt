@@ -5,7 +5,7 @@ use Rattle.tough_schema.specs.declared.targets.Targets.{out-Targets}
 use Rattle.tough_schema.specs.Target.{target_doc}
 use Rattle.tough_schema.specs.Targets.{listing_doc}
 use Rattle.tough_schema.specs.Tree.{Listing}
-use Rattle.tough_schema.proofs.Wholes.{listed-as, insert-listing}
+use Rattle.tough_schema.proofs.lemmas.Wholes.{listed-as, insert-listing}
 use Rattle.tough_schema.proofs.targets.Targets.add_target.Goals as goal
 
 pub returns-clause-added : goal.returns-clause-added

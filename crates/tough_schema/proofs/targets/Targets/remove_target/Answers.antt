@@ -5,7 +5,7 @@ use Rattle.tough_names.specs.Named.{by_raw_then_resolved}
 use Rattle.tough_schema.specs.declared.targets.Targets.{out-Targets}
 use Rattle.tough_schema.specs.Target.{target_doc}
 use Rattle.tough_schema.specs.Targets.{listing_doc}
-use Rattle.tough_schema.proofs.Wholes.{listed-as, remove-listing, lookup-listing}
+use Rattle.tough_schema.proofs.lemmas.Wholes.{listed-as, remove-listing, lookup-listing}
 use Rattle.tough_schema.proofs.targets.Targets.remove_target.Goals as goal
 use Rattle.std.proofs.Common.{option_map}
 

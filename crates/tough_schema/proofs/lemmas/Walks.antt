@@ -15,7 +15,7 @@ use Rattle.tough_schema.specs.Whole.{Branches, RoleTree, put_branch, tree_doc, r
 use Rattle.tough_schema.specs.Search.{Names, add, matches, is_new, listed}
 use Rattle.tough_schema.specs.Walk.{Step, found, passed, and_then, at_end, ends, walk, walk_document, walk_below, walk_role, names_in, answer_of}
 use Rattle.tough_schema.specs.Targets.{listing_doc}
-use Rattle.tough_schema.proofs.Wholes.{tree-out, tree-leaf, tree-inner, role-named, branches-drop}
+use Rattle.tough_schema.proofs.lemmas.Wholes.{tree-out, tree-leaf, tree-inner, role-named, branches-drop}
 use Rattle.tough_names.specs.Named.{Named, by_raw_then_resolved}
 
 -- one role, and then the others

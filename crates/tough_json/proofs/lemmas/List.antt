@@ -5,7 +5,7 @@ use Rattle.serde_json.specs.Data.{Data, Items, no_items, item}
 use Rattle.serde_json.specs.View.{view, items_view}
 use Rattle.tough_json.specs.Reading.{◌>>=◌, all_at}
 use Rattle.tough_json.specs.Writing.{all_json}
-use Rattle.tough_json.proofs.WriteLemmas.{bind_ok, some-inj}
+use Rattle.tough_json.proofs.lemmas.Write.{bind_ok, some-inj}
 
 -- what was read, and then what is read of the rest
 abbrev pub after : {A : Type 0} → List A → Option (List A) → Option (List A)

@@ -5,7 +5,7 @@ use Rattle.std.proofs.lemmas.Slice.Eq.{bytes_eq-Decides}
 use Rattle.tough_base.specs.Spelled.{Spelled, hex_bytes}
 use Rattle.serde_json.specs.Data.{Data, Members, boolean, object}
 use Rattle.tough_json.specs.Writing.{with, stands_for}
-use Rattle.tough_json.proofs.WriteLemmas.{some-inj}
+use Rattle.tough_json.proofs.lemmas.Write.{some-inj}
 use Rattle.tough_keys.specs.Key.{KeyDoc, key_json}
 use Rattle.tough_roles.specs.Table.{table_json}
 use Rattle.tough_roles.specs.Roles.{role_name}

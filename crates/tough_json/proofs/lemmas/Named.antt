@@ -11,8 +11,8 @@ use Rattle.tough_json.specs.declared.error.WriteError.TheVariants as writes
 use Rattle.tough_json.specs.Results.{RefusesWrite}
 use Rattle.tough_json.specs.Reading.{◌>>=◌}
 use Rattle.tough_json.specs.Writing.{named}
-use Rattle.tough_json.proofs.EachLemmas.{below_middle}
-use Rattle.tough_json.proofs.WriteLemmas.{bind_ok, some-inj}
+use Rattle.tough_json.proofs.lemmas.Each.{below_middle}
+use Rattle.tough_json.proofs.lemmas.Write.{bind_ok, some-inj}
 
 -- one more member at the end
 abbrev pub snoc : Members → List ℕ → Data → Members

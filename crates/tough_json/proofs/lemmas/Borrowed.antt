@@ -17,8 +17,8 @@ use Rattle.tough_json.specs.Reading.{◌>>=◌, without}
 use Rattle.tough_json.specs.Results.{json_of, RefusesJson, Refuses, IsRefusal}
 use Rattle.tough_json.specs.declared.error.ReadError.{ReadError}
 use Rattle.tough_json.specs.declared.error.ReadError.TheVariants as errors
-use Rattle.tough_json.proofs.JsonLemmas.{json_of-some, json_of-none}
-use Rattle.tough_json.proofs.WriteLemmas.{bind_ok, some-inj}
+use Rattle.tough_json.proofs.lemmas.Json.{json_of-some, json_of-none}
+use Rattle.tough_json.proofs.lemmas.Write.{bind_ok, some-inj}
 use Rattle.json.specs.declared.value.Value.{Value as Borrowed}
 use Rattle.json.specs.Value.{value_view as json_view, items_view as json_items, members_view as json_members}
 use Rattle.serde_json.specs.Read.{of_json, of_items, of_members, read}

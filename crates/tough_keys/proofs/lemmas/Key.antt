@@ -4,7 +4,7 @@ use Rattle.tough_base.specs.Spelled.{Spelled}
 use Rattle.serde_json.specs.Data.{Data, string, object, Members}
 use Rattle.tough_json.specs.Reading.{◌>>=◌, decoded}
 use Rattle.tough_json.specs.Writing.{with, decoded_json}
-use Rattle.tough_json.proofs.WriteLemmas.{bind_ok, some-inj, required-with, decoded-back}
+use Rattle.tough_json.proofs.lemmas.Write.{bind_ok, some-inj, required-with, decoded-back}
 use Rattle.tough_keys.specs.declared.kind.Kind.{Kind}
 use Rattle.tough_keys.specs.declared.kind.Kind.TheVariants as kinds
 use Rattle.tough_keys.specs.Key.{KeyDoc, kind_name, scheme_name, public_bytes, kind_at, scheme_at, keyval_at, key_at, keyval_json, kind_json, key_json}

@@ -25,7 +25,7 @@ use Rattle.tough_json.specs.declared.pieces.Form.TheVariants as forms
 use Rattle.tough_json.specs.declared.pieces.ObjectText.{ObjectText}
 use Rattle.tough_json.specs.Pieces.{text_in, is_simple_byte, IsSimple, IsBelow, AreBelow, AreSimple, and_last, replaced, piece, ArePieces, is_none_yet, Stands}
 use Rattle.tough_json.specs.Writing.{with}
-use Rattle.tough_json.proofs.WriteLemmas.{if_free-ok}
+use Rattle.tough_json.proofs.lemmas.Write.{if_free-ok}
 
 -- ---- names that stand as they are
 

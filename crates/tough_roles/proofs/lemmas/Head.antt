@@ -5,8 +5,8 @@ use Rattle.serde_json.specs.Data.{string, Members}
 use Rattle.tough_json.specs.Moment.{moment_text}
 use Rattle.tough_json.specs.Reading.{◌>>=◌, text, positive, instant}
 use Rattle.tough_json.specs.Writing.{with, positive_json}
-use Rattle.tough_json.proofs.MomentExists.{parse_timestamp-text}
-use Rattle.tough_json.proofs.WriteLemmas.{bind_ok, required-with, without-with, positive-back}
+use Rattle.tough_json.proofs.lemmas.MomentExists.{parse_timestamp-text}
+use Rattle.tough_json.proofs.lemmas.Write.{bind_ok, required-with, without-with, positive-back}
 use Rattle.tough_roles.specs.Head.{Head, head_at, head_json, with_moment}
 
 instant-back : (z : ℤ) (s : List ℕ) → IsTimestampNanos z → moment_text z ≡ Some s → instant (string s) ≡ Some z

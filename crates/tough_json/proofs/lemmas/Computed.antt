@@ -9,7 +9,7 @@ use Rattle.tough_json.specs.declared.cjson.error.CjsonError.{CjsonError}
 use Rattle.tough_json.specs.declared.cjson.error.CjsonError.TheVariants.{Float, SameName, Memory}
 use Rattle.tough_json.specs.Canon.{Canon, CanonItems, CanonMembers, Member, IsWhole, Holds, nfc_text}
 use Rattle.tough_json.specs.CanonicalText.{canonical_of, item_texts, member_texts, number_text, whole_text, array_text, object_text, in_order}
-use Rattle.tough_json.proofs.Exactness.{accepted}
+use Rattle.tough_json.proofs.lemmas.Exactness.{accepted}
 use Rattle.tough_json.proofs.Placing.{in_order-apart, IsInOrder-in_order, are_apart}
 use Rattle.tough_json.proofs.Ordered.{sorted-same, in-moved, in-back}
 

@@ -9,16 +9,16 @@ use Rattle.tough_base.specs.Spelled.{Spelled, hex_bytes}
 use Rattle.serde_json.specs.Data.{Data, boolean, array, object, no_members}
 use Rattle.tough_json.specs.Reading.{◌>>=◌, spelled, hexadecimal, listing, positive, truth}
 use Rattle.tough_json.specs.Writing.{with, stands_for, positive_json, hexadecimal_json, all_json}
-use Rattle.tough_json.proofs.WriteLemmas.{bind_ok, some-inj, required-with, hexadecimal-back, positive-back, all-back}
+use Rattle.tough_json.proofs.lemmas.Write.{bind_ok, some-inj, required-with, hexadecimal-back, positive-back, all-back}
 use Rattle.tough_keys.specs.Key.{KeyDoc, key_json, key_id_of}
-use Rattle.tough_keys.proofs.KeyLemmas.{key-back}
+use Rattle.tough_keys.proofs.lemmas.Key.{key-back}
 use Rattle.tough_roles.specs.Head.{head_json}
 use Rattle.tough_roles.specs.Roles.{rank, role_name, role_type, role_cmp}
 use Rattle.tough_roles.specs.Root.{RootDoc, RoleKeysDoc, by_bytes, if_own, key_entry_at, keys_at, keys_json, role_keys_at, role_keys_json, role_entry_at, roles_at, roles_json, tables_json, root_at, root_json, AreOwn, AreOrdered, id_name}
 use Rattle.tough_roles.specs.declared.role_type.RoleType.{RoleType}
 use Rattle.tough_roles.specs.declared.role_type.RoleType.TheVariants as types
-use Rattle.tough_roles.proofs.HeadLemmas.{head-back}
-use Rattle.tough_roles.proofs.Tables.{AreBack, table-back}
+use Rattle.tough_roles.proofs.lemmas.Head.{head-back}
+use Rattle.tough_roles.proofs.lemmas.Tables.{AreBack, table-back}
 
 pub by_bytes_total : IsTotalOrder by_bytes
 by_bytes_total = on_texts (λ (s : Spelled). s.bytes)

@@ -4,10 +4,10 @@ use Rattle.jiff_core.specs.Timestamp.{IsTimestampNanos}
 use Rattle.serde_json.specs.Data.{Data, object}
 use Rattle.tough_json.specs.Reading.{◌>>=◌, unless_null, hexadecimal, positive, whole, mapping}
 use Rattle.tough_json.specs.Writing.{with, with_optional, optional_json, positive_json, length_json, hexadecimal_json, named}
-use Rattle.tough_json.proofs.WriteLemmas.{bind_ok, some-inj, required-with, hexadecimal-back, positive-back, optional-back, length-back, named-back}
+use Rattle.tough_json.proofs.lemmas.Write.{bind_ok, some-inj, required-with, hexadecimal-back, positive-back, optional-back, length-back, named-back}
 use Rattle.tough_roles.specs.Head.{head_json}
 use Rattle.tough_roles.specs.Timestamp.{HashesDoc, MetafileDoc, TimestampDoc, hashes_at, hashes_json, metafile_at, metafile_json, timestamp_at, timestamp_json}
-use Rattle.tough_roles.proofs.HeadLemmas.{head-back}
+use Rattle.tough_roles.proofs.lemmas.Head.{head-back}
 
 pub hashes-back : (h : HashesDoc) (d : Data) → hashes_json h ≡ Some d → hashes_at d ≡ Some h
 unfolding hashes_json hashes_at

@@ -1,0 +1,11 @@
+-- Facts about this crate's definitions, for the proofs of the crates above it too.
+pub mod Borrowed
+pub mod Computed
+pub mod Exactness
+pub mod Json
+pub mod Each
+pub mod List
+pub mod MomentExists
+pub mod Named
+pub mod Piece
+pub mod Write

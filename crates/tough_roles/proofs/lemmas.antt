@@ -1,0 +1,10 @@
+-- Facts about this crate's definitions, for the proofs of the crates above it too.
+pub mod Copies
+pub mod Entry
+pub mod Head
+pub mod Reached
+pub mod Root
+pub mod Table
+pub mod Tables
+pub mod Timestamp
+pub mod Verdicts
