@@ -8,3 +8,5 @@ pub mod Table
 pub mod Tables
 pub mod Timestamp
 pub mod Verdicts
+pub mod Written
+pub mod Signed

@@ -1,6 +1,6 @@
 use Rattle.std.proofs.Common.{refl}
 use Rattle.tough_roles.specs.Timestamp.{timestamp_at, timestamp_doc}
-use Rattle.tough_roles.proofs.SignedLemmas.{signed-read, signed-refused}
+use Rattle.tough_roles.proofs.lemmas.Signed.{signed-read, signed-refused}
 use Rattle.tough_roles.proofs.laws.signed_timestamp.Goals as goal
 
 pub returns-clause-read : goal.returns-clause-read

@@ -1,7 +1,7 @@
 use Rattle.tough_roles.specs.Root.{root_json}
 use Rattle.tough_roles.specs.Snapshot.{snapshot_json}
 use Rattle.tough_roles.specs.Timestamp.{timestamp_json}
-use Rattle.tough_roles.proofs.Written.{verified-written}
+use Rattle.tough_roles.proofs.lemmas.Written.{verified-written}
 use Rattle.tough_roles.proofs.laws.verified_is_written.Goals as goal
 
 pub returns-clause-root : goal.returns-clause-root

@@ -1,4 +1,4 @@
-use Rattle.tough_roles.proofs.SignedLemmas.{no-parts, no-role}
+use Rattle.tough_roles.proofs.lemmas.Signed.{no-parts, no-role}
 use Rattle.tough_roles.proofs.read_signed.signed_of.Goals as goal
 
 pub returns-in-Err-clause-read : goal.returns-in-Err-clause-read

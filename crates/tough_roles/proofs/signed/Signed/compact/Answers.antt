@@ -1,7 +1,7 @@
 use Rattle.std.proofs.Common.{sym, ◌∙◌}
 use Rattle.serde_json.specs.View.{view}
 use Rattle.tough_roles.specs.Signature.{signatures_doc}
-use Rattle.tough_roles.proofs.Written.{role-floats}
+use Rattle.tough_roles.proofs.lemmas.Written.{role-floats}
 use Rattle.tough_roles.proofs.signed.Signed.compact.Goals as goal
 
 pub returns-then-holds_float-clause-unwritable : goal.returns-then-holds_float-clause-unwritable

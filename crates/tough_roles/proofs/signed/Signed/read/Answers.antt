@@ -1,5 +1,5 @@
 use Rattle.tough_roles.specs.Document.{IsSigned, IsNotSigned}
-use Rattle.tough_roles.proofs.SignedLemmas.{read-text}
+use Rattle.tough_roles.proofs.lemmas.Signed.{read-text}
 use Rattle.tough_roles.proofs.signed.Signed.read.Goals as goal
 
 pub returns-in-Ok-clause-read : goal.returns-in-Ok-clause-read

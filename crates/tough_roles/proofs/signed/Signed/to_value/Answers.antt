@@ -1,7 +1,7 @@
 use Rattle.std.proofs.Common.{sym, ap, ◌∙◌}
 use Rattle.serde_json.specs.View.{view}
 use Rattle.tough_roles.specs.Signature.{signatures_doc, signed_parts_json}
-use Rattle.tough_roles.proofs.SignedLemmas.{signed-back}
+use Rattle.tough_roles.proofs.lemmas.Signed.{signed-back}
 use Rattle.tough_roles.proofs.signed.Signed.to_value.Goals as goal
 
 pub returns-clause-back : goal.returns-clause-back
