@@ -61,7 +61,8 @@ impl<T: Role> Signed<T> {
         if holds_float(&value) {
             return Err(WriteError::Unwritable);
         }
-        Ok(bytes_of(alloc, &value)?)
+        let compact = bytes_of(alloc, &value)?;
+        Ok(compact)
     }
 
     // The same text, where the role is written in pieces.
