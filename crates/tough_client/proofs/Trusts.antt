@@ -63,7 +63,7 @@ module _ {T S K : Type 0} (refuses : T → Parts → TransportError → Type 0) 
     (verifies : Verifies) (base : Parts) (t : T)
     (checks : (old : K) (act : Act) (r : Result Receipt StepError) (new : K) → keeps verifies old act r new → CheckedIfOk verifies act r) where
   fetched-fits : (r : RequestDoc) (bytes : List ℕ) → Fetches refuses serves t base r (got.Bytes bytes) → IsTrue (fits_request r bytes)
-  fetched-fits r bytes (inl h) = absurd (cc (h))
+  fetched-fits r bytes (inl h) = absurd (cc (h.1))
   fetched-fits r bytes (inr (inl h)) = absurd (cc (h.1))
   fetched-fits r bytes (inr (inr (url, is, inl h))) = absurd (cc (h.1))
   fetched-fits r bytes (inr (inr (url, is, inr (Ok v, e, h)))) = subst (λ (b : List ℕ). IsTrue (fits_request r b)) (cc (e)) (fits-true url r v.items h.3)
