@@ -7,4 +7,4 @@ use Rattle.tough_roles.proofs.signed.Signed.compact.Goals as goal
 pub returns-then-holds_float-clause-unwritable : goal.returns-then-holds_float-clause-unwritable
 returns-then-holds_float-clause-unwritable g c = λ w.
     role-floats (g.T.Role.json c.args.self.now.signed) (signatures_doc c.args.self.now.signatures.items) (view c.in_ok-value.value) c.in_ok-value.ensures.written
-    (sym c.holds_float.ensures ∙ c.if-holds_float.true)
+    (sym c.holds_float.ensures.float ∙ c.if-holds_float.true)
