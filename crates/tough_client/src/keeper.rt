@@ -69,6 +69,7 @@ impl<S: Store> Keeper for &mut Vault<S> {
                 *enforcement,
                 verifier,
             ),
+            Act::PutDelegated { name, targets } => Vault::put_document(self, *name, *targets),
             Act::PutTargets(targets) => {
                 let Ok(name) = DocumentName::targets(alloc) else {
                     return Err(StepError::Memory);

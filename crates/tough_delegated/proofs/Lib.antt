@@ -1,5 +1,3 @@
+pub mod lemmas
 pub mod Listing
 pub mod Turning
-pub mod Once
-pub mod Under
-pub mod Listed

@@ -16,7 +16,7 @@ use Rattle.tough_schema.specs.Walk.{names_in}
 use Rattle.tough_schema.specs.Whole.{HeldDoc, RoleTree, held_doc}
 use Rattle.tough_schema.specs.declared.targets.DelegatedTargets.{DelegatedTargets}
 use Rattle.tough_delegated.specs.declared.turns.Open.{Open}
-use Rattle.tough_delegated.specs.Growing.{Metas, Look, look, past, entered, turn, by_turn, turns, Fetched, with_fetched, with_roles, OpenDoc, WorkDoc, all_past, stopped_at, taken_up, by_turns, settle, give, wants, with_taken}
+use Rattle.tough_delegated.specs.Growing.{Metas, Look, look, past, entered, turn, by_turn, turns, Fetched, with_fetched, with_roles, OpenDoc, WorkDoc, all_past, stopped_at, taken_up, by_turns, settle, give, wants, first_work, with_taken}
 use Rattle.tough_delegated.specs.View.{entries_of, listed_in, opens_doc, fetched_doc}
 use Rattle.tough_delegated.proofs.Listing.{Held, listed-held}
 
@@ -83,7 +83,7 @@ names-none set empty = λ i q. list_any (is_at (λ k. slice_cmp nat_cmp q (strin
 
 pub begun-work : (os : List Open) (set : BTreeSet (String Global)) (s : Signed DelegatedTargets) (es : List Held) (top : HeldDoc) → os ≡ [] → IsEmpty set → es ≡ [] → held_doc s ≡ top
     → ◌≡◌ {A = WorkDoc} (record { outer = opens_doc os; loaded = names_in set; here = held_doc s; fetched = fetched_doc es; waiting = entries_of (listed_in s) })
-    (record { outer = []; loaded = no_names; here = top; fetched = []; waiting = listed_roles top.below })
+    (first_work top)
 begun-work os set s es top a b c d =
     let f : List OpenDoc → Names → HeldDoc → Fetched → List Entry → WorkDoc = λ o n h g w. record { outer = o; loaded = n; here = h; fetched = g; waiting = w } in
     let shown = entries_of (listed_in s) in

@@ -154,8 +154,12 @@ by_look metas w (wanted waiting m) = wants (record w { waiting = waiting }) m
 abbrev pub go_on : Metas → WorkDoc → Progress
 go_on metas w = by_look metas w (look metas w.loaded w.waiting)
 
+-- nothing was fetched yet
+abbrev pub first_work : HeldDoc → WorkDoc
+first_work top = record { outer = []; loaded = no_names; here = top; fetched = []; waiting = listed_roles top.below }
+
 abbrev pub begun : Metas → HeldDoc → Progress
-begun metas top = go_on metas (record { outer = []; loaded = no_names; here = top; fetched = []; waiting = listed_roles top.below })
+begun metas top = go_on metas (first_work top)
 
 -- the role whose document is wanted
 abbrev pub first_of : List Entry → Option Entry

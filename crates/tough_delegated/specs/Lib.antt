@@ -1,5 +1,6 @@
 pub mod Growing
 pub mod View
+pub mod Bare
 pub mod Once
 pub mod Under
 pub mod Listed

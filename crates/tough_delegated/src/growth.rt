@@ -6,7 +6,7 @@ ghost use Rattle.tough_roles.specs.Timestamp.{metafile_doc};
 ghost use Rattle.tough_schema.specs.Delegations.{delegations_doc};
 ghost use Rattle.tough_schema.specs.Walk.{names_in};
 ghost use Rattle.tough_schema.specs.Whole.{tree_doc, role_tree, held_doc};
-ghost use Rattle.tough_delegated.specs.Growing.{wants, begun, taken, settle, taken_up, give, go_on, first_of, holder_of, with_taken};
+ghost use Rattle.tough_delegated.specs.Growing.{wants, first_work, settle, taken_up, give, go_on, first_of, holder_of, with_taken};
 ghost use Rattle.tough_delegated.specs.View.{metas_of, top_held, waiting_in, open_doc, opens_doc, turns_doc, work_doc, progress_doc};
 
 use crate::list::{give_fetched, roles_of, take_roles, with_document};
@@ -39,20 +39,6 @@ pub enum Progress<'a> {
     Wants(Growth, &'a Metafile),
     /// The tree is complete.
     Grown(Signed<Targets>),
-}
-
-// The targets as the document of a role without a name.
-fn named(alloc: Global, targets: Signed<Targets>) -> Signed<DelegatedTargets>
-    ensures { held_doc result ≡ top_held targets }
-{
-    let Signed { signed, signatures } = targets;
-    Signed {
-        signed: DelegatedTargets {
-            name: String::new(alloc),
-            targets: signed,
-        },
-        signatures,
-    }
 }
 
 // The targets of a document.
@@ -155,87 +141,18 @@ fn give<'a>(
     }
 }
 
-// The list is looked at from the place on that the growth has.
-fn go_on<'a>(
-    alloc: Global,
-    snapshot: &'a Snapshot,
-    mut growth: Growth,
-) -> Result<Progress<'a>, AllocError>
-    ensures { IfOk result (λ p. progress_doc p ≡ go_on (metas_of snapshot.now) (work_doc growth)) }
-{
-    match look_from(
-        alloc,
-        snapshot,
-        &growth.loaded,
-        roles_of(&growth.here),
-        growth.at,
-    )? {
-        Look::Through => give(alloc, snapshot, growth),
-        Look::Unlisted(name) => {
-            let Growth {
-                outer,
-                mut loaded,
-                here,
-                ..
-            } = growth;
-            loaded.insert(name)?;
-            settle(alloc, snapshot, loaded, outer, here)
-        }
-        Look::Wanted(at, entry) => {
-            growth.at = at;
-            Ok(Progress::Wants(growth, entry))
-        }
-    }
-}
-
-// The document that was wanted, under its role's name.
-fn keep(growth: Growth, document: Signed<DelegatedTargets>) -> Result<Growth, AllocError>
-    ensures { IfOk result (λ g. work_doc g ≡ with_taken (work_doc growth) (work_doc growth).waiting (held_doc document)) }
-{
-    let Growth {
-        outer,
-        loaded,
-        here,
-        mut fetched,
-        at,
-    } = growth;
-    let Some(role) = roles_of(&here).get(at) else {
-        return Ok(Growth {
-            outer,
-            loaded,
-            here,
-            fetched,
-            at,
-        });
-    };
-    let name = role.name.clone()?;
-    fetched.insert(name, document)?;
-    Ok(Growth {
-        outer,
-        loaded,
-        here,
-        fetched,
-        at: at + 1,
-    })
-}
-
 impl Growth {
     /// Begins with the targets that the snapshot names.
-    pub fn begin<'a>(
-        alloc: Global,
-        snapshot: &'a Snapshot,
-        targets: Signed<Targets>,
-    ) -> Result<Progress<'a>, AllocError>
-        ensures { IfOk result (λ p. progress_doc p ≡ begun (metas_of snapshot.now) (top_held targets)) }
+    pub fn new(alloc: Global, targets: Signed<Targets>) -> Growth
+        ensures { work_doc result ≡ first_work (top_held targets) }
     {
-        let growth = Growth {
+        Growth {
             outer: VecDeque::new(alloc),
             loaded: BTreeSet::new(alloc),
-            here: named(alloc, targets),
+            here: Targets::named(targets, String::new(alloc)),
             fetched: BTreeMap::new(alloc),
             at: 0,
-        };
-        go_on(alloc, snapshot, growth)
+        }
     }
 
     /// The role whose document is wanted.
@@ -255,16 +172,62 @@ impl Growth {
         }
     }
 
-    /// Takes the document that was wanted, of the same snapshot.
-    pub fn take<'a>(
-        self,
+    /// Takes the document that was wanted, under its role's name.
+    pub fn take(self, document: Signed<DelegatedTargets>) -> Result<Growth, AllocError>
+        ensures { IfOk result (λ g. work_doc g ≡ with_taken (work_doc self) (work_doc self).waiting (held_doc document)) }
+    {
+        let Growth {
+            outer,
+            loaded,
+            here,
+            mut fetched,
+            at,
+        } = self;
+        let Some(role) = roles_of(&here).get(at) else {
+            return Ok(Growth {
+                outer,
+                loaded,
+                here,
+                fetched,
+                at,
+            });
+        };
+        let name = role.name.clone()?;
+        fetched.insert(name, document)?;
+        Ok(Growth {
+            outer,
+            loaded,
+            here,
+            fetched,
+            at: at + 1,
+        })
+    }
+
+    /// How far the tree grows without a further document: the list is looked at from the role on that is next. The snapshot is always the
+    /// same.
+    pub fn go_on<'a>(
+        mut self,
         alloc: Global,
         snapshot: &'a Snapshot,
-        document: Signed<DelegatedTargets>,
     ) -> Result<Progress<'a>, AllocError>
-        ensures { IfOk result (λ p. progress_doc p ≡ taken (metas_of snapshot.now) (work_doc self) (held_doc document)) }
+        ensures { IfOk result (λ p. progress_doc p ≡ go_on (metas_of snapshot.now) (work_doc self)) }
     {
-        let growth = keep(self, document)?;
-        go_on(alloc, snapshot, growth)
+        match look_from(alloc, snapshot, &self.loaded, roles_of(&self.here), self.at)? {
+            Look::Through => give(alloc, snapshot, self),
+            Look::Unlisted(name) => {
+                let Growth {
+                    outer,
+                    mut loaded,
+                    here,
+                    ..
+                } = self;
+                loaded.insert(name)?;
+                settle(alloc, snapshot, loaded, outer, here)
+            }
+            Look::Wanted(at, entry) => {
+                self.at = at;
+                Ok(Progress::Wants(self, entry))
+            }
+        }
     }
 }

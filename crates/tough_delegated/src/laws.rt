@@ -15,12 +15,15 @@ pub fn grows_once()
 ghost use Rattle.std.specs.Prelude.{ℕ, Bool, IsTrue, Option};
 ghost use Rattle.tough_schema.specs.Delegations.{DelegationsDoc};
 ghost use Rattle.tough_schema.specs.Targets.{TargetsDoc};
-ghost use Rattle.tough_delegated.specs.Under.{AllTaken, Below};
+ghost use Rattle.tough_delegated.specs.Under.{AllTaken, Below, page_of};
+ghost use Rattle.tough_delegated.specs.Bare.{top_page};
 
 /// What is asked of each document that is taken, of the delegations that ask for it, the name of the role and the document without those
-/// of its roles, holds throughout the tree: of the delegations of each document, and each of its roles that has one.
+/// of its roles, holds throughout the tree: of the delegations of each document, and each of its roles that has one. The tree says for itself
+/// what the first document did.
 pub fn grows_under()
-    ensures { (fits : Option DelegationsDoc → List ℕ → SignedDoc TargetsDoc → Bool) (metas : Metas) (top : HeldDoc) (documents : List HeldDoc) (t : SignedDoc TreeDoc) → IsBare top → AllTaken (λ g name page. IsTrue (fits g name page)) metas (begun metas top) documents → runs metas (begun metas top) documents ≡ grown t → Below (λ g name page. IsTrue (fits g name page)) t.role }
+    ensures under { (fits : Option DelegationsDoc → List ℕ → SignedDoc TargetsDoc → Bool) (metas : Metas) (top : HeldDoc) (documents : List HeldDoc) (t : SignedDoc TreeDoc) → IsBare top → AllTaken (λ g name page. IsTrue (fits g name page)) metas (begun metas top) documents → runs metas (begun metas top) documents ≡ grown t → Below (λ g name page. IsTrue (fits g name page)) t.role }
+    ensures top { (fits : Option DelegationsDoc → List ℕ → SignedDoc TargetsDoc → Bool) (metas : Metas) (top : HeldDoc) (documents : List HeldDoc) (t : SignedDoc TreeDoc) → IsBare top → AllTaken (λ g name page. IsTrue (fits g name page)) metas (begun metas top) documents → runs metas (begun metas top) documents ≡ grown t → top_page t ≡ page_of top }
 {}
 
 ghost use Rattle.tough_delegated.specs.Listed.{WantsListed};

@@ -10,7 +10,7 @@ use Rattle.tough_update.specs.Questions as ask
 use Rattle.tough_update.specs.Answered.{AnswerDoc}
 use Rattle.tough_update.specs.Machine.{question, question_at, answered}
 use Rattle.tough_update.specs.Runs.{run, IsFresh, EndsWalking, WasRotated}
-use Rattle.tough_update.specs.Asking.{AsksSnapshot, AsksTargets, AsksFile}
+use Rattle.tough_update.specs.Asking.{AsksSnapshot, AsksTargets, AsksRole, AsksFile}
 use Rattle.tough_update.proofs.Prefixes.{in_stage}
 use Rattle.tough_update.proofs.History.{Tells, tells, tells-at, ends-walking}
 
@@ -42,7 +42,8 @@ file : (v : Verifies) (c : CoreDoc) (answers : List AnswerDoc) (enforced : Bool)
 file v c answers enforced (at.Fetch (at.Root w) q) r e h = let same : q ≡ r = cc in inl (record { last = w.last; chain = h.0.1; is = sym same ∙ h.1 })
 file v c answers enforced (at.Fetch (at.Timestamp b) q) r e h = let same : q ≡ r = cc in inr (inl (sym same ∙ h))
 file v c answers enforced (at.Fetch (at.Snapshot b t n) q) r e h = let same : q ≡ r = cc in inr (inr (inl (subst (AsksSnapshot v c answers) same h)))
-file v c answers enforced (at.Fetch (at.Targets k n) q) r e h = let same : q ≡ r = cc in inr (inr (inr (subst (AsksTargets v c answers) same h)))
+file v c answers enforced (at.Fetch (at.Targets k n) q) r e h = let same : q ≡ r = cc in inr (inr (inr (inl (subst (AsksTargets v c answers) same h.1))))
+file v c answers enforced (at.Fetch (at.Role k roles n) q) r e h = let same : q ≡ r = cc in inr (inr (inr (inr (subst (AsksRole v c answers) same h.2))))
 file v c answers enforced _ r e h = cc
 
 pub asks : (v : Verifies) (c : CoreDoc) (answers : List AnswerDoc) (r : RequestDoc) → IsFresh c → question (run v c answers) ≡ ask.Fetch r → AsksFile v c answers r

@@ -16,21 +16,32 @@ use Rattle.tough_update.specs.Failure.{Failure, ParseMetadata, MaxUpdatesExceede
 use Rattle.tough_update.specs.Walk.{holds_json, if_read, first_root, next_root}
 use Rattle.tough_update.specs.Requests.{RequestDoc, root_request, timestamp_request}
 use Rattle.tough_update.specs.Rotation.{is_rotated}
-use Rattle.tough_update.specs.Listed.{bare_targets}
-use Rattle.tough_update.specs.Stages.{WalkDoc, BaseDoc, KnownDoc, WantedDoc, PendingDoc, StageDoc, CoreDoc}
+use Rattle.tough_update.specs.Listed.{by_root, judged}
+use Rattle.tough_update.specs.Delegated.{wanted_name, role_holder, metas_in, is_reserved, if_found, grown_on, given, role_given, role_stored, with_received}
+use Rattle.tough_names.specs.Named.{Named}
+use Rattle.tough_schema.specs.Whole.{TreeDoc}
+use Rattle.tough_schema.specs.Entries.{first_missing}
+use Rattle.tough_delegated.specs.Growing.{Progress, wants, grown, go_on, begun}
+use Rattle.tough_delegated.specs.Bare.{held_as}
+use Rattle.std.specs.List.{AllByRecursion}
+use Rattle.tough_update.specs.Stages.{WalkDoc, BaseDoc, KnownDoc, WantedDoc, PendingDoc, ReceivedDoc, RolesDoc, LoadedDoc, StageDoc, CoreDoc}
 use Rattle.tough_update.specs.Stages as at
 use Rattle.tough_update.specs.Questions as ask
 use Rattle.tough_update.specs.Answered.{AnswerDoc}
 use Rattle.tough_update.specs.Answered as got
-use Rattle.tough_update.specs.Machine.{question, answered, walked, base_of, walk_ended, want_snapshot, known_of, want_targets, targets_checked, accepted_targets, read_wanted, after, settled, stage_after}
+use Rattle.tough_update.specs.Machine.{question, answered, walked, base_of, walk_ended, want_snapshot, known_of, want_targets, read_wanted, after, settled, stage_after}
 use Rattle.tough_update.specs.Runs.{run, EndsWalk, IsFresh}
-use Rattle.tough_update.specs.Asking.{fetched, requests, roots_after, first_version, AsksFew}
+use Rattle.tough_update.specs.Asking.{fetched, requests, roots_after, first_version, IsOfRole, AsksFew}
 use Rattle.tough_update.proofs.Turning.{Fine, unless-fine, if-fine, and_then-fine, waits, keeps-answer}
 use Rattle.tough_update.proofs.Sound.{next-fine}
 use Rattle.tough_update.proofs.Prefixes.{in_stage, whole}
 use Rattle.tough_update.proofs.History.{first-read}
 
 -- ---- lists of requests
+
+all-last : (P : RequestDoc → Type 0) (rs : List RequestDoc) (r : RequestDoc) → AllByRecursion P rs → P r → AllByRecursion P (rs ++ r ∷ [])
+all-last P [] r h p = (p, tt)
+all-last P (x ∷ rs) r h p = (h.0, all-last P rs r h.1 p)
 
 requests-last : (v : Verifies) (h : List AnswerDoc) (c : CoreDoc) (a : AnswerDoc) → requests v c (h ++ a ∷ []) ≡ requests v c h ++ fetched (question (run v c h)) a
 requests-last v [] c a = append-nil (fetched (question c) a)
@@ -71,6 +82,11 @@ module _ (v : Verifies) (c : CoreDoc) where
   abbrev Few : List AnswerDoc → ℕ → Type 0
   Few h k = (n : ℕ) × (n ≤ c.setting.limits.max_root_updates) × (others : List RequestDoc) × (requests v c h ≡ roots_after c.setting.limits start n ++ others) × (length others ≤ k)
 
+  -- at most as many roots as the limit allows, then at most three others, and then documents of delegated roles
+  abbrev Many : List AnswerDoc → Type 0
+  Many h = (n : ℕ) × (n ≤ c.setting.limits.max_root_updates) × (others : List RequestDoc) × (roles : List RequestDoc) × (requests v c h ≡ roots_after c.setting.limits start n ++ (others ++ roles))
+      × (length others ≤ 3) × AllByRecursion (IsOfRole c.setting.limits) roles
+
   -- the walk has gone over n roots
   abbrev Over : List AnswerDoc → WalkDoc → ℕ → Type 0
   Over h w n = (w.first.role.head.version ≡ start) × (w.last.role.head.version ≡ w.first.role.head.version + n) × (requests v c h ≡ roots_after c.setting.limits start n)
@@ -88,8 +104,15 @@ module _ (v : Verifies) (c : CoreDoc) where
   Counts h (at.Step (at.PutSnapshot k m)) = Few h 2
   Counts h (at.Fetch (at.Targets k m) r) = Few h 2
   Counts h (at.Step (at.PutTargets k d)) = Few h 3
-  Counts h (at.Done r) = Few h 3
-  Counts h at.Taken = Few h 3
+  Counts h (at.Fetch (at.Role k roles m) r) = Many h × IsOfRole c.setting.limits r
+  Counts h (at.Step (at.PutDelegated k roles name d)) = Many h
+  Counts h (at.Done r) = Many h
+  Counts h at.Taken = Many h
+
+  many : (h : List AnswerDoc) (k : ℕ) → k ≤ 3 → Few h k → Many h
+  many h k le f =
+      let three : length f.2 ≤ 3 = omega (arith, le, f.4) in
+      (f.0, f.1, f.2, [], f.3 ∙ ap (λ t. roots_after c.setting.limits start f.0 ++ t) (sym (append-nil f.2)), three, tt)
 
   few-up : (h : List AnswerDoc) (j k : ℕ) → j ≤ k → Few h j → Few h k
   few-up h j k le f = let up : length f.2 ≤ k = omega (arith, le, f.4) in (f.0, f.1, f.2, f.3, up)
@@ -122,6 +145,26 @@ module _ (v : Verifies) (c : CoreDoc) where
         let size : length (f.2 ++ r ∷ []) ≤ k + 1 = omega (arith, f.4, length-append f.2 (r ∷ [])) in
         (f.0, f.1, f.2 ++ r ∷ [], e ∙ (ap (λ t. t ++ r ∷ []) f.3 ∙ append_assoc (roots_after c.setting.limits start f.0) f.2 (r ∷ [])), size)
 
+    many-same : requests v c next ≡ requests v c h → Many h → Many next
+    many-same e f = (f.0, f.1, f.2, f.3, e ∙ f.4, f.5, f.6)
+
+    many-more : (r : RequestDoc) → IsOfRole c.setting.limits r → requests v c next ≡ requests v c h ++ r ∷ [] → Many h → Many next
+    many-more r is e f =
+        let roots = roots_after c.setting.limits start f.0 in (
+          f.0,
+          f.1,
+          f.2,
+          f.3 ++ r ∷ [],
+          e ∙ (ap (λ t. t ++ r ∷ []) f.4 ∙ (append_assoc roots (f.2 ++ f.3) (r ∷ []) ∙ ap (λ t. roots ++ t) (append_assoc f.2 f.3 (r ∷ [])))),
+          f.5,
+          all-last (IsOfRole c.setting.limits) f.3 r f.6 is,
+        )
+
+    -- at a delegated document's fetch
+    many-fetched : (w : WantedDoc) (r : RequestDoc) → run v c h ≡ in_stage c (at.Fetch w r) → IsOfRole c.setting.limits r → Many h → (fetched (ask.Fetch r) a ≡ []) ⊎ (fetched (ask.Fetch r) a ≡ r ∷ []) → Many next
+    many-fetched w r stands is f (inl e) = many-same (asked-none (at.Fetch w r) stands e) f
+    many-fetched w r stands is f (inr e) = many-more r is (asked-one (at.Fetch w r) r stands e) f
+
     over-same : (w : WalkDoc) (n : ℕ) → requests v c next ≡ requests v c h → Over h w n → Over next w n
     over-same w n e o = (o.0, o.1, e ∙ o.2)
 
@@ -150,25 +193,27 @@ module _ (v : Verifies) (c : CoreDoc) where
         few-roots next (suc n) le (over-more w n r (asked-one (at.Fetch (at.Root w) r) r stands e) o is)
 
     -- whatever comes, few files were asked for
-    few-next : (st : StageDoc) → run v c h ≡ in_stage c st → Counts h st → Few next 3
-    few-next at.Moment stands t = few-up next 0 3 (omega arith) (few-none next (asked-none at.Moment stands refl ∙ t))
-    few-next (at.Step (at.NoteTime now)) stands t = few-up next 0 3 (omega arith) (few-none next (asked-none (at.Step (at.NoteTime now)) stands refl ∙ t))
-    few-next (at.Fetch (at.Root w) r) stands t = few-up next 0 3 (omega arith) (few-walked w r t.0 stands t.1 t.2 t.3 (fetched-one r a))
-    few-next (at.Fetch (at.Timestamp b) r) stands t = few-up next 1 3 (omega arith) (few-fetched 0 (at.Timestamp b) r stands t (fetched-one r a))
-    few-next (at.Fetch (at.Snapshot b s m) r) stands t = few-up next 2 3 (omega arith) (few-fetched 1 (at.Snapshot b s m) r stands t (fetched-one r a))
-    few-next (at.Fetch (at.Targets k m) r) stands t = few-fetched 2 (at.Targets k m) r stands t (fetched-one r a)
-    few-next (at.Step (at.PutRoot w)) stands t = few-up next 0 3 (omega arith) (few-same 0 (asked-none (at.Step (at.PutRoot w)) stands refl) (few-roots h t.0 t.2 t.1.2))
-    few-next (at.Step (at.PutLast w)) stands t = few-up next 0 3 (omega arith) (few-same 0 (asked-none (at.Step (at.PutLast w)) stands refl) t)
-    few-next (at.Step (at.Clear b)) stands t = few-up next 0 3 (omega arith) (few-same 0 (asked-none (at.Step (at.Clear b)) stands refl) t)
-    few-next (at.Step (at.PutTimestamp b s)) stands t = few-up next 1 3 (omega arith) (few-same 1 (asked-none (at.Step (at.PutTimestamp b s)) stands refl) t)
-    few-next (at.Step (at.PutSnapshot k m)) stands t = few-up next 2 3 (omega arith) (few-same 2 (asked-none (at.Step (at.PutSnapshot k m)) stands refl) t)
-    few-next (at.Step (at.PutTargets k d)) stands t = few-same 3 (asked-none (at.Step (at.PutTargets k d)) stands refl) t
-    few-next (at.Done r) stands t = few-same 3 (asked-none (at.Done r) stands refl) t
-    few-next at.Taken stands t = few-same 3 (asked-none at.Taken stands refl) t
+    few-next : (st : StageDoc) → run v c h ≡ in_stage c st → Counts h st → Many next
+    few-next at.Moment stands t = many next 0 (omega arith) (few-none next (asked-none at.Moment stands refl ∙ t))
+    few-next (at.Step (at.NoteTime now)) stands t = many next 0 (omega arith) (few-none next (asked-none (at.Step (at.NoteTime now)) stands refl ∙ t))
+    few-next (at.Fetch (at.Root w) r) stands t = many next 0 (omega arith) (few-walked w r t.0 stands t.1 t.2 t.3 (fetched-one r a))
+    few-next (at.Fetch (at.Timestamp b) r) stands t = many next 1 (omega arith) (few-fetched 0 (at.Timestamp b) r stands t (fetched-one r a))
+    few-next (at.Fetch (at.Snapshot b s m) r) stands t = many next 2 (omega arith) (few-fetched 1 (at.Snapshot b s m) r stands t (fetched-one r a))
+    few-next (at.Fetch (at.Targets k m) r) stands t = many next 3 (omega arith) (few-fetched 2 (at.Targets k m) r stands t (fetched-one r a))
+    few-next (at.Fetch (at.Role k roles m) r) stands t = many-fetched (at.Role k roles m) r stands t.1 t.0 (fetched-one r a)
+    few-next (at.Step (at.PutRoot w)) stands t = many next 0 (omega arith) (few-same 0 (asked-none (at.Step (at.PutRoot w)) stands refl) (few-roots h t.0 t.2 t.1.2))
+    few-next (at.Step (at.PutLast w)) stands t = many next 0 (omega arith) (few-same 0 (asked-none (at.Step (at.PutLast w)) stands refl) t)
+    few-next (at.Step (at.Clear b)) stands t = many next 0 (omega arith) (few-same 0 (asked-none (at.Step (at.Clear b)) stands refl) t)
+    few-next (at.Step (at.PutTimestamp b s)) stands t = many next 1 (omega arith) (few-same 1 (asked-none (at.Step (at.PutTimestamp b s)) stands refl) t)
+    few-next (at.Step (at.PutSnapshot k m)) stands t = many next 2 (omega arith) (few-same 2 (asked-none (at.Step (at.PutSnapshot k m)) stands refl) t)
+    few-next (at.Step (at.PutTargets k d)) stands t = many next 3 (omega arith) (few-same 3 (asked-none (at.Step (at.PutTargets k d)) stands refl) t)
+    few-next (at.Step (at.PutDelegated k roles name d)) stands t = many-same (asked-none (at.Step (at.PutDelegated k roles name d)) stands refl) t
+    few-next (at.Done r) stands t = many-same (asked-none (at.Done r) stands refl) t
+    few-next at.Taken stands t = many-same (asked-none at.Taken stands refl) t
 
     -- ---- an answer, where few files were asked for whatever comes
 
-    module _ (enough : Few next 3) where
+    module _ (enough : Many next) where
       bad : (f : Failure) → Counts next (at.Done (Err f))
       bad f = enough
 
@@ -195,8 +240,10 @@ module _ (v : Verifies) (c : CoreDoc) where
       same-counts (at.Step (at.PutTimestamp b s)) x e t l = few-same 1 (asked-none (at.Step (at.PutTimestamp b s)) l.1 refl) t
       same-counts (at.Step (at.PutSnapshot k m)) x e t l = few-same 2 (asked-none (at.Step (at.PutSnapshot k m)) l.1 refl) t
       same-counts (at.Step (at.PutTargets k d)) x e t l = few-same 3 (asked-none (at.Step (at.PutTargets k d)) l.1 refl) t
-      same-counts (at.Done r) x e t l = few-same 3 (asked-none (at.Done r) l.1 refl) t
-      same-counts at.Taken x e t l = few-same 3 (asked-none at.Taken l.1 refl) t
+      same-counts (at.Fetch (at.Role k roles m) r) x e t l = (many-same (same-fetch (at.Role k roles m) r x e l) t.0, t.1)
+      same-counts (at.Step (at.PutDelegated k roles name d)) x e t l = many-same (asked-none (at.Step (at.PutDelegated k roles name d)) l.1 refl) t
+      same-counts (at.Done r) x e t l = many-same (asked-none (at.Done r) l.1 refl) t
+      same-counts at.Taken x e t l = many-same (asked-none at.Taken l.1 refl) t
 
       walked-counts : (w : WalkDoc) (n : ℕ) → Over next w n → n ≤ c.setting.limits.max_root_updates → Goes (walked c.setting.limits w)
       walked-counts w n o le =
@@ -225,7 +272,18 @@ module _ (v : Verifies) (c : CoreDoc) where
       want_targets-counts k None f = enough
       want_targets-counts k (Some m) f = f
 
-      read-counts : (w : WantedDoc) (r : RequestDoc) (bytes : List ℕ) → Counts h (at.Fetch w r) → Heard (at.Fetch w r) (got.Bytes bytes) → Goes (read_wanted v c.setting.enforced w bytes)
+      found-counts : (o : Option Named) (l : LoadedDoc) → Goes (if_found o l)
+      found-counts None l = enough
+      found-counts (Some name) l = enough
+
+      grown-counts : (k : KnownDoc) (received : List ReceivedDoc) (p : Progress) → Goes (grown_on c.setting.limits k received p)
+      grown-counts k received (wants w m) = (enough, (k.root.role.consistent_snapshot, wanted_name w, m, refl))
+      grown-counts k received (grown t) = found-counts (first_missing t.role) (record { known = k; targets = t; received = received })
+
+      given-counts : (k : KnownDoc) (roles : RolesDoc) (d : SignedDoc TreeDoc) → Goes (role_given c.setting.limits k roles d)
+      given-counts k roles d = grown-counts k roles.received (go_on (metas_in k) (given roles.work d))
+
+      read-counts : (w : WantedDoc) (r : RequestDoc) (bytes : List ℕ) → Counts h (at.Fetch w r) → Heard (at.Fetch w r) (got.Bytes bytes) → Goes (read_wanted v c.setting w r bytes)
       read-counts (at.Root w) r bytes t l = and_then-fine (Counts next) bad (next_root v w.last.role bytes) (λ root. Ok (at.Step (at.PutRoot (record { start = w.start; first = w.first; last = root })))) (λ root is.
           let version = (next-fine v w.last bytes root is).version in
           let one : root.role.head.version ≡ w.first.role.head.version + suc t.0 = omega (arith, version, t.1.1) in
@@ -233,8 +291,12 @@ module _ (v : Verifies) (c : CoreDoc) where
           (suc t.0, (t.1.0, one, over-more w t.0 r (asked-one (at.Fetch (at.Root w) r) r l.1 (ap (fetched (ask.Fetch r)) (sym l.0))) t.1 t.3), le))
       read-counts (at.Timestamp b) r bytes t l = if_read-counts (ParseMetadata role.Timestamp (holds_json bytes)) (timestamp_in bytes) (λ d. at.Step (at.PutTimestamp b d)) (λ d. few-fetched 0 (at.Timestamp b) r l.1 t (fetched-one r a))
       read-counts (at.Snapshot b s m) r bytes t l = if_read-counts (ParseMetadata role.Snapshot (holds_json bytes)) (snapshot_in bytes) (λ d. at.Step (at.PutSnapshot (known_of b s d) m)) (λ d. few-fetched 1 (at.Snapshot b s m) r l.1 t (fetched-one r a))
-      read-counts (at.Targets k m) r bytes t l = and_then-fine (Counts next) bad (bare_targets bytes) (accepted_targets v c.setting.enforced k m) (λ d _.
-          and_then-fine (Counts next) bad (targets_checked v c.setting.enforced k m d) (λ u. Ok (at.Step (at.PutTargets k d))) (λ u _. enough))
+      read-counts (at.Targets k m) r bytes t l = and_then-fine (Counts next) bad (judged v c.setting.enforced k.start (by_root k.root.role) m bytes) (λ d. Ok (at.Step (at.PutTargets k d))) (λ d _.
+          few-fetched 2 (at.Targets k m) r l.1 t (fetched-one r a))
+      read-counts (at.Role k roles m) r bytes t l =
+          let kept = with_received roles bytes in
+          and_then-fine (Counts next) bad (judged v c.setting.enforced k.start (role_holder roles.work) m bytes) (role_stored c.setting.limits k kept r.name) (λ d _.
+          if-fine (Counts next) bad (is_reserved r.name) (role_given c.setting.limits k kept d) (Ok (at.Step (at.PutDelegated k kept r.name d))) (λ _. given-counts k kept d) enough)
 
       step-counts : (p : PendingDoc) → Counts h (at.Step p) → Heard (at.Step p) (got.Step (Ok (tt {0}))) → Goes (after v c.setting p)
       step-counts (at.NoteTime now) t l = and_then-fine (Counts next) bad (first_root v c.setting.trusted) (λ root. walked c.setting.limits (record { start = now; first = root; last = root })) (λ root is.
@@ -246,7 +308,8 @@ module _ (v : Verifies) (c : CoreDoc) where
       step-counts (at.Clear b) t l = few-same 0 (asked-none (at.Step (at.Clear b)) l.1 refl) t
       step-counts (at.PutTimestamp b s) t l = want_snapshot-counts b s (metafile_in s.role.meta snapshot_file) (few-same 1 (asked-none (at.Step (at.PutTimestamp b s)) l.1 refl) t)
       step-counts (at.PutSnapshot k m) t l = want_targets-counts k (metafile_in k.snapshot.role.meta targets_file) (few-same 2 (asked-none (at.Step (at.PutSnapshot k m)) l.1 refl) t)
-      step-counts (at.PutTargets k d) t l = enough
+      step-counts (at.PutTargets k d) t l = grown-counts k [] (begun (metas_in k) (held_as [] d))
+      step-counts (at.PutDelegated k roles name d) t l = given-counts k roles d
 
       turn-counts : (st : StageDoc) → run v c h ≡ in_stage c st → Counts h st → Counts next (settled (stage_after v c.setting st a))
       turn-counts st stands t = keeps-answer v c.setting (Counts h) (Counts next) bad Heard (record {
@@ -260,23 +323,25 @@ module _ (v : Verifies) (c : CoreDoc) where
   turn : (h : List AnswerDoc) (st : StageDoc) (a : AnswerDoc) → run v c h ≡ in_stage c st → Counts h st → Counts (h ++ a ∷ []) (settled (stage_after v c.setting st a))
   turn h st a stands t = turn-counts h a (few-next h a st stands t) st stands t
 
-  few-at : (h : List AnswerDoc) (st : StageDoc) → Counts h st → Few h 3
-  few-at h at.Moment t = few-up h 0 3 (omega arith) (few-none h t)
-  few-at h (at.Step (at.NoteTime now)) t = few-up h 0 3 (omega arith) (few-none h t)
-  few-at h (at.Fetch (at.Root w) r) t = let le : t.0 ≤ c.setting.limits.max_root_updates = omega (arith, t.2) in few-up h 0 3 (omega arith) (few-roots h t.0 le t.1.2)
-  few-at h (at.Fetch (at.Timestamp b) r) t = few-up h 0 3 (omega arith) t
-  few-at h (at.Fetch (at.Snapshot b s m) r) t = few-up h 1 3 (omega arith) t
-  few-at h (at.Fetch (at.Targets k m) r) t = few-up h 2 3 (omega arith) t
-  few-at h (at.Step (at.PutRoot w)) t = few-up h 0 3 (omega arith) (few-roots h t.0 t.2 t.1.2)
-  few-at h (at.Step (at.PutLast w)) t = few-up h 0 3 (omega arith) t
-  few-at h (at.Step (at.Clear b)) t = few-up h 0 3 (omega arith) t
-  few-at h (at.Step (at.PutTimestamp b s)) t = few-up h 1 3 (omega arith) t
-  few-at h (at.Step (at.PutSnapshot k m)) t = few-up h 2 3 (omega arith) t
-  few-at h (at.Step (at.PutTargets k d)) t = t
+  few-at : (h : List AnswerDoc) (st : StageDoc) → Counts h st → Many h
+  few-at h at.Moment t = many h 0 (omega arith) (few-none h t)
+  few-at h (at.Step (at.NoteTime now)) t = many h 0 (omega arith) (few-none h t)
+  few-at h (at.Fetch (at.Root w) r) t = let le : t.0 ≤ c.setting.limits.max_root_updates = omega (arith, t.2) in many h 0 (omega arith) (few-roots h t.0 le t.1.2)
+  few-at h (at.Fetch (at.Timestamp b) r) t = many h 0 (omega arith) t
+  few-at h (at.Fetch (at.Snapshot b s m) r) t = many h 1 (omega arith) t
+  few-at h (at.Fetch (at.Targets k m) r) t = many h 2 (omega arith) t
+  few-at h (at.Fetch (at.Role k roles m) r) t = t.0
+  few-at h (at.Step (at.PutRoot w)) t = many h 0 (omega arith) (few-roots h t.0 t.2 t.1.2)
+  few-at h (at.Step (at.PutLast w)) t = many h 0 (omega arith) t
+  few-at h (at.Step (at.Clear b)) t = many h 0 (omega arith) t
+  few-at h (at.Step (at.PutTimestamp b s)) t = many h 1 (omega arith) t
+  few-at h (at.Step (at.PutSnapshot k m)) t = many h 2 (omega arith) t
+  few-at h (at.Step (at.PutTargets k d)) t = many h 3 (omega arith) t
+  few-at h (at.Step (at.PutDelegated k roles name d)) t = t
   few-at h (at.Done r) t = t
   few-at h at.Taken t = t
 
 pub asks_few : (v : Verifies) (c : CoreDoc) (answers : List AnswerDoc) → IsFresh c → AsksFew v c answers
 asks_few v c answers fresh =
     let f = few-at v c answers (run v c answers).stage (whole v c (Counts v c) (turn v c) answers (subst (Counts v c []) (sym fresh) refl)) in
-    record { roots = f.0; few = f.1; others = f.2; all = f.3; three = f.4 }
+    record { roots = f.0; few = f.1; others = f.2; roles = f.3; all = f.4; three = f.5; delegated = f.6 }

@@ -1,5 +1,5 @@
 -- What is so of each stage after given answers: what the clock told, which roots were met, and which files may be asked for.
-use Rattle.std.specs.Prelude.{◌≡◌, ℕ, ℤ, ◌+◌, ◌-◌, ◌^◌, ◌==◌, List, [], ◌∷◌, ◌++◌, Option, Some, None, Bool, true, false, IsTrue, ⊤, Result, Ok, Err, nat_lt, not, if◌then◌else◌}
+use Rattle.std.specs.Prelude.{◌≡◌, ℕ, ℤ, ◌+◌, ◌-◌, ◌^◌, ◌==◌, List, [], ◌∷◌, ◌++◌, codes, Option, Some, None, Bool, true, false, IsTrue, ⊤, Result, Ok, Err, nat_lt, not, if◌then◌else◌}
 use Rattle.std.proofs.Common.{refl, sym, ◌∙◌, ap, subst, inl, inr}
 use Rattle.std.proofs.lemmas.Bool.{eqb-true}
 use Rattle.std.proofs.lemmas.List.{append-nil, append_assoc}
@@ -13,23 +13,33 @@ use Rattle.tough_roles.specs.declared.role_type.RoleType.TheVariants as role
 use Rattle.tough_vault.specs.Checks.{ExpiredMetadata, is_expired}
 use Rattle.tough_vault.specs.Documents.{root_in, timestamp_in, snapshot_in, metafile_in}
 use Rattle.tough_vault.specs.Files.{snapshot_file, targets_file}
-use Rattle.tough_vault.specs.Act.{Act, ClearRotated}
+use Rattle.tough_vault.specs.Act.{Act, ClearRotated, AdvanceSnapshot}
 use Rattle.tough_update.specs.Failure.{Failure, ParseTrustedMetadata, VerifyTrustedMetadata, ParseMetadata, MaxUpdatesExceeded, Checked}
 use Rattle.tough_update.specs.Walk.{holds_json, if_read, if_verified, root_verdict, first_root, next_root}
 use Rattle.tough_update.specs.Outcomes.{unless}
 use Rattle.tough_update.specs.Requests.{RequestDoc, root_request, timestamp_request}
 use Rattle.tough_update.specs.Rotation.{is_rotated}
-use Rattle.tough_update.specs.Listed.{bare_targets}
-use Rattle.tough_update.specs.Stages.{WalkDoc, BaseDoc, KnownDoc, WantedDoc, PendingDoc, StageDoc, CoreDoc}
+use Rattle.tough_update.specs.Listed.{by_root, judged}
+use Rattle.tough_update.specs.Delegated.{first_name, wanted_name, role_holder, metas_in, is_reserved, if_found, grown_on, given, role_given, role_stored, with_received}
+use Rattle.tough_names.specs.Named.{Named}
+use Rattle.tough_schema.specs.Whole.{TreeDoc, HeldDoc}
+use Rattle.tough_schema.specs.Entries.{first_missing}
+use Rattle.tough_delegated.specs.Growing.{Progress, wants, grown, go_on, begun}
+use Rattle.tough_delegated.specs.Bare.{held_as}
+use Rattle.tough_delegated.specs.Once.{runs}
+use Rattle.tough_delegated.specs.Listed.{WantsListed}
+use Rattle.tough_delegated.proofs.lemmas.Listed.{wanted-listed}
+use Rattle.tough_delegated.proofs.lemmas.Under.{runs-more}
+use Rattle.tough_update.specs.Stages.{WalkDoc, BaseDoc, KnownDoc, WantedDoc, PendingDoc, ReceivedDoc, RolesDoc, LoadedDoc, StageDoc, CoreDoc}
 use Rattle.tough_update.specs.Stages as at
 use Rattle.tough_update.specs.Questions.{Question}
 use Rattle.tough_update.specs.Questions as ask
 use Rattle.tough_update.specs.Answered.{AnswerDoc}
 use Rattle.tough_update.specs.Answered as got
-use Rattle.tough_update.specs.Machine.{question, question_at, walked, base_of, walk_ended, want_snapshot, known_of, want_targets, targets_checked, accepted_targets, read_wanted, after, settled, stage_after, answered}
+use Rattle.tough_update.specs.Machine.{question, question_at, walked, base_of, walk_ended, want_snapshot, known_of, want_targets, read_wanted, after, settled, stage_after, answered}
 use Rattle.tough_update.specs.Trusted.{Chain, followed}
 use Rattle.tough_update.specs.Runs.{run, EndsWalk, AskedNext, IsLast, IsFresh, WasTold, EndsWalking, WasRotated}
-use Rattle.tough_update.specs.Asking.{HasTaken, AsksSnapshot, AsksTargets}
+use Rattle.tough_update.specs.Asking.{HasTaken, AsksSnapshot, AsksTargets, AsksRole}
 use Rattle.tough_update.proofs.Turning.{Fine, unless-fine, if-fine, and_then-fine, keeps-answer}
 use Rattle.tough_update.proofs.Sound.{first-fine, next-fine, if_read-ok, if_verified-ok, ok-same}
 use Rattle.tough_update.proofs.Prefixes.{in_stage, longer, run-last, run-same, whole, whole-at}
@@ -45,15 +55,26 @@ module _ (v : Verifies) (c : CoreDoc) where
   abbrev Walks : WalkDoc → Type 0
   Walks w = (root_in c.setting.trusted ≡ Some w.first) × Chain v c.setting.trusted w.last
 
+  -- this snapshot was accepted
+  abbrev pub Accepted : List AnswerDoc → KnownDoc → Type 0
+  Accepted h k = (version : ℕ) × HasTaken v c h (AdvanceSnapshot k.root.role version k.snapshot k.start c.setting.enforced)
+
+  -- the tree grew so far
+  abbrev pub Grew : KnownDoc → Progress → Type 0
+  Grew k p = (top : HeldDoc) × (documents : List HeldDoc) × (runs (metas_in k) (begun (metas_in k) top) documents ≡ p)
+
   abbrev pub Tells : List AnswerDoc → StageDoc → Type 0
   Tells h (at.Fetch (at.Root w) r) = Walks w × (r ≡ root_request c.setting.limits (w.last.role.head.version + 1))
   Tells h (at.Fetch (at.Timestamp b) r) = r ≡ timestamp_request c.setting.limits
   Tells h (at.Fetch (at.Snapshot b t listed) r) = AsksSnapshot v c h r
-  Tells h (at.Fetch (at.Targets k listed) r) = AsksTargets v c h r
+  Tells h (at.Fetch (at.Targets k listed) r) = Accepted h k × AsksTargets v c h r
+  Tells h (at.Fetch (at.Role k roles listed) r) = Accepted h k × ((m : MetafileDoc) × Grew k (wants roles.work m)) × AsksRole v c h r
   Tells h (at.Step (at.NoteTime now)) = WasTold v c h now
   Tells h (at.Step (at.PutRoot w)) = Walks w
   Tells h (at.Step (at.PutLast w)) = Walks w × IsLast v c h w.last
   Tells h (at.Step (at.Clear b)) = WasRotated v c h
+  Tells h (at.Step (at.PutTargets k d)) = Accepted h k
+  Tells h (at.Step (at.PutDelegated k roles name d)) = Accepted h k × ((m : MetafileDoc) × Grew k (wants roles.work m))
   Tells h _ = ⊤
 
   bad : (h : List AnswerDoc) (f : Failure) → Tells h (at.Done (Err f))
@@ -119,20 +140,28 @@ module _ (v : Verifies) (c : CoreDoc) where
     targets-more : (r : RequestDoc) → AsksTargets v c h r → AsksTargets v c next r
     targets-more r w = record { root = w.root; version = w.version; snapshot = w.snapshot; start = w.start; accepted = taken-more _ w.accepted; entry = w.entry; listed = w.listed; is = w.is }
 
+    role-more : (r : RequestDoc) → AsksRole v c h r → AsksRole v c next r
+    role-more r w = record { root = w.root; version = w.version; snapshot = w.snapshot; start = w.start; accepted = taken-more _ w.accepted; name = w.name; entry = w.entry; listed = w.listed; is = w.is }
+
+    accepted-more : (k : KnownDoc) → Accepted h k → Accepted next k
+    accepted-more k w = (w.0, taken-more _ w.1)
+
     -- an answer that isn't waited for
     same-tells : (st : StageDoc) (x : AnswerDoc) → stage_after v c.setting st x ≡ Ok st → Tells h st → Heard st x → Tells next st
     same-tells at.Moment x e t l = tt
     same-tells (at.Fetch (at.Root w) r) x e t l = t
     same-tells (at.Fetch (at.Timestamp b) r) x e t l = t
     same-tells (at.Fetch (at.Snapshot b s n) r) x e t l = snapshot-more r t
-    same-tells (at.Fetch (at.Targets k n) r) x e t l = targets-more r t
+    same-tells (at.Fetch (at.Targets k n) r) x e t l = (accepted-more k t.0, targets-more r t.1)
+    same-tells (at.Fetch (at.Role k roles n) r) x e t l = (accepted-more k t.0, t.1, role-more r t.2)
     same-tells (at.Step (at.NoteTime now)) x e t l = told-more now t
     same-tells (at.Step (at.PutRoot w)) x e t l = t
     same-tells (at.Step (at.PutLast w)) x e t l = (t.0, last-more w.last t.1)
     same-tells (at.Step (at.Clear b)) x e t l = rotated-more (run-same v c h a (at.Step (at.Clear b)) l.1 (subst (λ y. stage_after v c.setting (at.Step (at.Clear b)) y ≡ Ok (at.Step (at.Clear b))) l.0 e)) t
     same-tells (at.Step (at.PutTimestamp b s)) x e t l = tt
     same-tells (at.Step (at.PutSnapshot k n)) x e t l = tt
-    same-tells (at.Step (at.PutTargets k d)) x e t l = tt
+    same-tells (at.Step (at.PutTargets k d)) x e t l = accepted-more k t
+    same-tells (at.Step (at.PutDelegated k roles name d)) x e t l = (accepted-more k t.0, t.1)
     same-tells (at.Done r) x e t l = tt
     same-tells at.Taken x e t l = tt
 
@@ -179,15 +208,39 @@ module _ (v : Verifies) (c : CoreDoc) where
     want_targets-tells : (k : KnownDoc) (n : ℕ) (o : Option MetafileDoc) → metafile_in k.snapshot.role.meta targets_file ≡ o
         → a ≡ got.Step (Ok (tt {0})) → run v c h ≡ in_stage c (at.Step (at.PutSnapshot k n)) → Goes (want_targets c.setting.limits k o)
     want_targets-tells k n None is e stands = tt
-    want_targets-tells k n (Some m) is e stands = record { root = k.root.role; version = n; snapshot = k.snapshot; start = k.start; accepted = took _ (ap question stands) e; entry = m; listed = is; is = refl }
+    want_targets-tells k n (Some m) is e stands =
+        let accepted = took _ (ap question stands) e in
+        ((n, accepted), record { root = k.root.role; version = n; snapshot = k.snapshot; start = k.start; accepted = accepted; entry = m; listed = is; is = refl })
 
-    read-tells : (w : WantedDoc) (r : RequestDoc) (bytes : List ℕ) → Tells h (at.Fetch w r) → Goes (read_wanted v c.setting.enforced w bytes)
+    -- ---- delegated roles
+
+    found-tells : (o : Option Named) (l : LoadedDoc) → Goes (if_found o l)
+    found-tells None l = tt
+    found-tells (Some name) l = tt
+
+    grown-tells : (k : KnownDoc) (received : List ReceivedDoc) (p : Progress) → Accepted next k → Grew k p → Goes (grown_on c.setting.limits k received p)
+    grown-tells k received (wants w m) t g =
+        let l = subst (WantsListed (metas_in k)) g.2 (wanted-listed (metas_in k) g.0 g.1) in
+        let there : metafile_in k.snapshot.role.meta (wanted_name w ++ codes ".json") ≡ Some m = ap (λ x. metafile_in k.snapshot.role.meta (first_name x ++ codes ".json")) l.first ∙ l.listed in
+        (t, (m, g), record { root = k.root.role; version = t.0; snapshot = k.snapshot; start = k.start; accepted = t.1; name = wanted_name w; entry = m; listed = there; is = refl })
+    grown-tells k received (grown t) a g = found-tells (first_missing t.role) (record { known = k; targets = t; received = received })
+
+    given-tells : (k : KnownDoc) (roles : RolesDoc) (m : MetafileDoc) (d : SignedDoc TreeDoc) → Accepted next k → Grew k (wants roles.work m) → Goes (role_given c.setting.limits k roles d)
+    given-tells k roles m d t g =
+        let held = held_as (wanted_name roles.work) d in
+        grown-tells k roles.received (go_on (metas_in k) (given roles.work d)) t (g.0, g.1 ++ held ∷ [], runs-more (metas_in k) g.1 (begun (metas_in k) g.0) roles.work m held g.2)
+
+    read-tells : (w : WantedDoc) (r : RequestDoc) (bytes : List ℕ) → Tells h (at.Fetch w r) → Goes (read_wanted v c.setting w r bytes)
     read-tells (at.Root w) r bytes t = and_then-fine (Tells next) (bad next) (next_root v w.last.role bytes) (λ root. Ok (at.Step (at.PutRoot (record { start = w.start; first = w.first; last = root })))) (λ root is.
         (t.0.0, followed w.last root t.0.1 (next-fine v w.last bytes root is)))
     read-tells (at.Timestamp b) r bytes t = if_read-tells (ParseMetadata role.Timestamp (holds_json bytes)) (timestamp_in bytes) (λ d. at.Step (at.PutTimestamp b d)) (λ d. tt)
     read-tells (at.Snapshot b s n) r bytes t = if_read-tells (ParseMetadata role.Snapshot (holds_json bytes)) (snapshot_in bytes) (λ d. at.Step (at.PutSnapshot (known_of b s d) n)) (λ d. tt)
-    read-tells (at.Targets k n) r bytes t = and_then-fine (Tells next) (bad next) (bare_targets bytes) (accepted_targets v c.setting.enforced k n) (λ d _.
-        and_then-fine (Tells next) (bad next) (targets_checked v c.setting.enforced k n d) (λ u. Ok (at.Step (at.PutTargets k d))) (λ u _. tt))
+    read-tells (at.Targets k n) r bytes t = and_then-fine (Tells next) (bad next) (judged v c.setting.enforced k.start (by_root k.root.role) n bytes) (λ d. Ok (at.Step (at.PutTargets k d))) (λ d _. accepted-more k t.0)
+    read-tells (at.Role k roles n) r bytes t =
+        let kept = with_received roles bytes in
+        and_then-fine (Tells next) (bad next) (judged v c.setting.enforced k.start (role_holder roles.work) n bytes) (role_stored c.setting.limits k kept r.name) (λ d _.
+        if-fine (Tells next) (bad next) (is_reserved r.name) (role_given c.setting.limits k kept d) (Ok (at.Step (at.PutDelegated k kept r.name d))) (λ _. given-tells k kept t.1.0 d (accepted-more k t.0) t.1.1)
+        (accepted-more k t.0, t.1))
 
     step-tells : (p : PendingDoc) → Tells h (at.Step p) → Heard (at.Step p) (got.Step (Ok (tt {0}))) → Goes (after v c.setting p)
     step-tells (at.NoteTime now) t l = and_then-fine (Tells next) (bad next) (first_root v c.setting.trusted) (λ root. walked c.setting.limits (record { start = now; first = root; last = root })) (λ root is.
@@ -197,7 +250,8 @@ module _ (v : Verifies) (c : CoreDoc) where
     step-tells (at.Clear b) t l = refl
     step-tells (at.PutTimestamp b s) t l = want_snapshot-tells b s (metafile_in s.role.meta snapshot_file) refl (sym l.0) l.1
     step-tells (at.PutSnapshot k n) t l = want_targets-tells k n (metafile_in k.snapshot.role.meta targets_file) refl (sym l.0) l.1
-    step-tells (at.PutTargets k d) t l = tt
+    step-tells (at.PutTargets k d) t l = grown-tells k [] (begun (metas_in k) (held_as [] d)) (accepted-more k t) (held_as [] d, [], refl)
+    step-tells (at.PutDelegated k roles name d) t l = given-tells k roles t.1.0 d (accepted-more k t.0) t.1.1
 
     -- a root's fetch ended the walk
     ends-tells : (w : WalkDoc) (r : RequestDoc) (x : AnswerDoc) → EndsWalk x → Tells h (at.Fetch (at.Root w) r) → Heard (at.Fetch (at.Root w) r) x → Tells next (at.Step (at.PutLast w))

@@ -31,14 +31,17 @@ use Rattle.tough_update.specs.Walk.{holds_json, if_read, if_verified, root_verdi
 use Rattle.tough_update.specs.Outcomes.{unless, and_then}
 use Rattle.tough_update.specs.Requests.{RequestDoc, fits_request, root_request, timestamp_request, snapshot_request, targets_request}
 use Rattle.tough_update.specs.Rotation.{is_rotated}
-use Rattle.tough_update.specs.Listed.{targets_in, targets_text, targets_verdict, lists_roles, bare_targets}
-use Rattle.tough_update.specs.Stages.{WalkDoc, BaseDoc, LoadedDoc, StageDoc, SettingDoc, CoreDoc}
+use Rattle.tough_update.specs.Listed.{by_root, targets_text, targets_checked, judged}
+use Rattle.tough_update.specs.Delegated.{metas_in, if_found, grown_on, roles_begun}
+use Rattle.tough_delegated.specs.Bare.{bare, top_page}
+use Rattle.tough_delegated.proofs.lemmas.Bare.{empty-bare, empty-grows}
+use Rattle.tough_update.specs.Stages.{WalkDoc, BaseDoc, ReceivedDoc, LoadedDoc, StageDoc, SettingDoc, CoreDoc}
 use Rattle.tough_update.specs.Stages as at
 use Rattle.tough_update.specs.Questions as ask
 use Rattle.tough_update.specs.declared.request.Fault.TheVariants as fault
 use Rattle.tough_update.specs.Answered.{AnswerDoc}
 use Rattle.tough_update.specs.Answered as got
-use Rattle.tough_update.specs.Machine.{is_memory, fault_failure, question, question_at, answered, settled, stage_after, walked, began, base_of, walk_ended, want_snapshot, known_of, want_targets, targets_checked, accepted_targets, new_targets}
+use Rattle.tough_update.specs.Machine.{is_memory, fault_failure, question, question_at, answered, settled, stage_after, walked, began, base_of, walk_ended, want_snapshot, known_of, want_targets, new_targets}
 use Rattle.tough_update.specs.Runs.{run, IsFresh}
 use Rattle.tough_update.specs.Loadable.{Files, Delivers, Gets, refusal_at_first, step_answer, Honest, AllHonest, Loadable, IsLoaded}
 use Rattle.tough_update.proofs.Alike.{not-rotated}
@@ -115,8 +118,8 @@ module _ (v : Verifies) (files : Files) (s : SettingDoc) (l : LoadedDoc) (able :
   root-passes : refusal_at_first v (act.PutRoot l.known.root) ≡ None
   root-passes = ap (λ o. or_else o None) (has-text (root_text l.known.root) able.root_stored)
 
-  targets-pass : refusal_at_first v (act.PutDocument targets_file (targets_text l.targets)) ≡ None
-  targets-pass = ap (λ o. or_else o None) (has-text (targets_text l.targets) able.targets_stored)
+  targets-pass : refusal_at_first v (act.PutDocument targets_file (targets_text (top_page l.targets))) ≡ None
+  targets-pass = ap (λ o. or_else o None) (has-text (targets_text (top_page l.targets)) able.targets_stored)
 
   -- a document that hasn't expired
   unexpired : (type : RoleType) (expires : ℤ) → is_expired s.enforced l.known.start expires ≡ false → or_else (expiry type s.enforced l.known.start expires) None ≡ None
@@ -150,26 +153,34 @@ module _ (v : Verifies) (files : Files) (s : SettingDoc) (l : LoadedDoc) (able :
 
   -- ---- turn after turn, from the last back to the first
 
+  -- the targets delegate to no role, so that their tree is complete
+  grows : settled (roles_begun s.limits l.known l.targets) ≡ at.Done (Ok l)
+  grows =
+      let done : List ReceivedDoc → StageDoc = λ r. at.Done (Ok (record { known = l.known; targets = l.targets; received = r })) in
+      ap (λ p. settled (grown_on s.limits l.known [] p)) (empty-grows (metas_in l.known) l.targets able.no_roles)
+      ∙ (ap (λ o. settled (if_found o (record { known = l.known; targets = l.targets; received = [] }))) able.found ∙ ap done (sym able.none_received))
+
   leads-put_targets : Leads 1 (at.Step (at.PutTargets l.known l.targets))
-  leads-put_targets = leads-turn 0 (at.Step (at.PutTargets l.known l.targets)) (at.Done (Ok l)) (got.Step (Ok (tt {0}))) (λ e. cc) (passes (act.PutDocument targets_file (targets_text l.targets)) targets-pass) refl leads-done
+  leads-put_targets = leads-turn 0 (at.Step (at.PutTargets l.known l.targets)) (at.Done (Ok l)) (got.Step (Ok (tt {0}))) (λ e. cc) (passes (act.PutDocument targets_file (targets_text (top_page l.targets))) targets-pass) grows leads-done
 
-  taken : (bytes : List ℕ) → targets_in bytes ≡ Some l.targets → bare_targets bytes ≡ Ok l.targets
-  taken bytes h =
-      ap (λ o. if_read (ParseMetadata role.Targets (holds_json bytes)) o (λ d. unless (ParseMetadata role.Targets true) (not (lists_roles d.role.delegations)) (Ok d))) h
-      ∙ ap (λ b. unless (ParseMetadata role.Targets true) (not b) (Ok l.targets)) able.no_roles
+  abbrev page : SignedDoc TargetsDoc
+  page = top_page l.targets
 
-  checked : targets_checked v s.enforced l.known able.targets_entry.version l.targets ≡ Ok (tt {0})
+  checked : targets_checked v s.enforced l.known.start (by_root l.known.root.role) able.targets_entry.version page ≡ Ok (tt {0})
   checked =
       let fault : Refused → Failure = λ r. Checked (VerifyMetadata role.Targets (Some r)) in
-      let expiring : Bool → Result Unit Failure = λ b. unless (Checked (ExpiredMetadata role.Targets l.targets.role.head.expires l.known.start)) (not b) (Ok (tt {0})) in
-      let versioned : Bool → Result Unit Failure = λ b. unless (Checked (VersionMismatch role.Targets l.targets.role.head.version able.targets_entry.version)) b (expiring (is_expired s.enforced l.known.start l.targets.role.head.expires)) in
-      ap (λ w. if_verified fault w (versioned (l.targets.role.head.version == able.targets_entry.version))) (signed-ok v l.known.root.role role.Targets targets_json l.targets able.targets_signed)
+      let expiring : Bool → Result Unit Failure = λ b. unless (Checked (ExpiredMetadata role.Targets page.role.head.expires l.known.start)) (not b) (Ok (tt {0})) in
+      let versioned : Bool → Result Unit Failure = λ b. unless (Checked (VersionMismatch role.Targets page.role.head.version able.targets_entry.version)) b (expiring (is_expired s.enforced l.known.start page.role.head.expires)) in
+      ap (λ w. if_verified fault w (versioned (page.role.head.version == able.targets_entry.version))) (signed-ok v l.known.root.role role.Targets targets_json page able.targets_signed)
       ∙ (ap versioned (eq-eqb _ _ able.targets_version) ∙ ap expiring able.targets_in_time)
 
+  read : judged v s.enforced l.known.start (by_root l.known.root.role) able.targets_entry.version able.targets.bytes ≡ Ok l.targets
+  read =
+      ap (λ o. if_read (ParseMetadata role.Targets (holds_json able.targets.bytes)) o (λ d. and_then (targets_checked v s.enforced l.known.start (by_root l.known.root.role) able.targets_entry.version d) (λ u. Ok (bare d)))) able.targets.reading
+      ∙ (ap (λ r. and_then r (λ u. Ok (bare page))) checked ∙ ap Ok (empty-bare l.targets able.no_roles))
+
   moves-targets : new_targets v s.enforced l.known able.targets_entry.version able.targets.bytes ≡ Ok (at.Step (at.PutTargets l.known l.targets))
-  moves-targets =
-      ap (λ r. and_then r (accepted_targets v s.enforced l.known able.targets_entry.version)) (taken able.targets.bytes able.targets.reading)
-      ∙ ap (λ r. and_then r (λ u. Ok (at.Step (at.PutTargets l.known l.targets)))) checked
+  moves-targets = ap (λ r. and_then r (λ d. Ok (at.Step (at.PutTargets l.known d)))) read
 
   abbrev targets_wanted : StageDoc
   targets_wanted = at.Fetch (at.Targets l.known able.targets_entry.version) (targets_request s.limits l.known.root.role.consistent_snapshot able.targets_entry)

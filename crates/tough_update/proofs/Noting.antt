@@ -14,13 +14,19 @@ use Rattle.tough_update.specs.Failure.{Failure, ParseMetadata, MaxUpdatesExceede
 use Rattle.tough_update.specs.Walk.{holds_json, if_read, first_root, next_root}
 use Rattle.tough_update.specs.Requests.{RequestDoc, root_request, timestamp_request}
 use Rattle.tough_update.specs.Rotation.{is_rotated}
-use Rattle.tough_update.specs.Listed.{bare_targets}
-use Rattle.tough_update.specs.Stages.{WalkDoc, BaseDoc, KnownDoc, WantedDoc, PendingDoc, StageDoc, SettingDoc, CoreDoc}
+use Rattle.tough_update.specs.Listed.{by_root, judged}
+use Rattle.tough_update.specs.Delegated.{role_holder, metas_in, is_reserved, if_found, grown_on, given, role_given, role_stored, with_received}
+use Rattle.tough_names.specs.Named.{Named}
+use Rattle.tough_schema.specs.Whole.{TreeDoc}
+use Rattle.tough_schema.specs.Entries.{first_missing}
+use Rattle.tough_delegated.specs.Growing.{Progress, wants, grown, go_on, begun}
+use Rattle.tough_delegated.specs.Bare.{held_as}
+use Rattle.tough_update.specs.Stages.{WalkDoc, BaseDoc, KnownDoc, WantedDoc, PendingDoc, ReceivedDoc, RolesDoc, LoadedDoc, StageDoc, SettingDoc, CoreDoc}
 use Rattle.tough_update.specs.Stages as at
 use Rattle.tough_update.specs.Questions as ask
 use Rattle.tough_update.specs.Answered.{AnswerDoc}
 use Rattle.tough_update.specs.Answered as got
-use Rattle.tough_update.specs.Machine.{question, question_at, answered, walked, base_of, walk_ended, want_snapshot, known_of, want_targets, targets_checked, accepted_targets, read_wanted, after, settled, stage_after}
+use Rattle.tough_update.specs.Machine.{question, question_at, answered, walked, base_of, walk_ended, want_snapshot, known_of, want_targets, read_wanted, after, settled, stage_after}
 use Rattle.tough_update.specs.Runs.{run}
 use Rattle.tough_update.proofs.Turning.{Fine, unless-fine, if-fine, and_then-fine, keeps-answer}
 use Rattle.tough_update.proofs.Prefixes.{run-on, Parts, parts}
@@ -60,13 +66,25 @@ want_targets-late : (s : SettingDoc) (k : KnownDoc) (o : Option MetafileDoc) →
 want_targets-late s k None = tt
 want_targets-late s k (Some m) = tt
 
+found-late : (o : Option Named) (l : LoadedDoc) → Fine Late bad (if_found o l)
+found-late None l = tt
+found-late (Some name) l = tt
+
+grown-late : (s : SettingDoc) (k : KnownDoc) (received : List ReceivedDoc) (p : Progress) → Fine Late bad (grown_on s.limits k received p)
+grown-late s k received (wants w m) = tt
+grown-late s k received (grown t) = found-late (first_missing t.role) (record { known = k; targets = t; received = received })
+
+given-late : (s : SettingDoc) (k : KnownDoc) (roles : RolesDoc) (d : SignedDoc TreeDoc) → Fine Late bad (role_given s.limits k roles d)
+given-late s k roles d = grown-late s k roles.received (go_on (metas_in k) (given roles.work d))
+
 module _ (v : Verifies) where
-  read-late : (s : SettingDoc) (w : WantedDoc) (bytes : List ℕ) → Fine Late bad (read_wanted v s.enforced w bytes)
-  read-late s (at.Root w) bytes = and_then-fine Late bad (next_root v w.last.role bytes) (λ root. Ok (at.Step (at.PutRoot (record { start = w.start; first = w.first; last = root })))) (λ root _. tt)
-  read-late s (at.Timestamp b) bytes = if_read-late (ParseMetadata role.Timestamp (holds_json bytes)) (timestamp_in bytes) (λ t. at.Step (at.PutTimestamp b t)) (λ t. tt)
-  read-late s (at.Snapshot b t n) bytes = if_read-late (ParseMetadata role.Snapshot (holds_json bytes)) (snapshot_in bytes) (λ d. at.Step (at.PutSnapshot (known_of b t d) n)) (λ d. tt)
-  read-late s (at.Targets k n) bytes = and_then-fine Late bad (bare_targets bytes) (accepted_targets v s.enforced k n) (λ d _.
-      and_then-fine Late bad (targets_checked v s.enforced k n d) (λ u. Ok (at.Step (at.PutTargets k d))) (λ u _. tt))
+  read-late : (s : SettingDoc) (w : WantedDoc) (r : RequestDoc) (bytes : List ℕ) → Fine Late bad (read_wanted v s w r bytes)
+  read-late s (at.Root w) r bytes = and_then-fine Late bad (next_root v w.last.role bytes) (λ root. Ok (at.Step (at.PutRoot (record { start = w.start; first = w.first; last = root })))) (λ root _. tt)
+  read-late s (at.Timestamp b) r bytes = if_read-late (ParseMetadata role.Timestamp (holds_json bytes)) (timestamp_in bytes) (λ t. at.Step (at.PutTimestamp b t)) (λ t. tt)
+  read-late s (at.Snapshot b t n) r bytes = if_read-late (ParseMetadata role.Snapshot (holds_json bytes)) (snapshot_in bytes) (λ d. at.Step (at.PutSnapshot (known_of b t d) n)) (λ d. tt)
+  read-late s (at.Targets k n) r bytes = and_then-fine Late bad (judged v s.enforced k.start (by_root k.root.role) n bytes) (λ d. Ok (at.Step (at.PutTargets k d))) (λ d _. tt)
+  read-late s (at.Role k roles n) r bytes = and_then-fine Late bad (judged v s.enforced k.start (role_holder roles.work) n bytes) (role_stored s.limits k (with_received roles bytes) r.name) (λ d _.
+      if-fine Late bad (is_reserved r.name) (role_given s.limits k (with_received roles bytes) d) (Ok (at.Step (at.PutDelegated k (with_received roles bytes) r.name d))) (λ _. given-late s k (with_received roles bytes) d) tt)
 
   step-late : (s : SettingDoc) (p : PendingDoc) → Fine Late bad (after v s p)
   step-late s (at.NoteTime now) = and_then-fine Late bad (first_root v s.trusted) (λ root. walked s.limits (record { start = now; first = root; last = root })) (λ root _.
@@ -76,11 +94,12 @@ module _ (v : Verifies) where
   step-late s (at.Clear b) = tt
   step-late s (at.PutTimestamp b t) = want_snapshot-late s b t (metafile_in t.role.meta snapshot_file)
   step-late s (at.PutSnapshot k n) = want_targets-late s k (metafile_in k.snapshot.role.meta targets_file)
-  step-late s (at.PutTargets k d) = tt
+  step-late s (at.PutTargets k d) = grown-late s k [] (begun (metas_in k) (held_as [] d))
+  step-late s (at.PutDelegated k roles name d) = given-late s k roles d
 
   answer-late : (s : SettingDoc) (st : StageDoc) (a : AnswerDoc) → Late st → Late (settled (stage_after v s st a))
   answer-late s st a h = keeps-answer v s Late Late bad (λ _ _. ⊤)
-      (record { moment = λ now l _. absurd l; read = λ w r bytes _ _. read-late s w bytes; ends = λ w r a _ _ _. tt; step = λ p _ _. step-late s p; same = λ st a _ _ l _. l }) st a h tt
+      (record { moment = λ now l _. absurd l; read = λ w r bytes _ _. read-late s w r bytes; ends = λ w r a _ _ _. tt; step = λ p _ _. step-late s p; same = λ st a _ _ l _. l }) st a h tt
 
   run-late : (answers : List AnswerDoc) (d : CoreDoc) → Late d.stage → Late (run v d answers).stage
   run-late [] d h = h

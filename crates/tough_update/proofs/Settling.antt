@@ -1,7 +1,7 @@
 -- How a turn of the program ends.
 use Rattle.std.proofs.Common.{◌≡◌, ◌⊎◌, List, ℕ, Result, Ok, Err, refl, sym, ap, ◌∙◌, inl, inr}
 use Rattle.tough_keys.specs.Same.{Verifies}
-use Rattle.tough_update.specs.Failure.{Failure, ParseTrustedMetadata, VerifyTrustedMetadata, ParseMetadata, MaxUpdatesExceeded, ParseUrl, JoinUrl, Transport, Checked, DatastoreOpen, DatastoreCreate, DatastoreRemove, Memory, IsRefused}
+use Rattle.tough_update.specs.Failure.{Failure, ParseTrustedMetadata, VerifyTrustedMetadata, ParseMetadata, MaxUpdatesExceeded, ParseUrl, JoinUrl, Transport, InvalidPath, Checked, DatastoreOpen, DatastoreCreate, DatastoreRemove, Memory, IsRefused}
 use Rattle.tough_update.specs.Stages.{StageDoc, SettingDoc, CoreDoc, Done}
 use Rattle.tough_update.specs.Answered.{AnswerDoc}
 use Rattle.tough_update.specs.Machine.{settled, stage_after}
@@ -19,6 +19,7 @@ failed r (MaxUpdatesExceeded n) h = inl (sym (ap settled h))
 failed r (ParseUrl url e) h = inl (sym (ap settled h))
 failed r (JoinUrl name e) h = inl (sym (ap settled h))
 failed r (Transport e) h = inl (sym (ap settled h))
+failed r (InvalidPath name) h = inl (sym (ap settled h))
 failed r (Checked reason) h = inl (sym (ap settled h))
 failed r (DatastoreOpen path) h = inl (sym (ap settled h))
 failed r (DatastoreCreate path) h = inl (sym (ap settled h))

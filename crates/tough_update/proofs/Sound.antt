@@ -1,5 +1,5 @@
 -- What holds of each stage, and that each answer keeps it.
-use Rattle.std.specs.Prelude.{◌≡◌, ℕ, ℤ, ◌+◌, ◌-◌, ◌^◌, ◌==◌, ◌≤◌, List, [], ◌∷◌, length, Option, Some, None, IfSome, Bool, true, false, IsTrue, ⊤, Result, Ok, Err, nat_lt, nat_le, not, ◌&&◌, is_some, if◌then◌else◌}
+use Rattle.std.specs.Prelude.{◌≡◌, ℕ, ℤ, ◌+◌, ◌-◌, ◌^◌, ◌==◌, ◌≤◌, List, [], ◌∷◌, ◌++◌, length, codes, Option, Some, None, IfSome, Bool, true, false, IsTrue, ⊤, Result, Ok, Err, nat_lt, nat_le, not, ◌&&◌, is_some, if◌then◌else◌}
 use Rattle.std.proofs.Common.{◌≤ℤ◌, int_lt, refl, sym, ◌∙◌, ap, subst, arith}
 use Rattle.jiff_core.proofs.SignedLemmas.{signed_arith}
 use Rattle.std.proofs.lemmas.Bool.{eqb-true, leb-true}
@@ -10,11 +10,11 @@ use Rattle.tough_roles.specs.Signature.{SignedDoc}
 use Rattle.tough_roles.specs.Root.{RootDoc, root_json}
 use Rattle.tough_roles.specs.Timestamp.{TimestampDoc, MetafileDoc, timestamp_json}
 use Rattle.tough_roles.specs.Snapshot.{SnapshotDoc, snapshot_json}
-use Rattle.tough_roles.specs.Verdict.{Refused}
-use Rattle.tough_roles.specs.Chain.{ReachesUnder, IsNext}
+use Rattle.tough_roles.specs.Verdict.{Refused, verdict}
+use Rattle.tough_roles.specs.Chain.{text_by, ReachesUnder, IsNext}
 use Rattle.tough_roles.specs.declared.role_type.RoleType.{RoleType}
 use Rattle.tough_roles.specs.declared.role_type.RoleType.TheVariants as role
-use Rattle.tough_roles.proofs.lemmas.Reached.{ok-reaches}
+use Rattle.tough_roles.proofs.lemmas.Reached.{reaches-from, ok-reaches}
 use Rattle.tough_vault.specs.Checks.{Reason, refuse, or_else, VersionMismatch, VerifyMetadata, OlderMetadata, TimestampMetaLength, expiry, is_expired, ExpiredMetadata, verified, timestamp_first, timestamp_form, snapshot_first, snapshot_form}
 use Rattle.tough_vault.specs.Documents.{root_in, timestamp_in, snapshot_in, metafile_in, timestamp_verdict, snapshot_verdict}
 use Rattle.tough_vault.specs.Files.{snapshot_file, targets_file}
@@ -25,13 +25,32 @@ use Rattle.tough_update.specs.Requests.{RequestDoc, bound, stated_digest, has_di
 use Rattle.tough_schema.specs.Targets.{TargetsDoc, targets_json}
 use Rattle.tough_update.specs.Outcomes.{unless, and_then}
 use Rattle.tough_update.specs.Rotation.{is_rotated}
-use Rattle.tough_update.specs.Listed.{targets_in, targets_verdict, lists_roles, bare_targets}
-use Rattle.tough_update.specs.Stages.{WalkDoc, BaseDoc, KnownDoc, WantedDoc, PendingDoc, StageDoc, SettingDoc}
+use Rattle.tough_update.specs.Listed.{targets_in, HolderDoc, by_root, by_delegations, targets_verdict, targets_checked, judged}
+use Rattle.tough_update.specs.Delegated.{first_name, wanted_name, role_holder, metas_in, is_reserved, if_found, grown_on, roles_begun, given, role_given, role_stored, with_received, new_role}
+use Rattle.tough_names.specs.Named.{Named}
+use Rattle.tough_roles.specs.Policy.{Policy}
+use Rattle.tough_schema.specs.Delegations.{DelegationsDoc}
+use Rattle.tough_schema.specs.Tree.{Entry}
+use Rattle.tough_schema.specs.Verify.{delegated_policy, ReachesDelegated}
+use Rattle.tough_schema.specs.Whole.{TreeDoc, HeldDoc}
+use Rattle.tough_schema.specs.Fresh.{carriers_below}
+use Rattle.tough_schema.specs.Entries.{IsValid, first_missing}
+use Rattle.tough_schema.proofs.lemmas.Valid.{valid-missing}
+use Rattle.tough_delegated.specs.Growing.{WorkDoc, Progress, wants, grown, first_of, holder_of, go_on, begun}
+use Rattle.tough_delegated.specs.Bare.{bare, top_page, held_as}
+use Rattle.tough_delegated.specs.Once.{AreBare, Distinct, runs}
+use Rattle.tough_delegated.specs.Under.{page_of, Relation, Below, AllTaken}
+use Rattle.tough_delegated.specs.Listed.{WantsListed}
+use Rattle.tough_delegated.proofs.lemmas.Bare.{top-bare, bare-none}
+use Rattle.tough_delegated.proofs.lemmas.Once.{grows-once}
+use Rattle.tough_delegated.proofs.lemmas.Listed.{wanted-listed}
+use Rattle.tough_delegated.proofs.lemmas.Under.{stands-under, runs-more, all-more, bare-more}
+use Rattle.tough_update.specs.Stages.{WalkDoc, BaseDoc, KnownDoc, WantedDoc, PendingDoc, ReceivedDoc, RolesDoc, StageDoc, SettingDoc}
 use Rattle.tough_update.specs.Stages as at
 use Rattle.tough_update.specs.Answered.{AnswerDoc}
 use Rattle.tough_update.specs.Answered as got
-use Rattle.tough_update.specs.Machine.{walked, began, new_root, base_of, walk_ended, new_timestamp, want_snapshot, known_of, want_targets, targets_checked, accepted_targets, new_targets, read_wanted, after, stage_after, question_at}
-use Rattle.tough_update.specs.Trusted.{Chain, handed_in, followed, Named, Lists}
+use Rattle.tough_update.specs.Machine.{walked, began, new_root, base_of, walk_ended, new_timestamp, want_snapshot, known_of, want_targets, new_targets, read_wanted, after, stage_after, question_at}
+use Rattle.tough_update.specs.Trusted.{Chain, handed_in, followed, Named, Lists, IsVouched}
 use Rattle.tough_update.specs.Runs.{Keeps, EndsWalk}
 use Rattle.tough_update.proofs.Walking.{under, follows}
 use Rattle.tough_update.proofs.Turning.{Fine, unless-fine, if-fine, and_then-fine, keeps-answer}
@@ -109,34 +128,60 @@ next-fine verifies old bytes root h =
     let n = if-ok (r.0.role.head.version == old.role.head.version + 1) r.0 root (Checked (OlderMetadata role.Root old.role.head.version r.0.role.head.version)) v.1 in
     subst (λ (x : SignedDoc RootDoc). IsNext verifies old x) n.1 (follows verifies old.role old r.0 refl u.0 v.0 (eqb-true _ _ n.0))
 
--- targets that were taken are what the bytes are
-pub bare-read : (bytes : List ℕ) (d : SignedDoc TargetsDoc) → bare_targets bytes ≡ Ok d → targets_in bytes ≡ Some d
-bare-read bytes d h =
-    let r = if_read-ok (ParseMetadata role.Targets (holds_json bytes)) (targets_in bytes) (λ x. unless (ParseMetadata role.Targets true) (not (lists_roles x.role.delegations)) (Ok x)) d h in
-    let n = if-ok (not (lists_roles r.0.role.delegations)) r.0 d (ParseMetadata role.Targets true) r.2 in
-    r.1 ∙ ap Some n.1
-
--- and they list no roles
-pub bare-none : (bytes : List ℕ) (d : SignedDoc TargetsDoc) → bare_targets bytes ≡ Ok d → lists_roles d.role.delegations ≡ false
-bare-none bytes d h =
-    let r = if_read-ok (ParseMetadata role.Targets (holds_json bytes)) (targets_in bytes) (λ x. unless (ParseMetadata role.Targets true) (not (lists_roles x.role.delegations)) (Ok x)) d h in
-    let n = if-ok (not (lists_roles r.0.role.delegations)) r.0 d (ParseMetadata role.Targets true) r.2 in
-    subst (λ (x : SignedDoc TargetsDoc). lists_roles x.role.delegations ≡ false) n.1 (not-true _ n.0)
-
 unless-ok : {A : Type 0} (f : Failure) (b : Bool) (r : Result A Failure) (a : A) → unless f b r ≡ Ok a → IsTrue b × (r ≡ Ok a)
 unless-ok f true r a h = (refl, h)
 unless-ok f false r a h = cc
 
 -- targets that passed their checks
-pub checked-ok : (verifies : Verifies) (enforced : Bool) (k : KnownDoc) (listed : ℕ) (d : SignedDoc TargetsDoc) (u : Unit {0}) → targets_checked verifies enforced k listed d ≡ Ok u
-    → (targets_verdict verifies k.root.role d ≡ Ok (tt {0})) × (d.role.head.version ≡ listed) × (is_expired enforced k.start d.role.head.expires ≡ false)
-checked-ok verifies enforced k listed d u h =
-    let expiring = unless (Checked (ExpiredMetadata role.Targets d.role.head.expires k.start)) (not (is_expired enforced k.start d.role.head.expires)) (Ok (tt {0})) in
-    let v = if_verified-ok (λ x. Checked (VerifyMetadata role.Targets (Some x))) (targets_verdict verifies k.root.role d)
+checked-ok : (verifies : Verifies) (enforced : Bool) (start : ℤ) (holder : HolderDoc) (listed : ℕ) (d : SignedDoc TargetsDoc) (u : Unit {0}) → targets_checked verifies enforced start holder listed d ≡ Ok u
+    → (targets_verdict verifies holder d ≡ Ok (tt {0})) × (d.role.head.version ≡ listed) × (is_expired enforced start d.role.head.expires ≡ false)
+checked-ok verifies enforced start holder listed d u h =
+    let expiring = unless (Checked (ExpiredMetadata role.Targets d.role.head.expires start)) (not (is_expired enforced start d.role.head.expires)) (Ok (tt {0})) in
+    let v = if_verified-ok (λ x. Checked (VerifyMetadata role.Targets (Some x))) (targets_verdict verifies holder d)
     (unless (Checked (VersionMismatch role.Targets d.role.head.version listed)) (d.role.head.version == listed) expiring) u h in
     let w = unless-ok (Checked (VersionMismatch role.Targets d.role.head.version listed)) (d.role.head.version == listed) expiring u v.1 in
-    let x = unless-ok (Checked (ExpiredMetadata role.Targets d.role.head.expires k.start)) (not (is_expired enforced k.start d.role.head.expires)) (Ok (tt {0})) u w.1 in
+    let x = unless-ok (Checked (ExpiredMetadata role.Targets d.role.head.expires start)) (not (is_expired enforced start d.role.head.expires)) (Ok (tt {0})) u w.1 in
     (v.0, eqb-true _ _ w.0, not-true _ x.0)
+
+and_then-ok : {A B : Type 0} (r : Result A Failure) (f : A → Result B Failure) (b : B) → and_then r f ≡ Ok b → (a : A) × (r ≡ Ok a) × (f a ≡ Ok b)
+and_then-ok (Ok a) f b h = (a, refl, h)
+and_then-ok (Err e) f b h = cc
+
+-- targets that were read and passed
+pub record Passed (verifies : Verifies) (enforced : Bool) (start : ℤ) (holder : HolderDoc) (listed : ℕ) (bytes : List ℕ) (d : SignedDoc TreeDoc) : Type 0 where
+  pub page : SignedDoc TargetsDoc
+  pub is : d ≡ bare page
+  pub reading : targets_in bytes ≡ Some page
+  pub verified : targets_verdict verifies holder page ≡ Ok (tt {0})
+  pub version : page.role.head.version ≡ listed
+  pub in_time : is_expired enforced start page.role.head.expires ≡ false
+
+pub judged-ok : (verifies : Verifies) (enforced : Bool) (start : ℤ) (holder : HolderDoc) (listed : ℕ) (bytes : List ℕ) (d : SignedDoc TreeDoc) → judged verifies enforced start holder listed bytes ≡ Ok d
+    → Passed verifies enforced start holder listed bytes d
+judged-ok verifies enforced start holder listed bytes d h =
+    let r = if_read-ok (ParseMetadata role.Targets (holds_json bytes)) (targets_in bytes) (λ x. and_then (targets_checked verifies enforced start holder listed x) (λ u. Ok (bare x))) d h in
+    let p = and_then-ok (targets_checked verifies enforced start holder listed r.0) (λ u. Ok (bare r.0)) d r.2 in
+    let c = checked-ok verifies enforced start holder listed r.0 p.0 p.1 in
+    record { page = r.0; is = cc (p.2); reading = r.1; verified = c.0; version = c.1; in_time = c.2 }
+
+-- ---- delegations that vouch
+
+delegated-at : (verifies : Verifies) (g : DelegationsDoc) (name : List ℕ) (d : SignedDoc TargetsDoc) (p : Option Policy) (text : Option (List ℕ)) → delegated_policy g name ≡ p → text_by targets_json d.role ≡ text
+    → verdict verifies p text d.signatures ≡ Ok tt → ReachesDelegated verifies g name targets_json d
+unfolding verdict
+delegated-at verifies g name d None text e f h = cc
+delegated-at verifies g name d (Some p) None e f h = cc
+delegated-at verifies g name d (Some p) (Some t) e f h = record { asked = p; there = e; text = t; canonical = f; reached = reaches-from verifies p t d.signatures h }
+
+vouched : (verifies : Verifies) (entries : List (List ℕ × MetafileDoc)) (g : Option DelegationsDoc) (name : List ℕ) (d : SignedDoc TargetsDoc) → targets_verdict verifies (by_delegations g name) d ≡ Ok tt
+    → Lists targets_in entries (name ++ codes ".json") d.role.head.version d → IsVouched verifies entries g name d
+unfolding verdict
+vouched verifies entries None name d h l = cc
+vouched verifies entries (Some g) name d h l = (delegated-at verifies g name d (delegated_policy g name) (text_by targets_json d.role) refl refl h, l)
+
+first-entry : (waiting : List Entry) (U : List ℕ → Type 0) → U (first_name waiting) → IfSome (first_of waiting) (λ e. U e.name)
+first-entry [] U h = tt
+first-entry (e ∷ rest) U h = h
 
 -- ---- steps that succeeded
 
@@ -187,13 +232,35 @@ module _ (verifies : Verifies) (s : SettingDoc) (N : ℤ → Type 0) (E : Signed
   AskedBy entries name limit listed r = (m : MetafileDoc) × (metafile_in entries name ≡ Some m) × (listed ≡ m.version) × (r.max_size ≡ bound m.length limit) × (r.sha256 ≡ stated_digest m.hashes)
 
   abbrev pub TargetsFine : KnownDoc → SignedDoc TargetsDoc → Type 0
-  TargetsFine k d = ReachesUnder verifies k.root.role role.Targets targets_json d × Lists targets_in k.snapshot.role.meta targets_file d.role.head.version d × InTime k.start d.role.head.expires × (lists_roles d.role.delegations ≡ false)
+  TargetsFine k d = ReachesUnder verifies k.root.role role.Targets targets_json d × Lists targets_in k.snapshot.role.meta targets_file d.role.head.version d × InTime k.start d.role.head.expires
+
+  -- what is known of a delegated document
+  abbrev pub RoleFine : KnownDoc → Relation
+  RoleFine k g name d = IsVouched verifies k.snapshot.role.meta g name d × InTime k.start d.role.head.expires
+
+  -- the tree began with targets, and took documents, so far
+  pub record GrowsTo (k : KnownDoc) (p : Progress) : Type 0 where
+    pub top : SignedDoc TargetsDoc
+    pub fine : TargetsFine k top
+    pub documents : List HeldDoc
+    pub read : AreBare documents
+    pub taken : AllTaken (RoleFine k) (metas_in k) (begun (metas_in k) (held_as [] (bare top))) documents
+    pub grows : runs (metas_in k) (begun (metas_in k) (held_as [] (bare top))) documents ≡ p
+
+  -- the tree is complete
+  pub record TreeFine (k : KnownDoc) (t : SignedDoc TreeDoc) : Type 0 where
+    pub top : TargetsFine k (top_page t)
+    pub below : Below (RoleFine k) t.role
+    pub once : Distinct (carriers_below t.role)
+    pub found : IsValid t.role
 
   abbrev pub HoldsWanted : WantedDoc → RequestDoc → Type 0
   HoldsWanted (at.Root w) r = N w.start × Chain verifies s.trusted w.last × (r ≡ root_request s.limits (w.last.role.head.version + 1))
   HoldsWanted (at.Timestamp b) r = BaseFine b.start b.root
   HoldsWanted (at.Snapshot b t listed) r = BaseFine b.start b.root × TimestampFine b.start b.root t × AskedBy t.role.meta snapshot_file s.limits.max_snapshot_size listed r
   HoldsWanted (at.Targets k listed) r = KnownFine k × AskedBy k.snapshot.role.meta targets_file s.limits.max_targets_size listed r
+  HoldsWanted (at.Role k roles listed) r =
+      KnownFine k × ((m : MetafileDoc) × GrowsTo k (wants roles.work m)) × AskedBy k.snapshot.role.meta (wanted_name roles.work ++ codes ".json") s.limits.max_targets_size listed r
 
   abbrev pub HoldsPending : PendingDoc → Type 0
   HoldsPending (at.NoteTime now) = ⊤
@@ -202,12 +269,14 @@ module _ (verifies : Verifies) (s : SettingDoc) (N : ℤ → Type 0) (E : Signed
   HoldsPending (at.Clear b) = BaseFine b.start b.root
   HoldsPending (at.PutTimestamp b t) = BaseFine b.start b.root
   HoldsPending (at.PutSnapshot k listed) = BaseFine k.start k.root × TimestampFine k.start k.root k.timestamp × Lists snapshot_in k.timestamp.role.meta snapshot_file listed k.snapshot
-  HoldsPending (at.PutTargets k d) = KnownFine k × TargetsFine k d
+  HoldsPending (at.PutTargets k d) = KnownFine k × ((top : SignedDoc TargetsDoc) × (d ≡ bare top) × TargetsFine k top)
+  HoldsPending (at.PutDelegated k roles name d) =
+      KnownFine k × ((m : MetafileDoc) × GrowsTo k (wants roles.work m)) × ((page : SignedDoc TargetsDoc) × (d ≡ bare page) × RoleFine k (holder_of roles.work) (wanted_name roles.work) page)
 
   abbrev pub Holds : StageDoc → Type 0
   Holds (at.Fetch w r) = HoldsWanted w r
   Holds (at.Step p) = HoldsPending p
-  Holds (at.Done (Ok l)) = KnownFine l.known × TargetsFine l.known l.targets
+  Holds (at.Done (Ok l)) = KnownFine l.known × TreeFine l.known l.targets
   Holds _ = ⊤
 
   -- what the history says of an answer
@@ -292,17 +361,81 @@ module _ (verifies : Verifies) (s : SettingDoc) (N : ℤ → Type 0) (E : Signed
 
     new_targets-fine : (k : KnownDoc) (listed : ℕ) (r : RequestDoc) (bytes : List ℕ) → IsTrue (fits_request r bytes) → HoldsWanted (at.Targets k listed) r
         → Fine Holds bad (new_targets verifies s.enforced k listed bytes)
-    new_targets-fine k listed r bytes fit h = and_then-fine Holds bad (bare_targets bytes) (accepted_targets verifies s.enforced k listed) (λ d is.
-        and_then-fine Holds bad (targets_checked verifies s.enforced k listed d) (λ u. Ok (at.Step (at.PutTargets k d))) (λ u passed.
-        let c = checked-ok verifies s.enforced k listed d u passed in
-        let named = named-by targets_in k.snapshot.role.meta targets_file s.limits.max_targets_size listed r bytes d (bare-read bytes d is) fit h.1 in
-        (h.0, (ok-reaches verifies k.root.role role.Targets targets_json d (Ok (tt {0})) c.0, subst (λ n. Lists targets_in k.snapshot.role.meta targets_file n d) (sym c.1) named, c.2, bare-none bytes d is))))
+    new_targets-fine k listed r bytes fit h = and_then-fine Holds bad (judged verifies s.enforced k.start (by_root k.root.role) listed bytes) (λ d. Ok (at.Step (at.PutTargets k d))) (λ d is.
+        let p = judged-ok verifies s.enforced k.start (by_root k.root.role) listed bytes d is in
+        let named = named-by targets_in k.snapshot.role.meta targets_file s.limits.max_targets_size listed r bytes p.page p.reading fit h.1 in
+        (h.0, (p.page, p.is, (ok-reaches verifies k.root.role role.Targets targets_json p.page (Ok (tt {0})) p.verified, subst (λ n. Lists targets_in k.snapshot.role.meta targets_file n p.page) (sym p.version) named, p.in_time))))
 
-    read-fine : (w : WantedDoc) (r : RequestDoc) (bytes : List ℕ) → Holds (at.Fetch w r) → Heard (at.Fetch w r) (got.Bytes bytes) → Fine Holds bad (read_wanted verifies s.enforced w bytes)
+    -- ---- delegated roles
+
+    -- a tree that is complete, where each name is found
+    tree-fine : (k : KnownDoc) (t : SignedDoc TreeDoc) → GrowsTo k (grown t) → first_missing t.role ≡ None → TreeFine k t
+    tree-fine k t g none =
+        let metas = metas_in k in
+        let top = held_as [] (bare g.top) in
+        let stands = stands-under (RoleFine k) metas top g.documents t (bare-none g.top) g.taken g.grows in
+        record {
+          top = subst (TargetsFine k) (sym (stands.1 ∙ top-bare g.top)) g.fine;
+          below = stands.0;
+          once = grows-once metas top g.documents t (bare-none g.top) g.read g.grows;
+          found = (valid-missing t.role).1 none;
+        }
+
+    found-fine : (k : KnownDoc) (received : List ReceivedDoc) (t : SignedDoc TreeDoc) (o : Option Named) → first_missing t.role ≡ o → KnownFine k → GrowsTo k (grown t)
+        → Fine Holds bad (if_found o (record { known = k; targets = t; received = received }))
+    found-fine k received t None is h g = (h, tree-fine k t g is)
+    found-fine k received t (Some name) is h g = tt
+
+    grown-fine : (k : KnownDoc) (received : List ReceivedDoc) (p : Progress) → KnownFine k → GrowsTo k p → Fine Holds bad (grown_on s.limits k received p)
+    grown-fine k received (wants w m) h g =
+        let l = subst (WantsListed (metas_in k)) g.grows (wanted-listed (metas_in k) (held_as [] (bare g.top)) g.documents) in
+        let there : metafile_in k.snapshot.role.meta (wanted_name w ++ codes ".json") ≡ Some m = ap (λ x. metafile_in k.snapshot.role.meta (first_name x ++ codes ".json")) l.first ∙ l.listed in
+        (h, (m, g), (m, there, refl, refl, refl))
+    grown-fine k received (grown t) h g = found-fine k received t (first_missing t.role) refl h g
+
+    begun-fine : (k : KnownDoc) (d : SignedDoc TreeDoc) → HoldsPending (at.PutTargets k d) → Fine Holds bad (roles_begun s.limits k d)
+    begun-fine k d h = subst (λ x. Fine Holds bad (roles_begun s.limits k x)) (sym h.1.1)
+        (grown-fine k [] (begun (metas_in k) (held_as [] (bare h.1.0))) h.0 (record { top = h.1.0; fine = h.1.2; documents = []; read = tt; taken = tt; grows = refl }))
+
+    -- one document more
+    grows-on : (k : KnownDoc) (w : WorkDoc) (m : MetafileDoc) (page : SignedDoc TargetsDoc) → GrowsTo k (wants w m) → RoleFine k (holder_of w) (wanted_name w) page → GrowsTo k (go_on (metas_in k) (given w (bare page)))
+    grows-on k w m page g u =
+        let held = held_as (wanted_name w) (bare page) in
+        let first = begun (metas_in k) (held_as [] (bare g.top)) in
+        let fine : IfSome (first_of w.waiting) (λ e. RoleFine k (holder_of w) e.name (page_of held)) =
+        first-entry w.waiting (λ n. RoleFine k (holder_of w) n (page_of held)) (subst (λ d. RoleFine k (holder_of w) (wanted_name w) d) (sym (top-bare page)) u) in
+        record {
+          top = g.top;
+          fine = g.fine;
+          documents = g.documents ++ held ∷ [];
+          read = bare-more g.documents held g.read (bare-none page);
+          taken = all-more (RoleFine k) (metas_in k) g.documents first w m held g.grows g.taken (bare-none page) fine;
+          grows = runs-more (metas_in k) g.documents first w m held g.grows;
+        }
+
+    given-fine : (k : KnownDoc) (roles : RolesDoc) (m : MetafileDoc) (d : SignedDoc TreeDoc) (page : SignedDoc TargetsDoc) → d ≡ bare page → KnownFine k → GrowsTo k (wants roles.work m)
+        → RoleFine k (holder_of roles.work) (wanted_name roles.work) page → Fine Holds bad (role_given s.limits k roles d)
+    given-fine k roles m d page is h g u = subst (λ x. Fine Holds bad (role_given s.limits k roles x)) (sym is) (grown-fine k roles.received (go_on (metas_in k) (given roles.work (bare page))) h (grows-on k roles.work m page g u))
+
+    new_role-fine : (k : KnownDoc) (roles : RolesDoc) (listed : ℕ) (r : RequestDoc) (bytes : List ℕ) → IsTrue (fits_request r bytes) → HoldsWanted (at.Role k roles listed) r
+        → Fine Holds bad (new_role verifies s k roles listed r.name bytes)
+    new_role-fine k roles listed r bytes fit h =
+        let kept = with_received roles bytes in
+        and_then-fine Holds bad (judged verifies s.enforced k.start (role_holder roles.work) listed bytes) (role_stored s.limits k kept r.name) (λ d is.
+        let name = wanted_name roles.work in
+        let p = judged-ok verifies s.enforced k.start (role_holder roles.work) listed bytes d is in
+        let named = named-by targets_in k.snapshot.role.meta (name ++ codes ".json") s.limits.max_targets_size listed r bytes p.page p.reading fit h.2 in
+        let fine : RoleFine k (holder_of roles.work) name p.page =
+        (vouched verifies k.snapshot.role.meta (holder_of roles.work) name p.page p.verified (subst (λ n. Lists targets_in k.snapshot.role.meta (name ++ codes ".json") n p.page) (sym p.version) named), p.in_time) in
+        if-fine Holds bad (is_reserved r.name) (role_given s.limits k kept d) (Ok (at.Step (at.PutDelegated k kept r.name d))) (λ _. given-fine k kept h.1.0 d p.page p.is h.0 h.1.1 fine)
+        (h.0, h.1, (p.page, p.is, fine)))
+
+    read-fine : (w : WantedDoc) (r : RequestDoc) (bytes : List ℕ) → Holds (at.Fetch w r) → Heard (at.Fetch w r) (got.Bytes bytes) → Fine Holds bad (read_wanted verifies s w r bytes)
     read-fine (at.Root w) r bytes h l = new_root-fine w bytes h.0 h.1
     read-fine (at.Timestamp b) r bytes h l = new_timestamp-fine b bytes (timestamp_in bytes) h
     read-fine (at.Snapshot b t listed) r bytes h l = new_snapshot-fine b t listed r bytes (snapshot_in bytes) refl l.0 h
     read-fine (at.Targets k listed) r bytes h l = new_targets-fine k listed r bytes l.0 h
+    read-fine (at.Role k roles listed) r bytes h l = new_role-fine k roles listed r bytes l.0 h
 
     step-fine : (p : PendingDoc) → Holds (at.Step p) → Heard (at.Step p) (got.Step (Ok (tt {0}))) → Fine Holds bad (after verifies s p)
     step-fine (at.NoteTime now) h l = began-fine now (l.1 refl)
@@ -313,7 +446,8 @@ module _ (verifies : Verifies) (s : SettingDoc) (N : ℤ → Type 0) (E : Signed
         let p = timestamp-passes verifies b.root.role t l.0.0 in
         want_snapshot-fine b t (metafile_in t.role.meta snapshot_file) refl h (p.0, p.1, not-expired role.Timestamp s.enforced b.start t.role.head.expires l.0.1)
     step-fine (at.PutSnapshot k listed) h l = want_targets-fine k (metafile_in k.snapshot.role.meta targets_file) refl (known-fine k listed h l.0)
-    step-fine (at.PutTargets k d) h l = h
+    step-fine (at.PutTargets k d) h l = begun-fine k d h
+    step-fine (at.PutDelegated k roles name d) h l = given-fine k roles h.1.0 d h.2.0 h.2.1 h.0 h.1.1 h.2.2
 
     -- each answer keeps what holds of a stage
     pub answer-fine : (stage : StageDoc) (a : AnswerDoc) → Holds stage → Heard stage a → Fine Holds bad (stage_after verifies s stage a)

@@ -64,7 +64,7 @@ module _ (verifies : Verifies) (s : SettingDoc) (P Q : StageDoc → Type 0) (bad
   -- what is to be shown, with what is heard of each answer
   pub record Kept : Type 0 where
     pub moment : (now : ℤ) → P at.Moment → Heard at.Moment (got.Moment now) → Q (at.Step (at.NoteTime now))
-    pub read : (w : WantedDoc) (r : RequestDoc) (bytes : List ℕ) → P (at.Fetch w r) → Heard (at.Fetch w r) (got.Bytes bytes) → Fine Q bad (read_wanted verifies s.enforced w bytes)
+    pub read : (w : WantedDoc) (r : RequestDoc) (bytes : List ℕ) → P (at.Fetch w r) → Heard (at.Fetch w r) (got.Bytes bytes) → Fine Q bad (read_wanted verifies s w r bytes)
     pub ends : (w : WalkDoc) (r : RequestDoc) (a : AnswerDoc) → EndsWalk a → P (at.Fetch (at.Root w) r) → Heard (at.Fetch (at.Root w) r) a → Q (at.Step (at.PutLast w))
     pub step : (p : PendingDoc) → P (at.Step p) → Heard (at.Step p) (got.Step (Ok (tt {0}))) → Fine Q bad (after verifies s p)
     -- an answer that isn't waited for

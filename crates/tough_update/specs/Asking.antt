@@ -1,5 +1,6 @@
 -- The files that an update asks for (TUF specification 1.0, sections 5.3 to 5.6), over any answers.
-use Rattle.std.specs.Prelude.{◌≡◌, ◌≤◌, ◌⊎◌, ℕ, ℤ, ◌+◌, zero, suc, List, [], ◌∷◌, ◌++◌, length, Option, None, Some, Ok}
+use Rattle.std.specs.Prelude.{◌≡◌, ◌≤◌, ◌⊎◌, ℕ, ℤ, ◌+◌, zero, suc, List, [], ◌∷◌, ◌++◌, length, codes, Bool, Option, None, Some, Ok}
+use Rattle.std.specs.List.{AllByRecursion}
 use Rattle.tough_keys.specs.Same.{Verifies}
 use Rattle.tough_roles.specs.Signature.{SignedDoc}
 use Rattle.tough_roles.specs.Root.{RootDoc}
@@ -9,7 +10,7 @@ use Rattle.tough_vault.specs.Act.{Act, AdvanceTimestamp, AdvanceSnapshot}
 use Rattle.tough_vault.specs.Documents.{root_in, metafile_in}
 use Rattle.tough_vault.specs.Files.{snapshot_file, targets_file}
 use Rattle.tough_update.specs.declared.limits.Limits.{Limits}
-use Rattle.tough_update.specs.Requests.{RequestDoc, root_request, timestamp_request, snapshot_request, targets_request}
+use Rattle.tough_update.specs.Requests.{RequestDoc, root_request, timestamp_request, snapshot_request, targets_request, role_request}
 use Rattle.tough_update.specs.Stages.{CoreDoc}
 use Rattle.tough_update.specs.Questions.{Question}
 use Rattle.tough_update.specs.Questions as ask
@@ -55,9 +56,21 @@ pub record AsksTargets (verifies : Verifies) (c : CoreDoc) (answers : List Answe
   pub listed : metafile_in snapshot.role.meta targets_file ≡ Some entry
   pub is : r ≡ targets_request c.setting.limits root.consistent_snapshot entry
 
--- one of the four files
+-- the document of a delegated role, as the snapshot that was accepted lists it
+pub record AsksRole (verifies : Verifies) (c : CoreDoc) (answers : List AnswerDoc) (r : RequestDoc) : Type 0 where
+  pub root : RootDoc
+  pub version : ℕ
+  pub snapshot : SignedDoc SnapshotDoc
+  pub start : ℤ
+  pub accepted : HasTaken verifies c answers (AdvanceSnapshot root version snapshot start c.setting.enforced)
+  pub name : List ℕ
+  pub entry : MetafileDoc
+  pub listed : metafile_in snapshot.role.meta (name ++ codes ".json") ≡ Some entry
+  pub is : r ≡ role_request c.setting.limits root.consistent_snapshot name entry
+
+-- one of the five kinds of file
 abbrev pub AsksFile : Verifies → CoreDoc → List AnswerDoc → RequestDoc → Type 0
-AsksFile verifies c answers r = AsksRoot verifies c r ⊎ ((r ≡ timestamp_request c.setting.limits) ⊎ (AsksSnapshot verifies c answers r ⊎ AsksTargets verifies c answers r))
+AsksFile verifies c answers r = AsksRoot verifies c r ⊎ ((r ≡ timestamp_request c.setting.limits) ⊎ (AsksSnapshot verifies c answers r ⊎ (AsksTargets verifies c answers r ⊎ AsksRole verifies c answers r)))
 
 -- ---- how many files are asked for
 
@@ -83,11 +96,17 @@ abbrev pub first_version : Option (SignedDoc RootDoc) → ℕ
 first_version None = 0
 first_version (Some r) = r.role.head.version
 
--- Roots one after another, from the one after the root that was handed in and at most as many as the limit allows; and then at most three
--- files.
+-- the document of some delegated role, as some entry says
+abbrev pub IsOfRole : Limits → RequestDoc → Type 0
+IsOfRole l r = (consistent : Bool) × (name : List ℕ) × (entry : MetafileDoc) × (r ≡ role_request l consistent name entry)
+
+-- Roots one after another, from the one after the root that was handed in and at most as many as the limit allows; then at most three
+-- files; and then documents of delegated roles.
 pub record AsksFew (verifies : Verifies) (c : CoreDoc) (answers : List AnswerDoc) : Type 0 where
   pub roots : ℕ
   pub few : roots ≤ c.setting.limits.max_root_updates
   pub others : List RequestDoc
-  pub all : requests verifies c answers ≡ roots_after c.setting.limits (first_version (root_in c.setting.trusted)) roots ++ others
+  pub roles : List RequestDoc
+  pub all : requests verifies c answers ≡ roots_after c.setting.limits (first_version (root_in c.setting.trusted)) roots ++ (others ++ roles)
   pub three : length others ≤ 3
+  pub delegated : AllByRecursion (IsOfRole c.setting.limits) roles

@@ -1,11 +1,14 @@
 -- Why an update failed, apart from the member that makes bytes no document.
-use Rattle.std.specs.Prelude.{◌≡◌, ℕ, ℤ, List, Option, Bool, true, false, Result, Ok, Err, string_bytes, ⊤}
+use Rattle.std.specs.Prelude.{◌≡◌, ℕ, ℤ, List, Option, Some, None, Bool, true, false, Result, Ok, Err, string_bytes, ⊤}
 use Rattle.url.specs.declared.error.ParseError.{ParseError}
 use Rattle.tough_json.specs.declared.error.ReadError.{ReadError}
+use Rattle.tough_names.specs.Named.{Named}
 use Rattle.tough_json.specs.declared.error.ReadError.TheVariants.{Shape}
 use Rattle.tough_net.specs.declared.error.TransportError.{TransportError}
 use Rattle.tough_roles.specs.declared.role_type.RoleType.{RoleType}
 use Rattle.tough_roles.specs.Verdict.{Refused}
+use Rattle.tough_roles.specs.declared.error.Error as schema
+use Rattle.tough_roles.specs.declared.error.Error.TheVariants as schemas
 use Rattle.tough_vault.specs.Checks as check
 use Rattle.tough_vault.specs.Checks.{Reason, refused, reason_of}
 use Rattle.tough_vault.specs.declared.checks.StepError.{StepError}
@@ -28,6 +31,8 @@ pub data Failure : Type 0 where
   JoinUrl : List ℕ → ParseError → Failure
   -- the file couldn't be fetched, and what the transport told
   Transport : TransportError → Failure
+  -- this name, which a document of the tree lists, isn't found
+  InvalidPath : Option Named → Failure
   -- a check refused
   Checked : Reason → Failure
   -- the store couldn't read, write or remove the file of this name
@@ -41,6 +46,11 @@ abbrev pub is_json : ReadError → Bool
 is_json (Shape name) = true
 is_json _ = false
 
+-- the name that isn't found
+abbrev pub name_missing : schema.Error → Option Named
+name_missing (schemas.TargetNotFound name) = Some name
+name_missing _ = None
+
 abbrev pub failure_of : Error → Failure
 failure_of (error.ParseTrustedMetadata source) = ParseTrustedMetadata (is_json source)
 failure_of (error.VerifyTrustedMetadata source) = VerifyTrustedMetadata (refused source)
@@ -49,6 +59,7 @@ failure_of (error.MaxUpdatesExceeded n) = MaxUpdatesExceeded n
 failure_of (error.ParseUrl url source) = ParseUrl (string_bytes url) source
 failure_of (error.JoinUrl path source) = JoinUrl (string_bytes path) source
 failure_of (error.Transport source) = Transport source
+failure_of (error.InvalidPath source) = InvalidPath (name_missing source)
 failure_of (error.SystemTimeSteppedBackward now later) = Checked (check.SystemTimeSteppedBackward now.nanosecond later.nanosecond)
 failure_of error.DatastoreSerialize = Checked check.DatastoreSerialize
 failure_of (error.VerifyMetadata role source) = Checked (check.VerifyMetadata role (refused source))

@@ -5,6 +5,7 @@ pub mod Requests
 pub mod Rotation
 pub mod Listed
 pub mod Stages
+pub mod Delegated
 pub mod Questions
 pub mod Answered
 pub mod Machine

@@ -1,19 +1,23 @@
--- Targets as an update takes them (TUF specification 1.0, section 5.6).
-use Rattle.std.specs.Prelude.{ℕ, List, length, Option, Some, None, Bool, true, false, not, nat_lt, option_and_then, Result, Ok}
+-- Targets as an update takes them: those of a repository, and the documents of delegated roles (TUF specification 1.0, section 5.6).
+use Rattle.std.specs.Prelude.{ℕ, ℤ, ◌==◌, List, length, Option, Some, None, Bool, not, option_and_then, Result, Ok}
 use Rattle.tough_json.specs.Results.{json_of}
 use Rattle.tough_keys.specs.Same.{Verifies}
 use Rattle.tough_roles.specs.Signature.{SignedDoc, signed_at, signed_json}
 use Rattle.tough_roles.specs.Root.{RootDoc}
-use Rattle.tough_roles.specs.Policy.{policy}
+use Rattle.tough_roles.specs.Policy.{Policy, policy}
 use Rattle.tough_roles.specs.Verdict.{Refused, verdict}
 use Rattle.tough_roles.specs.Chain.{text_by}
 use Rattle.tough_roles.specs.declared.role_type.RoleType.TheVariants as role
 use Rattle.tough_schema.specs.Delegations.{DelegationsDoc}
 use Rattle.tough_schema.specs.Targets.{TargetsDoc, targets_at, targets_json}
+use Rattle.tough_schema.specs.Verify.{delegated_policy}
+use Rattle.tough_schema.specs.Whole.{TreeDoc}
+use Rattle.tough_delegated.specs.Bare.{bare}
+use Rattle.tough_vault.specs.Checks.{VerifyMetadata, VersionMismatch, ExpiredMetadata, is_expired}
 use Rattle.tough_vault.specs.Documents.{stored_text}
-use Rattle.tough_update.specs.Failure.{Failure, ParseMetadata}
-use Rattle.tough_update.specs.Walk.{if_read, holds_json}
-use Rattle.tough_update.specs.Outcomes.{unless}
+use Rattle.tough_update.specs.Failure.{Failure, ParseMetadata, Checked}
+use Rattle.tough_update.specs.Walk.{if_read, holds_json, if_verified}
+use Rattle.tough_update.specs.Outcomes.{unless, and_then}
 
 -- the signed targets that bytes are
 abbrev pub targets_in : List ℕ → Option (SignedDoc TargetsDoc)
@@ -23,14 +27,27 @@ targets_in bytes = option_and_then (signed_at targets_at) (json_of bytes)
 abbrev pub targets_text : SignedDoc TargetsDoc → Option (List ℕ)
 targets_text d = option_and_then stored_text (signed_json targets_json d)
 
--- what a root's verification of signed targets answers
-abbrev pub targets_verdict : Verifies → RootDoc → SignedDoc TargetsDoc → Result Unit Refused
-targets_verdict verifies root d = verdict verifies (policy root role.Targets) (text_by targets_json d.role) d.signatures
+-- who vouches for targets: a root, or the delegations, if there are any, that the first role of this name stands in
+pub data HolderDoc : Type 0 where
+  by_root : RootDoc → HolderDoc
+  by_delegations : Option DelegationsDoc → List ℕ → HolderDoc
 
-abbrev pub lists_roles : Option DelegationsDoc → Bool
-lists_roles None = false
-lists_roles (Some g) = nat_lt 0 (length g.roles)
+-- what they ask of the signatures
+abbrev pub policy_in : HolderDoc → Option Policy
+policy_in (by_root root) = policy root role.Targets
+policy_in (by_delegations g name) = option_and_then (λ d. delegated_policy d name) g
 
--- targets that delegate to a role aren't taken yet
-abbrev pub bare_targets : List ℕ → Result (SignedDoc TargetsDoc) Failure
-bare_targets bytes = if_read (ParseMetadata role.Targets (holds_json bytes)) (targets_in bytes) (λ d. unless (ParseMetadata role.Targets true) (not (lists_roles d.role.delegations)) (Ok d))
+abbrev pub targets_verdict : Verifies → HolderDoc → SignedDoc TargetsDoc → Result Unit Refused
+targets_verdict verifies holder d = verdict verifies (policy_in holder) (text_by targets_json d.role) d.signatures
+
+-- they must reach the threshold, have the listed version, and not be expired when the update began
+abbrev pub targets_checked : Verifies → Bool → ℤ → HolderDoc → ℕ → SignedDoc TargetsDoc → Result Unit Failure
+targets_checked verifies enforced start holder listed d = if_verified (λ r. Checked (VerifyMetadata role.Targets (Some r))) (targets_verdict verifies holder d)
+    (unless (Checked (VersionMismatch role.Targets d.role.head.version listed)) (d.role.head.version == listed)
+    (unless (Checked (ExpiredMetadata role.Targets d.role.head.expires start)) (not (is_expired enforced start d.role.head.expires))
+    (Ok (tt {0}))))
+
+-- targets that were read and checked; none of their roles has a document
+abbrev pub judged : Verifies → Bool → ℤ → HolderDoc → ℕ → List ℕ → Result (SignedDoc TreeDoc) Failure
+judged verifies enforced start holder listed bytes = if_read (ParseMetadata role.Targets (holds_json bytes)) (targets_in bytes) (λ d.
+    and_then (targets_checked verifies enforced start holder listed d) (λ u. Ok (bare d)))

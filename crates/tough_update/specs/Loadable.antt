@@ -19,7 +19,10 @@ use Rattle.tough_vault.specs.Act.{Act}
 use Rattle.tough_vault.specs.Act as act
 use Rattle.tough_vault.specs.Files.{snapshot_file, targets_file}
 use Rattle.tough_update.specs.Requests.{RequestDoc, fits_request, root_request, timestamp_request, snapshot_request, targets_request}
-use Rattle.tough_update.specs.Listed.{targets_in, targets_text, lists_roles}
+use Rattle.tough_schema.specs.Update.{listed_roles}
+use Rattle.tough_schema.specs.Entries.{first_missing}
+use Rattle.tough_delegated.specs.Bare.{top_page}
+use Rattle.tough_update.specs.Listed.{targets_in, targets_text}
 use Rattle.tough_update.specs.Failure.{Checked}
 use Rattle.tough_update.specs.Stages.{LoadedDoc, SettingDoc, CoreDoc, Done}
 use Rattle.tough_update.specs.Questions.{Question}
@@ -113,12 +116,14 @@ pub record Loadable (verifies : Verifies) (files : Files) (s : SettingDoc) (l : 
   pub snapshot_in_time : is_expired s.enforced l.known.start l.known.snapshot.role.head.expires ≡ false
   pub targets_entry : MetafileDoc
   pub targets_listed : metafile_in l.known.snapshot.role.meta targets_file ≡ Some targets_entry
-  pub targets : IsServed files (targets_request s.limits l.known.root.role.consistent_snapshot targets_entry) targets_in l.targets
-  pub targets_signed : ReachesUnder verifies l.known.root.role role.Targets targets_json l.targets
-  pub targets_version : l.targets.role.head.version ≡ targets_entry.version
-  pub targets_in_time : is_expired s.enforced l.known.start l.targets.role.head.expires ≡ false
-  pub targets_stored : targets_text l.targets ≢ None
-  pub no_roles : lists_roles l.targets.role.delegations ≡ false
+  pub targets : IsServed files (targets_request s.limits l.known.root.role.consistent_snapshot targets_entry) targets_in (top_page l.targets)
+  pub targets_signed : ReachesUnder verifies l.known.root.role role.Targets targets_json (top_page l.targets)
+  pub targets_version : (top_page l.targets).role.head.version ≡ targets_entry.version
+  pub targets_in_time : is_expired s.enforced l.known.start (top_page l.targets).role.head.expires ≡ false
+  pub targets_stored : targets_text (top_page l.targets) ≢ None
+  pub no_roles : listed_roles l.targets.role ≡ []
+  pub none_received : l.received ≡ []
+  pub found : first_missing l.targets.role ≡ None
 
 -- It is ready after ten answers, and not before; and then it has ended with these documents.
 pub record IsLoaded (verifies : Verifies) (c : CoreDoc) (answers : List AnswerDoc) (l : LoadedDoc) : Type 0 where

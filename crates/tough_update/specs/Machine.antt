@@ -11,9 +11,8 @@ use Rattle.tough_roles.specs.Signature.{SignedDoc}
 use Rattle.tough_roles.specs.Root.{RootDoc}
 use Rattle.tough_roles.specs.Timestamp.{TimestampDoc, MetafileDoc}
 use Rattle.tough_roles.specs.Snapshot.{SnapshotDoc}
-use Rattle.tough_schema.specs.Targets.{TargetsDoc}
 use Rattle.tough_roles.specs.declared.role_type.RoleType.TheVariants as role
-use Rattle.tough_vault.specs.Checks.{VerifyMetadata, VersionMismatch, MissingSnapshotMeta, SnapshotTargetsMetaMissing, ExpiredMetadata, is_expired}
+use Rattle.tough_vault.specs.Checks.{MissingSnapshotMeta, SnapshotTargetsMetaMissing, ExpiredMetadata, is_expired}
 use Rattle.tough_vault.specs.Documents.{timestamp_in, snapshot_in, metafile_in}
 use Rattle.tough_vault.specs.Files.{snapshot_file, targets_file}
 use Rattle.tough_vault.specs.Act.{Act}
@@ -22,11 +21,13 @@ use Rattle.tough_update.specs.declared.limits.Limits.{Limits}
 use Rattle.tough_update.specs.declared.request.Fault.{Fault}
 use Rattle.tough_update.specs.declared.request.Fault.TheVariants as fault
 use Rattle.tough_update.specs.Failure.{Failure, ParseMetadata, MaxUpdatesExceeded, JoinUrl, Transport, Checked, Memory}
-use Rattle.tough_update.specs.Walk.{if_read, holds_json, if_verified, first_root, next_root}
+use Rattle.tough_update.specs.Walk.{if_read, holds_json, first_root, next_root}
 use Rattle.tough_update.specs.Outcomes.{unless, and_then}
 use Rattle.tough_update.specs.Requests.{RequestDoc, root_request, timestamp_request, snapshot_request, targets_request}
 use Rattle.tough_update.specs.Rotation.{is_rotated}
-use Rattle.tough_update.specs.Listed.{bare_targets, targets_text, targets_verdict}
+use Rattle.tough_delegated.specs.Bare.{top_page}
+use Rattle.tough_update.specs.Listed.{by_root, targets_text, judged}
+use Rattle.tough_update.specs.Delegated.{roles_begun, role_given, new_role}
 use Rattle.tough_update.specs.Stages.{WalkDoc, BaseDoc, KnownDoc, WantedDoc, PendingDoc, StageDoc, SettingDoc, CoreDoc}
 use Rattle.tough_update.specs.Stages as at
 use Rattle.tough_update.specs.Questions.{Question}
@@ -81,18 +82,8 @@ abbrev pub want_targets : Limits → KnownDoc → Option MetafileDoc → Result 
 want_targets l k None = Err (Checked (SnapshotTargetsMetaMissing k.snapshot.role.head.version))
 want_targets l k (Some m) = Ok (at.Fetch (at.Targets k m.version) (targets_request l k.root.role.consistent_snapshot m))
 
--- they must reach the root's threshold, have the listed version, and not be expired
-abbrev pub targets_checked : Verifies → Bool → KnownDoc → ℕ → SignedDoc TargetsDoc → Result Unit Failure
-targets_checked verifies enforced k listed d = if_verified (λ r. Checked (VerifyMetadata role.Targets (Some r))) (targets_verdict verifies k.root.role d)
-    (unless (Checked (VersionMismatch role.Targets d.role.head.version listed)) (d.role.head.version == listed)
-    (unless (Checked (ExpiredMetadata role.Targets d.role.head.expires k.start)) (not (is_expired enforced k.start d.role.head.expires))
-    (Ok (tt {0}))))
-
-abbrev pub accepted_targets : Verifies → Bool → KnownDoc → ℕ → SignedDoc TargetsDoc → Result StageDoc Failure
-accepted_targets verifies enforced k listed d = and_then (targets_checked verifies enforced k listed d) (λ u. Ok (at.Step (at.PutTargets k d)))
-
 abbrev pub new_targets : Verifies → Bool → KnownDoc → ℕ → List ℕ → Result StageDoc Failure
-new_targets verifies enforced k listed bytes = and_then (bare_targets bytes) (accepted_targets verifies enforced k listed)
+new_targets verifies enforced k listed bytes = and_then (judged verifies enforced k.start (by_root k.root.role) listed bytes) (λ d. Ok (at.Step (at.PutTargets k d)))
 
 -- ---- faults
 
@@ -132,11 +123,12 @@ unfetched _ ends name f = Err (fault_failure name f)
 
 -- ---- files that came, and steps that were taken
 
-abbrev pub read_wanted : Verifies → Bool → WantedDoc → List ℕ → Result StageDoc Failure
-read_wanted verifies enforced (at.Root w) bytes = new_root verifies w bytes
-read_wanted verifies enforced (at.Timestamp b) bytes = new_timestamp b bytes
-read_wanted verifies enforced (at.Snapshot b t listed) bytes = new_snapshot b t listed bytes
-read_wanted verifies enforced (at.Targets k listed) bytes = new_targets verifies enforced k listed bytes
+abbrev pub read_wanted : Verifies → SettingDoc → WantedDoc → RequestDoc → List ℕ → Result StageDoc Failure
+read_wanted verifies s (at.Root w) r bytes = new_root verifies w bytes
+read_wanted verifies s (at.Timestamp b) r bytes = new_timestamp b bytes
+read_wanted verifies s (at.Snapshot b t listed) r bytes = new_snapshot b t listed bytes
+read_wanted verifies s (at.Targets k listed) r bytes = new_targets verifies s.enforced k listed bytes
+read_wanted verifies s (at.Role k roles listed) r bytes = new_role verifies s k roles listed r.name bytes
 
 abbrev pub after : Verifies → SettingDoc → PendingDoc → Result StageDoc Failure
 after verifies s (at.NoteTime now) = began verifies s.limits s.trusted now
@@ -145,13 +137,14 @@ after verifies s (at.PutLast w) = walk_ended s.limits s.enforced w
 after verifies s (at.Clear b) = Ok (at.Fetch (at.Timestamp b) (timestamp_request s.limits))
 after verifies s (at.PutTimestamp b t) = want_snapshot s.limits b t (metafile_in t.role.meta snapshot_file)
 after verifies s (at.PutSnapshot k listed) = want_targets s.limits k (metafile_in k.snapshot.role.meta targets_file)
-after verifies s (at.PutTargets k d) = Ok (at.Done (Ok (record { known = k; targets = d })))
+after verifies s (at.PutTargets k d) = roles_begun s.limits k d
+after verifies s (at.PutDelegated k roles name d) = role_given s.limits k roles d
 
 -- ---- answers
 
 abbrev pub stage_after : Verifies → SettingDoc → StageDoc → AnswerDoc → Result StageDoc Failure
 stage_after verifies s at.Moment (got.Moment now) = Ok (at.Step (at.NoteTime now))
-stage_after verifies s (at.Fetch w r) (got.Bytes bytes) = read_wanted verifies s.enforced w bytes
+stage_after verifies s (at.Fetch w r) (got.Bytes bytes) = read_wanted verifies s w r bytes
 stage_after verifies s (at.Fetch w r) (got.NotStarted f) = unfetched w (ends_start f) r.name f
 stage_after verifies s (at.Fetch w r) (got.Cut f) = unfetched w (ends_stream f) r.name f
 stage_after verifies s (at.Step p) (got.Step (Ok u)) = after verifies s p
@@ -177,7 +170,8 @@ act_at enforced (at.PutLast w) = act.PutRoot w.last
 act_at enforced (at.Clear b) = act.ClearRotated
 act_at enforced (at.PutTimestamp b t) = act.AdvanceTimestamp b.root.role t b.start enforced
 act_at enforced (at.PutSnapshot k listed) = act.AdvanceSnapshot k.root.role listed k.snapshot k.start enforced
-act_at enforced (at.PutTargets k d) = act.PutDocument targets_file (targets_text d)
+act_at enforced (at.PutTargets k d) = act.PutDocument targets_file (targets_text (top_page d))
+act_at enforced (at.PutDelegated k roles name d) = act.PutDocument name (targets_text (top_page d))
 
 abbrev pub question_at : Bool → StageDoc → Question
 question_at enforced at.Moment = ask.Moment

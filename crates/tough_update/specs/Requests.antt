@@ -1,10 +1,11 @@
--- Which file is fetched next (TUF specification 1.0, sections 5.3 to 5.6): its name as section 6.2 gives it, how long it may be, and
+-- Which file is fetched next (TUF specification 1.0, sections 5.3 to 5.6.7): its name as section 6.2 gives it, how long it may be, and
 -- which digest it must have.
 use Rattle.std.specs.Prelude.{ℕ, List, length, Option, Some, None, Bool, true, ◌&&◌, nat_le, codes}
 use Rattle.std.specs.Str.{bytes_eq}
 use Rattle.sha2.specs.Sha256.{sha256}
 use Rattle.tough_roles.specs.Names.{versioned, file_name}
 use Rattle.tough_roles.specs.Timestamp.{HashesDoc, MetafileDoc}
+use Rattle.tough_schema.specs.Targets.{delegated_file}
 use Rattle.tough_update.specs.declared.limits.Limits.{Limits}
 
 -- a file that is to be fetched; the specifier says where the bound on its length comes from
@@ -47,6 +48,15 @@ targets_specifier (Some n) = codes "snapshot.json"
 abbrev pub targets_request : Limits → Bool → MetafileDoc → RequestDoc
 targets_request l consistent m = record {
   name = file_name consistent m.version (codes "targets.json");
+  max_size = bound m.length l.max_targets_size;
+  specifier = targets_specifier m.length;
+  sha256 = stated_digest m.hashes;
+}
+
+-- the document of a delegated role, as the snapshot's entry says
+abbrev pub role_request : Limits → Bool → List ℕ → MetafileDoc → RequestDoc
+role_request l consistent name m = record {
+  name = file_name consistent m.version (delegated_file name);
   max_size = bound m.length l.max_targets_size;
   specifier = targets_specifier m.length;
   sha256 = stated_digest m.hashes;

@@ -9,7 +9,6 @@ use Rattle.tough_vault.specs.Checks.{is_expired}
 use Rattle.tough_vault.specs.Act.{NoteTime, ClearRotated, HasChecked}
 use Rattle.tough_update.specs.declared.request.Fault.TheVariants as fault
 use Rattle.tough_update.specs.Requests.{fits_request, root_request, timestamp_request}
-use Rattle.tough_update.specs.Listed.{lists_roles}
 use Rattle.tough_update.specs.Stages.{WalkDoc, LoadedDoc, CoreDoc, Moment}
 use Rattle.tough_update.specs.Stages as at
 use Rattle.tough_update.specs.Questions.{Question}
@@ -78,8 +77,6 @@ pub record Loaded (verifies : Verifies) (c : CoreDoc) (answers : List AnswerDoc)
   pub unexpired : c.setting.enforced ≡ true → Unexpired l.known l.targets
   pub noted : HasNoted verifies c answers l.known.start
   pub last : IsLast verifies c answers l.known.root
-  -- targets that delegate to a role aren't taken yet
-  pub bare : lists_roles l.targets.role.delegations ≡ false
 
 -- nothing was answered yet
 abbrev pub IsFresh : CoreDoc → Type 0

@@ -4,7 +4,8 @@ use Rattle.tough_roles.specs.Signature.{SignedDoc}
 use Rattle.tough_roles.specs.Root.{RootDoc}
 use Rattle.tough_roles.specs.Timestamp.{TimestampDoc}
 use Rattle.tough_roles.specs.Snapshot.{SnapshotDoc}
-use Rattle.tough_schema.specs.Targets.{TargetsDoc}
+use Rattle.tough_schema.specs.Whole.{TreeDoc}
+use Rattle.tough_delegated.specs.Growing.{WorkDoc}
 use Rattle.tough_update.specs.declared.limits.Limits.{Limits}
 use Rattle.tough_update.specs.Failure.{Failure}
 use Rattle.tough_update.specs.Requests.{RequestDoc}
@@ -28,10 +29,20 @@ pub record KnownDoc : Type 0 where
   pub timestamp : SignedDoc TimestampDoc
   pub snapshot : SignedDoc SnapshotDoc
 
--- what an update ends with
+-- the bytes of a delegated role's document, as they were received, under the role's name
+abbrev pub ReceivedDoc : Type 0
+ReceivedDoc = List ℕ × List ℕ
+
+-- the delegated roles as far as their documents were fetched
+pub record RolesDoc : Type 0 where
+  pub work : WorkDoc
+  pub received : List ReceivedDoc
+
+-- what an update ends with; the targets have the documents of the delegated roles
 pub record LoadedDoc : Type 0 where
   pub known : KnownDoc
-  pub targets : SignedDoc TargetsDoc
+  pub targets : SignedDoc TreeDoc
+  pub received : List ReceivedDoc
 
 -- ---- the stages; each waits for one answer
 
@@ -44,6 +55,8 @@ pub data WantedDoc : Type 0 where
   Snapshot : BaseDoc → SignedDoc TimestampDoc → ℕ → WantedDoc
   -- the version that the snapshot lists
   Targets : KnownDoc → ℕ → WantedDoc
+  -- the same, for the role whose document is wanted
+  Role : KnownDoc → RolesDoc → ℕ → WantedDoc
 
 -- a step on the store that is to be taken
 pub data PendingDoc : Type 0 where
@@ -55,7 +68,9 @@ pub data PendingDoc : Type 0 where
   PutTimestamp : BaseDoc → SignedDoc TimestampDoc → PendingDoc
   -- the version that the timestamp lists
   PutSnapshot : KnownDoc → ℕ → PendingDoc
-  PutTargets : KnownDoc → SignedDoc TargetsDoc → PendingDoc
+  PutTargets : KnownDoc → SignedDoc TreeDoc → PendingDoc
+  -- under this name
+  PutDelegated : KnownDoc → RolesDoc → List ℕ → SignedDoc TreeDoc → PendingDoc
 
 pub data StageDoc : Type 0 where
   Moment : StageDoc

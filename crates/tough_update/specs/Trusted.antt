@@ -1,5 +1,5 @@
 -- What an update that succeeds vouches for (TUF specification 1.0, section 5).
-use Rattle.std.specs.Prelude.{◌≡◌, ◌≤◌, ◌≤ℤ◌, ℕ, ℤ, List, length, Option, Some, IfSome}
+use Rattle.std.specs.Prelude.{◌≡◌, ◌≤◌, ◌≤ℤ◌, ℕ, ℤ, List, ◌++◌, length, codes, Option, Some, None, IfSome}
 use Rattle.sha2.specs.Sha256.{sha256}
 use Rattle.tough_keys.specs.Same.{Verifies}
 use Rattle.tough_roles.specs.Signature.{SignedDoc}
@@ -10,6 +10,14 @@ use Rattle.tough_roles.specs.Chain.{ReachesUnder, IsNext}
 use Rattle.tough_roles.specs.declared.role_type.RoleType.TheVariants as role
 use Rattle.tough_vault.specs.Documents.{root_in, metafile_in, snapshot_in}
 use Rattle.tough_schema.specs.Targets.{TargetsDoc, targets_json}
+use Rattle.tough_schema.specs.Delegations.{DelegationsDoc}
+use Rattle.tough_schema.specs.Verify.{ReachesDelegated}
+use Rattle.tough_schema.specs.Whole.{TreeDoc}
+use Rattle.tough_schema.specs.Fresh.{carriers_below}
+use Rattle.tough_schema.specs.Entries.{IsValid}
+use Rattle.tough_delegated.specs.Bare.{top_page}
+use Rattle.tough_delegated.specs.Once.{Distinct}
+use Rattle.tough_delegated.specs.Under.{Below}
 use Rattle.tough_vault.specs.Files.{snapshot_file, targets_file}
 use Rattle.tough_update.specs.Requests.{stated_digest}
 use Rattle.tough_update.specs.Listed.{targets_in}
@@ -34,19 +42,33 @@ pub record Named {D : Type 0} (reads : List ℕ → Option D) (entry : MetafileD
 abbrev pub Lists : {D : Type 0} → (List ℕ → Option D) → List (List ℕ × MetafileDoc) → List ℕ → ℕ → D → Type 0
 Lists reads entries name version doc = (entry : MetafileDoc) × (metafile_in entries name ≡ Some entry) × Named reads entry version doc
 
-pub record Trusted (verifies : Verifies) (bytes : List ℕ) (k : KnownDoc) (targets : SignedDoc TargetsDoc) : Type 0 where
+-- Delegations, which must be there, vouch for the document of a role: its signatures reach the threshold of the first role of the name, and
+-- what is listed under that name names it.
+abbrev pub IsVouched : Verifies → List (List ℕ × MetafileDoc) → Option DelegationsDoc → List ℕ → SignedDoc TargetsDoc → Type 0
+IsVouched verifies entries None name d = ⊥
+IsVouched verifies entries (Some g) name d = ReachesDelegated verifies g name targets_json d × Lists targets_in entries (name ++ codes ".json") d.role.head.version d
+
+-- the targets have the documents of the delegated roles
+pub record Trusted (verifies : Verifies) (bytes : List ℕ) (k : KnownDoc) (targets : SignedDoc TreeDoc) : Type 0 where
   pub root : Chain verifies bytes k.root
   pub timestamp : ReachesUnder verifies k.root.role role.Timestamp timestamp_json k.timestamp
   -- the timestamp lists the snapshot alone
   pub alone : length k.timestamp.role.meta ≡ 1
   pub snapshot : ReachesUnder verifies k.root.role role.Snapshot snapshot_json k.snapshot
   pub snapshot_named : Lists snapshot_in k.timestamp.role.meta snapshot_file k.snapshot.role.head.version k.snapshot
-  pub targets_signed : ReachesUnder verifies k.root.role role.Targets targets_json targets
-  pub targets_named : Lists targets_in k.snapshot.role.meta targets_file targets.role.head.version targets
+  pub targets_signed : ReachesUnder verifies k.root.role role.Targets targets_json (top_page targets)
+  pub targets_named : Lists targets_in k.snapshot.role.meta targets_file (top_page targets).role.head.version (top_page targets)
+  -- the delegations that each delegated document stands under vouch for it
+  pub delegated : Below (IsVouched verifies k.snapshot.role.meta) targets.role
+  -- no role's name has a document twice
+  pub once : Distinct (carriers_below targets.role)
+  -- each name that is listed is found by the permissive search
+  pub found : IsValid targets.role
 
 -- the update began after no expiry
-pub record Unexpired (k : KnownDoc) (d : SignedDoc TargetsDoc) : Type 0 where
+pub record Unexpired (k : KnownDoc) (d : SignedDoc TreeDoc) : Type 0 where
   pub root : k.start ≤ℤ k.root.role.head.expires
   pub timestamp : k.start ≤ℤ k.timestamp.role.head.expires
   pub snapshot : k.start ≤ℤ k.snapshot.role.head.expires
-  pub targets : k.start ≤ℤ d.role.head.expires
+  pub targets : k.start ≤ℤ (top_page d).role.head.expires
+  pub delegated : Below (λ g name page. k.start ≤ℤ page.role.head.expires) d.role

@@ -1,5 +1,5 @@
 -- The machine of the program, seen as plain data.
-use Rattle.std.specs.Prelude.{◌≡◌, ◌⊎◌, ℕ, List, Option, Some, None, Result, Ok, Err, option_map, string_bytes, ⊤}
+use Rattle.std.specs.Prelude.{◌≡◌, ◌⊎◌, ℕ, List, Option, Some, None, Result, Ok, Err, option_map, map, string_bytes, ⊤}
 use Rattle.tough_roles.specs.Signature.{SignedDoc, signed_doc}
 use Rattle.tough_roles.specs.Root.{RootDoc, root_doc}
 use Rattle.tough_roles.specs.declared.root.Root.{Root}
@@ -10,12 +10,16 @@ use Rattle.tough_schema.specs.declared.targets.Targets.{Targets}
 use Rattle.tough_roles.specs.Timestamp.{timestamp_doc}
 use Rattle.tough_roles.specs.Snapshot.{snapshot_doc}
 use Rattle.tough_schema.specs.Targets.{targets_doc}
+use Rattle.tough_schema.specs.Whole.{tree_doc}
+use Rattle.tough_schema.specs.Delegations.{delegations_doc}
+use Rattle.tough_delegated.specs.View.{work_doc}
 use Rattle.tough_vault.specs.Checks.{enforces}
 use Rattle.tough_vault.specs.declared.checks.StepError.{StepError}
 use Rattle.tough_vault.specs.Act.{Act as ActDoc}
 use Rattle.tough_vault.specs.Act as act
 use Rattle.tough_vault.specs.Files.{targets_file}
-use Rattle.tough_update.specs.Listed.{targets_text}
+use Rattle.tough_vault.specs.DocumentName.{name_of}
+use Rattle.tough_update.specs.Listed.{targets_text, HolderDoc, by_root, by_delegations}
 use Rattle.tough_update.specs.Failure.{Failure, failure_of, step_failure}
 use Rattle.tough_update.specs.declared.error.Error.{Error}
 use Rattle.tough_update.specs.declared.request.Request.{Request}
@@ -29,6 +33,10 @@ use Rattle.tough_update.specs.declared.stage.Walk.{Walk}
 use Rattle.tough_update.specs.declared.stage.Base.{Base}
 use Rattle.tough_update.specs.declared.stage.Known.{Known}
 use Rattle.tough_update.specs.declared.stage.Loaded.{Loaded}
+use Rattle.tough_update.specs.declared.stage.Received.{Received}
+use Rattle.tough_update.specs.declared.stage.Roles.{Roles}
+use Rattle.tough_update.specs.declared.judge.Holder.{Holder}
+use Rattle.tough_update.specs.declared.judge.Holder.TheVariants as holds
 use Rattle.tough_update.specs.declared.stage.Wanted.{Wanted}
 use Rattle.tough_update.specs.declared.stage.Wanted.TheVariants as wanted
 use Rattle.tough_update.specs.declared.stage.Pending.{Pending}
@@ -38,7 +46,7 @@ use Rattle.tough_update.specs.declared.stage.Stage.TheVariants as in_stage
 use Rattle.tough_update.specs.declared.turns.Setting.{Setting}
 use Rattle.tough_update.specs.declared.machine.Core.{Core}
 use Rattle.tough_update.specs.Requests.{RequestDoc}
-use Rattle.tough_update.specs.Stages.{WalkDoc, BaseDoc, KnownDoc, LoadedDoc, WantedDoc, PendingDoc, StageDoc, SettingDoc, CoreDoc}
+use Rattle.tough_update.specs.Stages.{WalkDoc, BaseDoc, KnownDoc, ReceivedDoc, RolesDoc, LoadedDoc, WantedDoc, PendingDoc, StageDoc, SettingDoc, CoreDoc}
 use Rattle.tough_update.specs.Stages as at
 use Rattle.tough_update.specs.Questions.{Question}
 use Rattle.tough_update.specs.Questions as ask
@@ -56,6 +64,7 @@ act_of (to.PutRoot r) = act.PutRoot (signed_doc root_doc r.now)
 act_of to.ClearRotated = act.ClearRotated
 act_of (to.AdvanceTimestamp root new start enforcement) = act.AdvanceTimestamp (root_doc root.now) (signed_doc timestamp_doc new.now) start.nanosecond (enforces enforcement)
 act_of (to.AdvanceSnapshot root listed new start enforcement) = act.AdvanceSnapshot (root_doc root.now) listed (signed_doc snapshot_doc new.now) start.nanosecond (enforces enforcement)
+act_of (to.PutDelegated name d) = act.PutDocument (name_of name.now) (targets_text (signed_doc targets_doc d.now))
 act_of (to.PutTargets d) = act.PutDocument targets_file (targets_text (signed_doc targets_doc d.now))
 
 abbrev pub question_of : Ask → Question
@@ -104,8 +113,28 @@ snapshot_of l = l.known.snapshot
 abbrev pub targets_of : Loaded → Signed Targets
 targets_of l = l.targets
 
+abbrev pub received_of : Loaded → List Received
+received_of l = l.received.items
+
+-- ---- delegated roles
+
+abbrev pub received_doc : Received → ReceivedDoc
+received_doc r = (string_bytes r.role, r.bytes.items)
+
+abbrev pub received_docs : List Received → List ReceivedDoc
+received_docs rs = map received_doc rs
+
+abbrev pub roles_doc : Roles → RolesDoc
+roles_doc r = record { work = work_doc r.growth; received = received_docs r.received.items }
+
+abbrev pub holder_doc : Holder → HolderDoc
+holder_doc (holds.Root root) = by_root (root_doc root.now)
+holder_doc (holds.Delegations g name) = by_delegations (option_map (λ d. delegations_doc d.now) g) name.now
+
+-- ---- the outcome
+
 abbrev pub loaded_doc : Loaded → LoadedDoc
-loaded_doc l = record { known = known_doc l.known; targets = signed_doc targets_doc l.targets }
+loaded_doc l = record { known = known_doc l.known; targets = signed_doc tree_doc l.targets; received = received_docs l.received.items }
 
 abbrev pub outcome_doc : Result Loaded Error → Result LoadedDoc Failure
 outcome_doc (Ok l) = Ok (loaded_doc l)
@@ -116,6 +145,7 @@ wanted_doc (wanted.Root w) = at.Root (walk_doc w)
 wanted_doc (wanted.Timestamp b) = at.Timestamp (base_doc b)
 wanted_doc (wanted.Snapshot b t listed) = at.Snapshot (base_doc b) (signed_doc timestamp_doc t) listed
 wanted_doc (wanted.Targets k listed) = at.Targets (known_doc k) listed
+wanted_doc (wanted.Role k roles listed) = at.Role (known_doc k) (roles_doc roles) listed
 
 abbrev pub pending_doc : Pending → PendingDoc
 pending_doc (pending.NoteTime now) = at.NoteTime now.nanosecond
@@ -124,7 +154,8 @@ pending_doc (pending.PutLast w) = at.PutLast (walk_doc w)
 pending_doc (pending.Clear b) = at.Clear (base_doc b)
 pending_doc (pending.PutTimestamp b t) = at.PutTimestamp (base_doc b) (signed_doc timestamp_doc t)
 pending_doc (pending.PutSnapshot k listed) = at.PutSnapshot (known_doc k) listed
-pending_doc (pending.PutTargets k d) = at.PutTargets (known_doc k) (signed_doc targets_doc d)
+pending_doc (pending.PutTargets k d) = at.PutTargets (known_doc k) (signed_doc tree_doc d)
+pending_doc (pending.PutDelegated k roles name d) = at.PutDelegated (known_doc k) (roles_doc roles) (name_of name) (signed_doc tree_doc d)
 
 abbrev pub stage_doc : Stage → StageDoc
 stage_doc in_stage.Moment = at.Moment

@@ -72,6 +72,12 @@ pub enum Error {
     /// What is to be stored has no JSON text.
     #[error("Failed to serialize metadata to JSON for the store")]
     DatastoreSerialize,
+    /// A name that a document of the tree lists isn't found by the search for it.
+    #[error("Failed to validate the delegated targets: {source}")]
+    InvalidPath {
+        /// What was wrong.
+        source: schema::Error,
+    },
     /// The document isn't signed as the root demands.
     #[error("Failed to verify {} metadata: {source}", .role.name())]
     VerifyMetadata {

@@ -2,10 +2,12 @@
 #![tactic(auto)]
 
 mod error;
+mod judge;
 pub mod laws;
 mod limits;
 mod machine;
 mod request;
+mod roles;
 mod rotation;
 mod stage;
 mod turns;
@@ -15,7 +17,7 @@ pub use error::Error;
 pub use limits::Limits;
 pub use machine::Core;
 pub use request::{Act, Answer, Ask, Fault, Request};
-pub use stage::Loaded;
+pub use stage::{Loaded, Received};
 pub use tough_vault::{
     Entry, ExpirationEnforcement, ListedVersion, MemoryStore, Receipt, Refusal, SnapshotVersions,
     StepError, Store, StoreError, TimestampVersions, Tip, Vault,

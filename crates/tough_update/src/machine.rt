@@ -43,7 +43,7 @@ fn turn<V: Verify>(
             stage => Ok(stage),
         },
         Answer::Bytes(bytes) => match stage {
-            Stage::Fetch(wanted, _) => read_wanted(setting, wanted, bytes.as_slice(), verifier),
+            Stage::Fetch(wanted, request) => read_wanted(setting, wanted, request, bytes, verifier),
             stage => Ok(stage),
         },
         Answer::NotStarted(fault) => match stage {

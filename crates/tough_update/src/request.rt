@@ -2,18 +2,19 @@
 
 ghost use Rattle.std.specs.Prelude.{◌≡◌, Some, IfOk, option_map, string_bytes};
 ghost use Rattle.tough_roles.specs.Timestamp.{metafile_doc, hashes_doc};
-ghost use Rattle.tough_update.specs.Requests.{stated_digest, bound, targets_specifier, root_request, timestamp_request, snapshot_request, targets_request, fits_request};
+ghost use Rattle.tough_update.specs.Requests.{stated_digest, bound, targets_specifier, root_request, timestamp_request, snapshot_request, targets_request, role_request, fits_request};
 ghost use Rattle.tough_update.specs.View.{request_doc};
 
 use crate::limits::Limits;
 use jiff::Timestamp as Instant;
 use sha2::{Digest, Sha256};
 use std::alloc::{AllocError, Global};
+use tough_base::encode_filename;
 use tough_net::TransportError;
 use tough_roles::names::{file_name, versioned};
 use tough_roles::{Hashes, Metafile, Root, Signed, Snapshot, Timestamp};
 use tough_schema::Targets;
-use tough_vault::{ExpirationEnforcement, StepError};
+use tough_vault::{DocumentName, ExpirationEnforcement, StepError};
 use url::ParseError;
 
 /// A metadata file that is to be fetched.
@@ -64,6 +65,13 @@ pub enum Act<'a> {
     },
     /// To store the targets.
     PutTargets(&'a Signed<Targets>),
+    /// To store the document of a delegated role.
+    PutDelegated {
+        /// The file's name.
+        name: &'a DocumentName,
+        /// The document.
+        targets: &'a Signed<Targets>,
+    },
 }
 
 /// What an update wants next.
@@ -197,5 +205,26 @@ pub(crate) fn targets_request(
         max_size: meta.length.unwrap_or(limits.max_targets_size),
         specifier: targets_specifier(meta.length),
         sha256: stated_digest(alloc, &meta.hashes)?,
+    })
+}
+
+/// The document of a delegated role that the snapshot's entry describes.
+pub(crate) fn role_request(
+    alloc: Global,
+    limits: &Limits,
+    consistent: bool,
+    role: &str,
+    meta: &Metafile,
+) -> Result<Request, AllocError>
+    ensures { IfOk result (λ r. request_doc r ≡ role_request limits.now consistent role.now (metafile_doc meta.now)) }
+{
+    let mut file = encode_filename(alloc, role)?;
+    file.push_str(".json")?;
+    let sha256 = stated_digest(alloc, &meta.hashes)?;
+    Ok(Request {
+        name: file_name(alloc, consistent, meta.version, file.as_str())?,
+        max_size: meta.length.unwrap_or(limits.max_targets_size),
+        specifier: targets_specifier(meta.length),
+        sha256,
     })
 }

@@ -5,14 +5,15 @@ ghost use Rattle.tough_roles.specs.Signature.{signed_doc};
 ghost use Rattle.tough_roles.specs.Root.{root_doc};
 ghost use Rattle.tough_vault.specs.Checks.{enforces};
 ghost use Rattle.tough_update.specs.Machine.{base_of, act_at};
-ghost use Rattle.tough_update.specs.View.{last_of, walk_doc, base_doc, pending_doc, act_of, root_of, timestamp_of, snapshot_of, targets_of};
+ghost use Rattle.tough_update.specs.View.{last_of, walk_doc, base_doc, pending_doc, act_of, root_of, timestamp_of, snapshot_of, targets_of, received_of};
 
 use crate::error::Error;
 use crate::request::{Act, Request};
 use jiff::Timestamp as Instant;
+use tough_delegated::Growth;
 use tough_roles::{Root, Signed, Snapshot, Timestamp};
 use tough_schema::Targets;
-use tough_vault::ExpirationEnforcement;
+use tough_vault::{DocumentName, ExpirationEnforcement};
 
 /// A walk from root to root.
 #[derive(Drop)]
@@ -40,11 +41,28 @@ pub(crate) struct Known {
     pub(crate) snapshot: Signed<Snapshot>,
 }
 
+/// The bytes of a delegated role's document, as they were received.
+#[derive(Drop)]
+pub struct Received {
+    /// The role's name.
+    pub role: String,
+    /// The bytes.
+    pub bytes: Vec<u8>,
+}
+
+/// The delegated roles as far as their documents were fetched.
+#[derive(Drop)]
+pub(crate) struct Roles {
+    pub(crate) growth: Growth,
+    pub(crate) received: Vec<Received>,
+}
+
 /// What an update ends with: the last root, and the documents that it vouches for.
 #[derive(Drop)]
 pub struct Loaded {
     pub(crate) known: Known,
     pub(crate) targets: Signed<Targets>,
+    pub(crate) received: Vec<Received>,
 }
 
 /// What a file is fetched for.
@@ -56,6 +74,8 @@ pub(crate) enum Wanted {
     Snapshot(Base, Signed<Timestamp>, u64),
     /// The version that the snapshot lists.
     Targets(Known, u64),
+    /// The version that the snapshot lists.
+    Role(Known, Roles, u64),
 }
 
 /// A step on the store that is to be taken.
@@ -68,6 +88,7 @@ pub(crate) enum Pending {
     PutTimestamp(Base, Signed<Timestamp>),
     PutSnapshot(Known, u64),
     PutTargets(Known, Signed<Targets>),
+    PutDelegated(Known, Roles, DocumentName, Signed<Targets>),
 }
 
 /// What an update waits for, with what is known by then.
@@ -131,6 +152,7 @@ impl Pending {
                 enforcement,
             },
             Pending::PutTargets(_, targets) => Act::PutTargets(targets),
+            Pending::PutDelegated(_, _, name, targets) => Act::PutDelegated { name, targets },
         }
     }
 }
@@ -157,10 +179,16 @@ impl Loaded {
         &self.known.snapshot
     }
 
-    /// The targets that the snapshot names.
+    /// The targets that the snapshot names, with the documents of the delegated roles (TUF 1.0, 5.6).
     pub fn targets(&self) -> &Signed<Targets>
         ensures { result.now ≡ targets_of self.now }
     {
         &self.targets
+    }
+    /// The bytes of the delegated roles' documents, in the order in which they were received; of two of one role the later counts.
+    pub fn received(&self) -> &[Received]
+        ensures { result.now ≡ received_of self.now }
+    {
+        &self.received
     }
 }

@@ -11,31 +11,27 @@ ghost use Rattle.tough_vault.specs.Documents.{metafile_in, timestamp_in, snapsho
 ghost use Rattle.tough_vault.specs.Files.{snapshot_file, targets_file};
 ghost use Rattle.tough_update.specs.Failure.{Gives, failure_of};
 ghost use Rattle.tough_update.specs.Walk.{if_read, IsUnverified};
-ghost use Rattle.tough_update.specs.Machine.{walked, began, new_root, walk_ended, new_timestamp, want_snapshot, new_snapshot, want_targets, targets_checked, new_targets, fault_failure, ends_start, ends_stream, unfetched, read_wanted, after, stage_after};
+ghost use Rattle.tough_update.specs.Machine.{walked, began, new_root, walk_ended, new_timestamp, want_snapshot, new_snapshot, want_targets, new_targets, fault_failure, ends_start, ends_stream, unfetched, read_wanted, after, stage_after};
 ghost use Rattle.tough_update.specs.Stages.{Step};
 ghost use Rattle.tough_update.specs.Answered as got;
-ghost use Rattle.tough_update.specs.Listed.{lists_roles, bare_targets, targets_verdict};
-ghost use Rattle.tough_schema.specs.Targets.{targets_doc};
 ghost use Rattle.tough_roles.specs.declared.role_type.RoleType.TheVariants as types;
-ghost use Rattle.tough_update.specs.View.{walk_doc, base_doc, known_doc, wanted_doc, pending_doc, stage_doc, setting_doc, step_doc};
+ghost use Rattle.tough_update.specs.View.{walk_doc, base_doc, known_doc, wanted_doc, pending_doc, stage_doc, setting_doc, step_doc, request_doc};
 
 use crate::error::Error;
+use crate::judge::{Holder, is_expired, judge};
 use crate::limits::Limits;
 use crate::request::{
     Fault, Request, root_request, snapshot_request, targets_request, timestamp_request,
 };
+use crate::roles::{begin_roles, give_role, take_role};
 use crate::rotation::is_rotated;
-use crate::stage::{Base, Known, Loaded, Pending, Stage, Walk, Wanted};
+use crate::stage::{Base, Known, Pending, Stage, Walk, Wanted};
 use crate::walk::{first_root, next_root};
 use jiff::Timestamp as Instant;
 use std::alloc::Global;
 use std::collections::BTreeMap;
-use tough_json::error::shape;
 use tough_net::TransportErrorKind;
-use tough_roles::{
-    self as schema, Metafile, ReadError, RoleType, Root, Signed, Snapshot, Timestamp, Verify,
-};
-use tough_schema::Targets;
+use tough_roles::{Metafile, ReadError, RoleType, Signed, Snapshot, Timestamp, Verify};
 use tough_vault::{ExpirationEnforcement, StepError};
 use url::ParseError;
 
@@ -110,16 +106,6 @@ fn take_root<V: Verify>(
         first,
         later: Some(root),
     })))
-}
-
-// Whether the update began after this moment, where that counts.
-fn is_expired(enforcement: ExpirationEnforcement, start: Instant, expires: Instant) -> bool
-    ensures { result ≡ is_expired (enforces enforcement) start.nanosecond expires.nanosecond }
-{
-    match enforcement {
-        ExpirationEnforcement::Safe => expires < start,
-        ExpirationEnforcement::Unsafe => false,
-    }
 }
 
 /// The last root was stored.
@@ -229,93 +215,6 @@ fn go_to_targets(alloc: Global, limits: &Limits, known: Known) -> Result<Stage, 
     Ok(Stage::Fetch(Wanted::Targets(known, version), request))
 }
 
-// Whether the targets delegate to a role.
-fn lists_roles(targets: &Targets) -> bool
-    ensures { result ≡ lists_roles (targets_doc targets.now).delegations }
-{
-    match &targets.delegations {
-        None => false,
-        Some(delegations) => delegations.roles.len() > 0,
-    }
-}
-
-// Targets that delegate to no role.
-fn bare_targets(alloc: Global, bytes: &[u8]) -> Result<Signed<Targets>, Error>
-    ensures { Gives (signed_doc targets_doc) (bare_targets bytes.now) result }
-{
-    let targets = match Signed::<Targets>::read(alloc, bytes) {
-        Ok(targets) => targets,
-        Err(ReadError::Memory) => return Err(Error::Memory),
-        Err(source) => {
-            return Err(Error::ParseMetadata {
-                role: RoleType::Targets,
-                source,
-            });
-        }
-    };
-    if lists_roles(&targets.signed) {
-        return Err(match shape(alloc, "roles") {
-            ReadError::Memory => Error::Memory,
-            source => Error::ParseMetadata {
-                role: RoleType::Targets,
-                source,
-            },
-        });
-    }
-    Ok(targets)
-}
-
-// The targets reach the root's threshold.
-fn verify_targets<V: Verify>(
-    alloc: Global,
-    root: &Root,
-    new: &Signed<Targets>,
-    verifier: &V,
-) -> Result<(), Error>
-    ensures passed { OnOk result (targets_verdict (V.verifies verifier.now) (root_doc root.now) (signed_doc targets_doc new.now) ≡ Ok (tt {0})) }
-    ensures refused { IfErr result (λ e. IsUnverified types.Targets (targets_verdict (V.verifies verifier.now) (root_doc root.now) (signed_doc targets_doc new.now)) e) }
-{
-    match root.verify_role(alloc, new, verifier) {
-        Ok(()) => Ok(()),
-        Err(schema::Error::Memory) => Err(Error::Memory),
-        Err(source) => Err(Error::VerifyMetadata {
-            role: RoleType::Targets,
-            source,
-        }),
-    }
-}
-
-// Targets reach the root's threshold, have the listed version and aren't expired.
-fn check_targets<V: Verify>(
-    setting: &Setting<'_>,
-    known: &Known,
-    listed: u64,
-    targets: &Signed<Targets>,
-    verifier: &V,
-) -> Result<(), Error>
-    ensures { Gives (λ u. tt {0}) (targets_checked (V.verifies verifier.now) (enforces setting.now.enforcement) (known_doc known.now) listed (signed_doc targets_doc targets.now)) result }
-{
-    if let Err(error) = verify_targets(setting.alloc, &known.root.signed, targets, verifier) {
-        return Err(error);
-    }
-    let fetched = targets.signed.version.get();
-    if fetched != listed {
-        return Err(Error::VersionMismatch {
-            role: RoleType::Targets,
-            fetched,
-            expected: listed,
-        });
-    }
-    if is_expired(setting.enforcement, known.start, targets.signed.expires) {
-        return Err(Error::ExpiredMetadata {
-            role: RoleType::Targets,
-            expires: targets.signed.expires,
-            now: known.start,
-        });
-    }
-    Ok(())
-}
-
 fn take_targets<V: Verify>(
     setting: &Setting<'_>,
     known: Known,
@@ -325,12 +224,9 @@ fn take_targets<V: Verify>(
 ) -> Result<Stage, Error>
     ensures { Gives stage_doc (new_targets (V.verifies verifier.now) (enforces setting.now.enforcement) (known_doc known) listed bytes.now) result }
 {
-    let targets = match bare_targets(setting.alloc, bytes) {
-        Ok(targets) => targets,
-        Err(error) => return Err(error),
-    };
-    match check_targets(setting, &known, listed, &targets, verifier) {
-        Ok(()) => Ok(Stage::Step(Pending::PutTargets(known, targets))),
+    let holder = Holder::Root(&known.root.signed);
+    match judge(setting, known.start, &holder, listed, bytes, verifier) {
+        Ok(targets) => Ok(Stage::Step(Pending::PutTargets(known, targets))),
         Err(error) => Err(error),
     }
 }
@@ -389,6 +285,7 @@ fn end_fetch(
         Wanted::Timestamp(_) => Err(fault_error(request.name, fault)),
         Wanted::Snapshot(_, _, _) => Err(fault_error(request.name, fault)),
         Wanted::Targets(_, _) => Err(fault_error(request.name, fault)),
+        Wanted::Role(_, _, _) => Err(fault_error(request.name, fault)),
     }
 }
 
@@ -412,19 +309,24 @@ pub(crate) fn end_cut(wanted: Wanted, request: Request, fault: Fault) -> Result<
 pub(crate) fn read_wanted<V: Verify>(
     setting: &Setting<'_>,
     wanted: Wanted,
-    bytes: &[u8],
+    request: Request,
+    bytes: Vec<u8>,
     verifier: &V,
 ) -> Result<Stage, Error>
-    ensures { Gives stage_doc (read_wanted (V.verifies verifier.now) (enforces setting.now.enforcement) (wanted_doc wanted) bytes.now) result }
+    ensures { Gives stage_doc (read_wanted (V.verifies verifier.now) (setting_doc setting.now) (wanted_doc wanted) (request_doc request) bytes.items) result }
 {
     let alloc = setting.alloc;
+    let held = bytes.as_slice();
     match wanted {
-        Wanted::Root(walk) => take_root(alloc, walk, bytes, verifier),
-        Wanted::Timestamp(base) => take_timestamp(alloc, base, bytes),
+        Wanted::Root(walk) => take_root(alloc, walk, held, verifier),
+        Wanted::Timestamp(base) => take_timestamp(alloc, base, held),
         Wanted::Snapshot(base, timestamp, listed) => {
-            take_snapshot(alloc, base, timestamp, listed, bytes)
+            take_snapshot(alloc, base, timestamp, listed, held)
         }
-        Wanted::Targets(known, listed) => take_targets(setting, known, listed, bytes, verifier),
+        Wanted::Targets(known, listed) => take_targets(setting, known, listed, held, verifier),
+        Wanted::Role(known, roles, listed) => {
+            take_role(setting, known, roles, listed, request.name, bytes, verifier)
+        }
     }
 }
 
@@ -444,7 +346,10 @@ fn after<V: Verify>(setting: &Setting<'_>, pending: Pending, verifier: &V) -> Re
         }
         Pending::PutTimestamp(base, timestamp) => go_to_snapshot(alloc, limits, base, timestamp),
         Pending::PutSnapshot(known, _) => go_to_targets(alloc, limits, known),
-        Pending::PutTargets(known, targets) => Ok(Stage::Done(Ok(Loaded { known, targets }))),
+        Pending::PutTargets(known, targets) => begin_roles(alloc, limits, known, targets),
+        Pending::PutDelegated(known, roles, _, targets) => {
+            give_role(alloc, limits, known, roles, targets)
+        }
     }
 }
 

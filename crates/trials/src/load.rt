@@ -8,7 +8,7 @@ use std::alloc::Global;
 use tough::schema::DemoVerify;
 use tough::{
     Error, ExpirationEnforcement, FixedClock, Limits, MemoryTransport, Repository,
-    RepositoryLoader, Vault, drive,
+    RepositoryLoader, TargetName, Vault, drive,
 };
 use trials_values::case::{flag, list, number, text, text_of_either};
 use url::Url;
@@ -74,11 +74,41 @@ fn run(
 }
 
 // Adds to what is told what the store holds, and opens a vault on it anew.
-fn reopen(alloc: Global, vault: Vault<Shelf>, told: &mut String) -> anyhow::Result<Vault<Shelf>> {
+fn reopen(
+    alloc: Global,
+    case: &Value,
+    vault: Vault<Shelf>,
+    told: &mut String,
+) -> anyhow::Result<Vault<Shelf>> {
     let mut store = vault.into_store();
-    let held = store.tell(alloc)?;
+    let held = store.tell(alloc, case)?;
     told.push_str(format!(in alloc; "\n  store:{held}")?.as_str())?;
     Ok(Vault::new(alloc, store))
+}
+
+// Adds what the searches for these names find, the plain one and the permissive one: the length of the target.
+fn search(
+    alloc: Global,
+    repository: &Repository,
+    names: &[Value],
+    told: &mut String,
+) -> anyhow::Result<()> {
+    for name in names {
+        let text = name.as_str().unwrap_or("");
+        let name = TargetName::new(alloc, String::from_str(alloc, text)?)?;
+        for permissive in [false, true] {
+            let found = repository
+                .targets()
+                .signed
+                .find_target(alloc, &name, permissive);
+            let line = match found {
+                Ok(target) => format!(in alloc; "\n  {text} {permissive} {}", target.length)?,
+                Err(error) => format!(in alloc; "\n  {text} {permissive} {error}")?,
+            };
+            told.push_str(line.as_str())?;
+        }
+    }
+    Ok(())
 }
 
 /// Runs the loads of a case on one store, one after another, and tells of each what it came to and what the store then holds. Each has a
@@ -96,9 +126,12 @@ pub(crate) fn loads(rt: &HostRuntime, case: &Value) -> anyhow::Result<String> {
         let outcome = run(rt, case, load, &mut vault)?;
         let line = tell(alloc, &outcome)?;
         told.push_str(format!(in alloc; "\n  {line}")?.as_str())?;
+        if let Ok(repository) = &outcome {
+            search(alloc, repository, list(case, "find"), &mut told)?;
+        }
         is_kept = flag(load, "keeps the vault");
         if !is_kept {
-            vault = reopen(alloc, vault, &mut told)?;
+            vault = reopen(alloc, case, vault, &mut told)?;
         }
     }
     Ok(told)

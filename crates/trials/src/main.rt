@@ -29,6 +29,7 @@ fn of_devices(rt: &HostRuntime, call: &str, case: &Value) -> Result<String> {
     match call {
         "load" => load::loads(rt, case),
         "update" => update::play(rt.alloc(), case),
+        "update over files" => update::serve(rt.alloc(), case),
         "Limits::default" => update::limits_by_default(rt.alloc()),
         "vault" => vault::steps(rt.alloc(), case),
         "DirStore" => folder::play(rt, case),

@@ -1,7 +1,8 @@
 //! What a load came to, as text: the versions of what was loaded, or the refusal's name with its numbers.
 
 use std::alloc::{AllocError, Global};
-use tough::{Cause, Error, Repository, TransportError, schema};
+use tough::schema::{self, Targets};
+use tough::{Cause, Error, Repository, TransportError};
 
 /// What a load came to.
 pub(crate) fn tell(
@@ -9,15 +10,48 @@ pub(crate) fn tell(
     outcome: &Result<Repository, Error>,
 ) -> Result<String, AllocError> {
     match outcome {
-        Ok(loaded) => format!(in alloc;
-            "root {} timestamp {} snapshot {} targets {}",
-            loaded.root().signed.version,
-            loaded.timestamp().signed.version,
-            loaded.snapshot().signed.version,
-            loaded.targets().signed.version
-        ),
+        Ok(loaded) => {
+            let targets = &loaded.targets().signed;
+            let mut line = format!(in alloc;
+                "root {} timestamp {} snapshot {} targets {}",
+                loaded.root().signed.version,
+                loaded.timestamp().signed.version,
+                loaded.snapshot().signed.version,
+                targets.version
+            )?;
+            tell_roles(alloc, targets, "", &mut line)?;
+            Ok(line)
+        }
         Err(error) => told(alloc, error),
     }
+}
+
+// The roles of a tree in preorder: each behind a dash for each role above it, and with the version of its document, where it has one.
+#[cycle(roles)]
+fn tell_roles(
+    alloc: Global,
+    targets: &Targets,
+    depth: &str,
+    line: &mut String,
+) -> Result<(), AllocError> {
+    let Some(delegations) = &targets.delegations else {
+        return Ok(());
+    };
+    for role in &delegations.roles {
+        match &role.targets {
+            Some(document) => {
+                let below = &document.signed.targets;
+                line.push_str(format!(in alloc;
+                    " {depth}{} {}",
+                    role.name, below.version
+                )?.as_str())?;
+                let deeper = format!(in alloc; "{depth}-")?;
+                tell_roles(alloc, below, deeper.as_str(), line)?;
+            }
+            None => line.push_str(format!(in alloc; " {depth}{}", role.name)?.as_str())?,
+        }
+    }
+    Ok(())
 }
 
 // Why a load was refused, but for a version that is lower than another.
@@ -39,6 +73,7 @@ fn told(alloc: Global, error: &Error) -> Result<String, AllocError> {
         Error::VerifyMetadata { role, source } => {
             format!(in alloc; "VerifyMetadata {} {}", role.name(), unverified(source))
         }
+        Error::InvalidPath { source } => format!(in alloc; "InvalidPath {source}"),
         Error::ExpiredMetadata { role, .. } => format!(in alloc; "ExpiredMetadata {}", role.name()),
         other => lower(alloc, other),
     }

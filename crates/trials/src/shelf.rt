@@ -5,7 +5,7 @@ use anyhow::{Result, anyhow};
 use serde_json::Value;
 use std::alloc::Global;
 use tough::{MemoryStore, Store, StoreError};
-use trials_values::case::{number, text};
+use trials_values::case::{list, number, text};
 
 // The files that are told, in this order.
 const NAMES: [&str; 5] = [
@@ -98,14 +98,23 @@ impl Shelf {
         }
     }
 
-    /// What the store holds: the name of each file and the version of its document, or the moment that it notes.
-    pub(crate) fn tell(&mut self, alloc: Global) -> Result<String> {
+    // Adds the name of a file and the version of its document, or the moment that it notes, if the store holds it.
+    fn tell_file(&mut self, alloc: Global, name: &str, told: &mut String) -> Result<()> {
+        if let Ok(Some(bytes)) = self.files.read(alloc, name) {
+            let held = held(alloc, bytes.as_slice())?;
+            told.push_str(format!(in alloc; " {name} {held}")?.as_str())?;
+        }
+        Ok(())
+    }
+
+    /// What the store holds of its own files, and of those that the case's member `documents` names.
+    pub(crate) fn tell(&mut self, alloc: Global, case: &Value) -> Result<String> {
         let mut told = String::new(alloc);
         for name in NAMES {
-            if let Ok(Some(bytes)) = self.files.read(alloc, name) {
-                let held = held(alloc, bytes.as_slice())?;
-                told.push_str(format!(in alloc; " {name} {held}")?.as_str())?;
-            }
+            self.tell_file(alloc, name, &mut told)?;
+        }
+        for name in list(case, "documents") {
+            self.tell_file(alloc, name.as_str().unwrap_or(""), &mut told)?;
         }
         Ok(told)
     }

@@ -22,6 +22,9 @@ fn act(alloc: Global, act: &Act<'_>) -> Result<String, AllocError> {
         Act::AdvanceSnapshot { new, listed, .. } => {
             format!(in alloc; "AdvanceSnapshot {} {listed}", new.signed.version)
         }
+        Act::PutDelegated { name, targets } => {
+            format!(in alloc; "PutDelegated {} {}", name.as_str(), targets.signed.version)
+        }
         Act::PutTargets(targets) => format!(in alloc; "PutTargets {}", targets.signed.version),
     }
 }
@@ -89,6 +92,43 @@ pub(crate) fn play(alloc: Global, case: &Value) -> Result<String> {
     let mut told = asked(alloc, &core)?;
     for given in list(case, "answers") {
         told.push_str(give(alloc, &mut core, given)?.as_str())?;
+    }
+    told.push_str(format!(in alloc; "\n  {}", ended(alloc, core)?)?.as_str())?;
+    Ok(told)
+}
+
+// What the files of the case, a clock and a store that takes all answer, where something is asked.
+fn served(alloc: Global, core: &Core, case: &Value) -> Result<Option<Answer>> {
+    Ok(match core.ask() {
+        Ask::Moment => Some(Answer::Moment(text(case, "now").parse::<Instant>()?)),
+        Ask::Fetch(request) => {
+            let file = case
+                .get("files")
+                .map_or("", |files| text(files, request.name.as_str()));
+            Some(if file.is_empty() {
+                Answer::NotStarted(fault(alloc, TransportErrorKind::FileNotFound)?)
+            } else if core.fits(file.as_bytes()) {
+                Answer::Bytes(Vec::from_slice(alloc, file.as_bytes())?)
+            } else {
+                Answer::Cut(fault(alloc, TransportErrorKind::Other)?)
+            })
+        }
+        Ask::Step(_) => Some(Answer::Step(Ok(()))),
+        Ask::Ready => None,
+    })
+}
+
+/// Plays an update over the case's files, by a thousand answers at most: tells what it asks in turn, and how it ended.
+pub(crate) fn serve(alloc: Global, case: &Value) -> Result<String> {
+    let trusted = Vec::from_slice(alloc, text(case, "trusted").as_bytes())?;
+    let mut core = Core::new(trusted, limits(case), enforcement(case));
+    let mut told = String::new(alloc);
+    for _ in 0..1000 {
+        told.push_str(format!(in alloc; "\n  {}", asked(alloc, &core)?)?.as_str())?;
+        let Some(answer) = served(alloc, &core, case)? else {
+            break;
+        };
+        core.answer(alloc, &DemoVerify, answer);
     }
     told.push_str(format!(in alloc; "\n  {}", ended(alloc, core)?)?.as_str())?;
     Ok(told)

@@ -82,19 +82,17 @@ fn grow(alloc: Global, case: &Value) -> Result<String> {
     let snapshot = snapshot(alloc, text(case, "listed"))?.signed;
     let top = document(alloc, text(case, "roles"))?;
     let mut wanted: Vec<String> = Vec::new(alloc);
-    let mut growth = match Growth::begin(alloc, &snapshot, top)? {
-        Progress::Grown(tree) => return told(alloc, wanted.as_slice(), &tree.signed),
-        Progress::Wants(growth, _) => growth,
-    };
+    let mut growth = Growth::new(alloc, top);
     for _ in 0..100 {
+        growth = match growth.go_on(alloc, &snapshot)? {
+            Progress::Grown(tree) => return told(alloc, wanted.as_slice(), &tree.signed),
+            Progress::Wants(growth, _) => growth,
+        };
         let name = growth.role().map_or("", |role| role.name.as_str());
         let name = String::from_str(alloc, name)?;
         let document = document_of(alloc, case, name.as_str())?;
         wanted.push(name)?;
-        growth = match growth.take(alloc, &snapshot, document)? {
-            Progress::Grown(tree) => return told(alloc, wanted.as_slice(), &tree.signed),
-            Progress::Wants(growth, _) => growth,
-        };
+        growth = growth.take(document)?;
     }
     Ok(String::from_str(alloc, "the tree grows on")?)
 }

@@ -1,6 +1,6 @@
 -- Whole updates.
 use Rattle.std.specs.Prelude.{◌≡◌, ◌+◌, ℤ, List, [], ◌∷◌, ◌++◌, Ok, true}
-use Rattle.std.proofs.Common.{refl, sym, ◌∙◌, ap, subst, inl, inr}
+use Rattle.std.proofs.Common.{◌≤ℤ◌, refl, sym, ◌∙◌, ap, subst, inl, inr}
 use Rattle.tough_keys.specs.Same.{Verifies}
 use Rattle.tough_roles.specs.Signature.{SignedDoc}
 use Rattle.tough_roles.specs.Root.{RootDoc}
@@ -14,7 +14,9 @@ use Rattle.tough_update.specs.Runs.{run, Along, HasNoted, IsLast, IsFresh, Loade
 use Rattle.tough_update.proofs.Prefixes.{in_stage, run-last, over-append}
 use Rattle.tough_update.proofs.History.{tells-at}
 use Rattle.tough_update.proofs.Noting.{once}
-use Rattle.tough_update.proofs.Sound.{Holds, Told, KnownFine, answer-fine, in-time}
+use Rattle.tough_update.proofs.Sound.{Holds, Told, KnownFine, RoleFine, TreeFine, answer-fine, in-time}
+use Rattle.tough_update.specs.Trusted.{IsVouched}
+use Rattle.tough_delegated.proofs.lemmas.Under.{below-to}
 
 module _ (v : Verifies) (c : CoreDoc) (fresh : IsFresh c) (all : List AnswerDoc) where
   abbrev Last : SignedDoc RootDoc → Type 0
@@ -56,6 +58,7 @@ loaded v c answers l fresh keeps is =
     subst (Holds v c.setting (HasNoted v c answers) (IsLast v c answers)) is
     (along-holds v c fresh answers answers [] c.stage refl refl keeps (subst (Holds v c.setting (HasNoted v c answers) (IsLast v c answers)) (sym fresh) tt)) in
     let known : KnownFine v c.setting (HasNoted v c answers) (IsLast v c answers) l.known = both.0 in
+    let tree : TreeFine v c.setting (HasNoted v c answers) (IsLast v c answers) l.known l.targets = both.1 in
     record {
       trusted = record {
         root = known.root.1;
@@ -63,16 +66,19 @@ loaded v c answers l fresh keeps is =
         alone = known.timestamp.1;
         snapshot = known.snapshot;
         snapshot_named = known.named;
-        targets_signed = both.1.0;
-        targets_named = both.1.1;
+        targets_signed = tree.top.0;
+        targets_named = tree.top.1;
+        delegated = below-to (RoleFine v c.setting (HasNoted v c answers) (IsLast v c answers) l.known) (IsVouched v l.known.snapshot.role.meta) (λ g name d h. h.0) l.targets.role tree.below;
+        once = tree.once;
+        found = tree.found;
       };
       unexpired = λ e. record {
         root = in-time c.setting.enforced _ _ e known.root.3;
         timestamp = in-time c.setting.enforced _ _ e known.timestamp.2;
         snapshot = in-time c.setting.enforced _ _ e known.in_time;
-        targets = in-time c.setting.enforced _ _ e both.1.2;
+        targets = in-time c.setting.enforced _ _ e tree.top.2;
+        delegated = below-to (RoleFine v c.setting (HasNoted v c answers) (IsLast v c answers) l.known) (λ g name d. l.known.start ≤ℤ d.role.head.expires) (λ g name d h. in-time c.setting.enforced _ _ e h.1) l.targets.role tree.below;
       };
       noted = known.root.0;
       last = known.root.2;
-      bare = both.1.3;
     }

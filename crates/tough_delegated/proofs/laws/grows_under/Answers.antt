@@ -1,6 +1,9 @@
 use Rattle.std.specs.Prelude.{IsTrue}
-use Rattle.tough_delegated.proofs.Under.{stands-under}
+use Rattle.tough_delegated.proofs.lemmas.Under.{stands-under}
 use Rattle.tough_delegated.proofs.laws.grows_under.Goals as goal
 
-pub returns : goal.returns
-returns c = λ fits. stands-under (λ g name page. IsTrue (fits g name page))
+pub returns-clause-under : goal.returns-clause-under
+returns-clause-under c = λ fits metas top hs t bare all is. (stands-under (λ g name page. IsTrue (fits g name page)) metas top hs t bare all is).0
+
+pub returns-clause-top : goal.returns-clause-top
+returns-clause-top c = λ fits metas top hs t bare all is. (stands-under (λ g name page. IsTrue (fits g name page)) metas top hs t bare all is).1

@@ -6,11 +6,11 @@ use Rattle.tough_schema.specs.declared.delegations.DelegatedRole.{out-DelegatedR
 use Rattle.tough_delegated.specs.View.{entries_of, listed_in, fetched_doc, waiting_in, work_doc}
 use Rattle.tough_delegated.proofs.Listing.{role-name, drop-role}
 use Rattle.tough_delegated.proofs.Turning.{fetched-inserted, taken-some}
-use Rattle.tough_delegated.proofs.growth.keep.Goals as goal
+use Rattle.tough_delegated.proofs.growth.Growth.take.Goals as goal
 
 pub returns : goal.returns
 returns c =
-    let g = c.args.growth in
+    let g = c.args.self in
     let at = g.at in
     let role = c.in-Some.role in
     let e = (role_tree role.now).0 in

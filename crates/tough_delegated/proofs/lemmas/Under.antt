@@ -18,9 +18,10 @@ use Rattle.tough_schema.specs.Tree.{Entry}
 use Rattle.tough_schema.specs.Update.{listed_roles}
 use Rattle.tough_schema.specs.Search.{Names, no_names, add}
 use Rattle.tough_schema.specs.Whole.{OwnDoc, TreeDoc, tree, Branches, no_branches, unloaded, loaded, put_branch, branches_from, entries_in, HeldDoc, RoleTree, top_doc}
-use Rattle.tough_delegated.specs.Growing.{Metas, Look, through, unlisted, wanted, look, looked, listed_as, Fetched, at_name, with_fetched, refilled, with_roles, OpenDoc, Turn, past, stopped, entered, turn, Turns, all_past, stopped_at, by_turn, turns, WorkDoc, Progress, wants, grown, by_turns, taken_up, settle, give, by_look, go_on, begun, with_taken, taken, first_of, holder_of}
+use Rattle.tough_delegated.specs.Growing.{Metas, Look, through, unlisted, wanted, look, looked, listed_as, Fetched, at_name, with_fetched, refilled, with_roles, OpenDoc, Turn, past, stopped, entered, turn, Turns, all_past, stopped_at, by_turn, turns, WorkDoc, Progress, wants, grown, by_turns, taken_up, settle, give, by_look, go_on, first_work, begun, with_taken, taken, first_of, holder_of}
 use Rattle.tough_schema.specs.Fresh.{carriers, carriers_below}
-use Rattle.tough_delegated.specs.Once.{IsBare, runs}
+use Rattle.tough_delegated.specs.Once.{IsBare, AreBare, runs}
+use Rattle.tough_delegated.specs.Bare.{top_page}
 use Rattle.tough_delegated.specs.Under.{page_of, Relation, Under, Below, AllTaken}
 
 abbrev entries : List RoleTree → List Entry
@@ -49,7 +50,7 @@ top-chosen o false rs bs = refl
 top-refilled : (t : TreeDoc) (rs : List RoleTree) → top_doc (refilled rs t) ≡ shown_in t (entries rs)
 top-refilled (tree o bs) rs = top-chosen o (is_some o.keys) rs bs
 
-module _ (U : Relation) where
+module _ (U : Relation) (whole : SignedDoc TargetsDoc) where
   -- bare documents have nothing below them
   bare-under : (g : Option DelegationsDoc) (bs : Branches) → carriers bs ≡ [] → Under U g bs
   bare-under g no_branches h = tt
@@ -145,7 +146,7 @@ module _ (U : Relation) where
   OpenFine o whole page = U whole.role.delegations o.role.name page × RolesUnder whole.role.delegations o.done × RolesUnder whole.role.delegations o.left × Below U o.document.below
 
   abbrev ChildFine : SignedDoc TargetsDoc → List OpenDoc → Type 0
-  ChildFine page [] = ⊤
+  ChildFine page [] = page ≡ whole
   ChildFine page (o ∷ os) = OpenFine o (page_open o) page × ChildFine (page_open o) os
 
   abbrev TurnFine : Option DelegationsDoc → Entry → Turn → Type 0
@@ -158,7 +159,7 @@ module _ (U : Relation) where
 
   abbrev ProgressFine : Progress → Type 0
   ProgressFine (wants w m) = ChildFine (page_of w.here) w.outer × Below U w.here.below × FetchedUnder (holder_of w) w.fetched
-  ProgressFine (grown t) = Below U t.role
+  ProgressFine (grown t) = Below U t.role × (top_page t ≡ whole)
 
   entered-fine : (g : Option DelegationsDoc) (e : Entry) (h : HeldDoc) (l : Names) (look : Look) → U g e.name (page_of h) → Below U h.below → TurnFine g e (entered e h l look)
   entered-fine g e h l through u k = (refl, (u, k))
@@ -208,7 +209,7 @@ module _ (U : Relation) where
       ((subst (λ p. OpenFine o p (page_of here)) (sym h.0) h.1, subst (λ p. ChildFine p outer) (sym h.0) c), h.2, tt)
 
   settle-fine : (metas : Metas) (outer : List OpenDoc) (h : HeldDoc) (l : Names) → ChildFine (page_of h) outer → Below U h.below → ProgressFine (settle metas l h outer)
-  settle-fine metas [] h l c k = k
+  settle-fine metas [] h l c k = (k, c)
   settle-fine metas (o ∷ outer) h l c k =
       let g = (page_open o).role.delegations in
       let r : RoleTree = (o.role, Some h) in
@@ -263,14 +264,44 @@ module _ (U : Relation) where
   taken-fine : (metas : Metas) (w : WorkDoc) (h : HeldDoc) → IsBare h → IfSome (first_of w.waiting) (λ e. U (holder_of w) e.name (page_of h)) → WorkFine w → ProgressFine (taken metas w h)
   taken-fine metas w h bare u k = let v = with_taken w w.waiting h in by_look-fine metas v (look metas v.loaded v.waiting) (kept-fine w w.waiting h bare u k)
 
-  begun-fine : (metas : Metas) (top : HeldDoc) → IsBare top → ProgressFine (begun metas top)
-  begun-fine metas top bare = by_look-fine metas (record { outer = []; loaded = no_names; here = top; fetched = []; waiting = listed_roles top.below }) (look metas no_names (listed_roles top.below))
-      (tt, bare-below top.below bare, tt)
+  begun-fine : (metas : Metas) (top : HeldDoc) → page_of top ≡ whole → IsBare top → ProgressFine (begun metas top)
+  begun-fine metas top is bare = by_look-fine metas (first_work top) (look metas no_names (listed_roles top.below)) (is, bare-below top.below bare, tt)
 
   runs-fine : (metas : Metas) (hs : List HeldDoc) (p : Progress) → AllTaken U metas p hs → ProgressFine p → ProgressFine (runs metas p hs)
   runs-fine metas [] p all h = h
   runs-fine metas (x ∷ hs) (wants w m) all h = runs-fine metas hs (taken metas w x) all.2 (taken-fine metas w x all.0 all.1 h)
   runs-fine metas (x ∷ hs) (grown t) all h = h
 
-  pub stands-under : (metas : Metas) (top : HeldDoc) (hs : List HeldDoc) (t : SignedDoc TreeDoc) → IsBare top → AllTaken U metas (begun metas top) hs → runs metas (begun metas top) hs ≡ grown t → Below U t.role
-  stands-under metas top hs t bare all is = subst ProgressFine is (runs-fine metas hs (begun metas top) all (begun-fine metas top bare))
+-- Of a tree that grew: its documents stand so under one another, and it says for itself what the first document did.
+pub stands-under : (U : Relation) (metas : Metas) (top : HeldDoc) (hs : List HeldDoc) (t : SignedDoc TreeDoc) → IsBare top → AllTaken U metas (begun metas top) hs → runs metas (begun metas top) hs ≡ grown t
+    → Below U t.role × (top_page t ≡ page_of top)
+stands-under U metas top hs t bare all is = subst (ProgressFine U (page_of top)) is (runs-fine U (page_of top) metas hs (begun metas top) all (begun-fine U (page_of top) metas top refl bare))
+
+-- ---- one document more
+
+pub runs-more : (metas : Metas) (hs : List HeldDoc) (p : Progress) (w : WorkDoc) (m : MetafileDoc) (h : HeldDoc) → runs metas p hs ≡ wants w m → runs metas p (hs ++ h ∷ []) ≡ taken metas w h
+runs-more metas [] p w m h is = ap (λ q. runs metas q (h ∷ [])) is
+runs-more metas (x ∷ hs) (wants v n) w m h is = runs-more metas hs (taken metas v x) w m h is
+runs-more metas (x ∷ hs) (grown t) w m h is = cc
+
+pub all-more : (U : Relation) (metas : Metas) (hs : List HeldDoc) (p : Progress) (w : WorkDoc) (m : MetafileDoc) (h : HeldDoc) → runs metas p hs ≡ wants w m → AllTaken U metas p hs
+    → IsBare h → IfSome (first_of w.waiting) (λ e. U (holder_of w) e.name (page_of h)) → AllTaken U metas p (hs ++ h ∷ [])
+all-more U metas [] p w m h is all b u = subst (λ q. AllTaken U metas q (h ∷ [])) (sym is) (b, u, tt)
+all-more U metas (x ∷ hs) (wants v n) w m h is all b u = (all.0, all.1, all-more U metas hs (taken metas v x) w m h is all.2 b u)
+all-more U metas (x ∷ hs) (grown t) w m h is all b u = cc
+
+-- documents that were read
+pub bare-more : (hs : List HeldDoc) (h : HeldDoc) → AreBare hs → IsBare h → AreBare (hs ++ h ∷ [])
+bare-more [] h bare b = (b, tt)
+bare-more (x ∷ hs) h bare b = (bare.0, bare-more hs h bare.1 b)
+
+-- ---- what holds throughout a tree, by what follows from it
+
+mutual
+  under-to : (U V : Relation) → ((g : Option DelegationsDoc) (name : List ℕ) (d : SignedDoc TargetsDoc) → U g name d → V g name d) → (g : Option DelegationsDoc) (bs : Branches) → Under U g bs → Under V g bs
+  under-to U V f g no_branches h = tt
+  under-to U V f g (unloaded e bs) h = under-to U V f g bs h
+  under-to U V f g (loaded e n s t bs) h = (f g e.name (record { role = top_doc t; signatures = s }) h.0, below-to U V f t h.1, under-to U V f g bs h.2)
+
+  pub below-to : (U V : Relation) → ((g : Option DelegationsDoc) (name : List ℕ) (d : SignedDoc TargetsDoc) → U g name d → V g name d) → (t : TreeDoc) → Below U t → Below V t
+  below-to U V f (tree o bs) h = under-to U V f (top_doc (tree o bs)).delegations bs h

@@ -6,7 +6,7 @@ use Rattle.tough_schema.specs.Tree.{Entry}
 use Rattle.tough_schema.specs.Update.{listed_roles}
 use Rattle.tough_schema.specs.Search.{Names, no_names, add}
 use Rattle.tough_schema.specs.Whole.{HeldDoc, RoleTree}
-use Rattle.tough_delegated.specs.Growing.{Metas, Look, through, unlisted, wanted, look, looked, listed_as, with_fetched, with_roles, OpenDoc, Turn, past, stopped, entered, turn, Turns, all_past, stopped_at, by_turn, turns, WorkDoc, Progress, wants, grown, by_turns, taken_up, settle, give, by_look, go_on, begun, with_taken, taken}
+use Rattle.tough_delegated.specs.Growing.{Metas, Look, through, unlisted, wanted, look, looked, listed_as, with_fetched, with_roles, OpenDoc, Turn, past, stopped, entered, turn, Turns, all_past, stopped_at, by_turn, turns, WorkDoc, Progress, wants, grown, by_turns, taken_up, settle, give, by_look, go_on, first_work, begun, with_taken, taken}
 use Rattle.tough_delegated.specs.Listed.{IsListed, WantsListed}
 use Rattle.tough_delegated.specs.Once.{runs}
 
@@ -99,7 +99,7 @@ module _ (metas : Metas) where
   with_taken-ends w (e ∷ rest) h is x = next-ends (listed_roles w.here.below) e rest x
 
   begun-listed : (top : HeldDoc) → WantsListed metas (begun metas top)
-  begun-listed top = go_on-listed (record { outer = []; loaded = no_names; here = top; fetched = []; waiting = listed_roles top.below }) ([], refl)
+  begun-listed top = go_on-listed (first_work top) ([], refl)
 
   runs-listed : (hs : List HeldDoc) (p : Progress) → WantsListed metas p → WantsListed metas (runs metas p hs)
   runs-listed [] p x = x

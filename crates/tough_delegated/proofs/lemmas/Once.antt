@@ -13,7 +13,7 @@ use Rattle.tough_schema.specs.Tree.{Entry}
 use Rattle.tough_schema.specs.Update.{listed_roles}
 use Rattle.tough_schema.specs.Search.{Names, no_names, add}
 use Rattle.tough_schema.specs.Whole.{OwnDoc, TreeDoc, tree, Branches, put_branch, branches_from, HeldDoc, RoleTree}
-use Rattle.tough_delegated.specs.Growing.{Metas, Look, through, unlisted, wanted, look, Fetched, at_name, with_fetched, refilled, with_roles, OpenDoc, Turn, past, stopped, entered, turn, Turns, all_past, stopped_at, by_turn, turns, WorkDoc, Progress, wants, grown, by_turns, taken_up, settle, give, by_look, go_on, begun, with_taken, taken}
+use Rattle.tough_delegated.specs.Growing.{Metas, Look, through, unlisted, wanted, look, Fetched, at_name, with_fetched, refilled, with_roles, OpenDoc, Turn, past, stopped, entered, turn, Turns, all_past, stopped_at, by_turn, turns, WorkDoc, Progress, wants, grown, by_turns, taken_up, settle, give, by_look, go_on, first_work, begun, with_taken, taken}
 use Rattle.tough_schema.specs.Fresh.{carriers, carriers_below}
 use Rattle.tough_delegated.specs.Once.{is_among, Distinct, IsBare, AreBare, runs}
 
@@ -264,7 +264,7 @@ taken-fine : (metas : Metas) (w : WorkDoc) (h : HeldDoc) → IsBare h → WorkFi
 taken-fine metas w h bare k = let v = with_taken w w.waiting h in by_look-fine metas v (look metas v.loaded v.waiting) (kept-fine w w.waiting h bare k)
 
 begun-fine : (metas : Metas) (top : HeldDoc) → IsBare top → ProgressFine (begun metas top)
-begun-fine metas top bare = by_look-fine metas (record { outer = []; loaded = no_names; here = top; fetched = []; waiting = listed_roles top.below }) (look metas no_names (listed_roles top.below))
+begun-fine metas top bare = by_look-fine metas (first_work top) (look metas no_names (listed_roles top.below))
     ((tt, tt), tt, bare, tt)
 
 runs-fine : (metas : Metas) (hs : List HeldDoc) (p : Progress) → AreBare hs → ProgressFine p → ProgressFine (runs metas p hs)

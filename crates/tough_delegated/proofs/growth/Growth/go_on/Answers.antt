@@ -5,12 +5,12 @@ use Rattle.tough_schema.proofs.lemmas.Walks.{names_in-insert}
 use Rattle.tough_delegated.specs.Growing.{unlisted, look, by_look, go_on, settle}
 use Rattle.tough_delegated.specs.View.{metas_of, waiting_in, entries_of, opens_doc, look_doc, work_doc, progress_doc}
 use Rattle.tough_delegated.proofs.Turning.{if_ok-to}
-use Rattle.tough_delegated.proofs.growth.go_on.Goals as goal
+use Rattle.tough_delegated.proofs.growth.Growth.go_on.Goals as goal
 
 pub returns-in-Unlisted : goal.returns-in-Unlisted
 returns-in-Unlisted c =
     let metas = metas_of c.args.snapshot.now in
-    let g = c.args.growth in
+    let g = c.args.self in
     let names = names_in g.loaded in
     let h = held_doc g.here in
     let outer = opens_doc g.outer.items in

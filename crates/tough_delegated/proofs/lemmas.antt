@@ -1,0 +1,5 @@
+-- Facts about this crate's definitions, for the proofs of the crates above it too.
+pub mod Bare
+pub mod Once
+pub mod Under
+pub mod Listed

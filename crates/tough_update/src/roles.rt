@@ -1,0 +1,168 @@
+//! The documents of delegated roles (TUF specification 5.6.7).
+
+ghost use Rattle.std.specs.Prelude.{◌≡◌, ◌++◌, ◌∷◌, [], IfOk, string_bytes};
+ghost use Rattle.tough_roles.specs.Signature.{signed_doc};
+ghost use Rattle.tough_vault.specs.Checks.{enforces};
+ghost use Rattle.tough_vault.specs.DocumentName.{name_of};
+ghost use Rattle.tough_schema.specs.Whole.{tree_doc};
+ghost use Rattle.tough_delegated.specs.Growing.{wants, go_on};
+ghost use Rattle.tough_delegated.specs.View.{work_doc};
+ghost use Rattle.tough_update.specs.Failure.{Gives};
+ghost use Rattle.tough_update.specs.Listed.{judged};
+ghost use Rattle.tough_update.specs.Delegated.{wanted_name, role_holder, metas_in, with_received, finished, grown_on, roles_begun, role_given, role_stored, new_role};
+ghost use Rattle.tough_update.specs.View.{known_doc, roles_doc, received_docs, stage_doc, setting_doc};
+
+use crate::error::Error;
+use crate::judge::{Holder, judge};
+use crate::limits::Limits;
+use crate::request::role_request;
+use crate::stage::{Known, Loaded, Pending, Received, Roles, Stage, Wanted};
+use crate::turns::Setting;
+use std::alloc::{AllocError, Global};
+use tough_delegated::{Growth, Progress};
+use tough_roles::{self as schema, Signed, Verify};
+use tough_schema::Targets;
+use tough_vault::DocumentName;
+
+// The name of the role whose document is wanted.
+fn wanted_name(growth: &Growth) -> &str
+    ensures { result.now ≡ wanted_name (work_doc growth.now) }
+{
+    match growth.role() {
+        Some(role) => role.name.as_str(),
+        None => "",
+    }
+}
+
+// The tree is complete: each name that it lists must be found.
+fn finish(
+    alloc: Global,
+    known: Known,
+    targets: Signed<Targets>,
+    received: Vec<Received>,
+) -> Result<Stage, Error>
+    ensures { Gives stage_doc (finished (known_doc known) (received_docs received.items) (signed_doc tree_doc targets)) result }
+{
+    match targets.signed.validate(alloc) {
+        Ok(()) => Ok(Stage::Done(Ok(Loaded {
+            known,
+            targets,
+            received,
+        }))),
+        Err(schema::Error::Memory) => Err(Error::Memory),
+        Err(source) => Err(Error::InvalidPath { source }),
+    }
+}
+
+// Another document is to be fetched, as the snapshot's entry says, or the tree is complete.
+fn grow_on(
+    alloc: Global,
+    limits: &Limits,
+    known: Known,
+    growth: Growth,
+    received: Vec<Received>,
+) -> Result<Stage, Error>
+    ensures { Gives stage_doc (grown_on limits.now (known_doc known) (received_docs received.items) (go_on (metas_in (known_doc known)) (work_doc growth))) result }
+{
+    let consistent = known.root.signed.consistent_snapshot;
+    match growth.go_on(alloc, &known.snapshot.signed)? {
+        Progress::Wants(growth, meta) => {
+            let request = role_request(alloc, limits, consistent, wanted_name(&growth), meta)?;
+            let listed = meta.version.get();
+            let roles = Roles { growth, received };
+            Ok(Stage::Fetch(Wanted::Role(known, roles, listed), request))
+        }
+        Progress::Grown(targets) => finish(alloc, known, targets, received),
+    }
+}
+
+/// The targets were stored: the documents of their roles are fetched.
+pub(crate) fn begin_roles(
+    alloc: Global,
+    limits: &Limits,
+    known: Known,
+    targets: Signed<Targets>,
+) -> Result<Stage, Error>
+    ensures { Gives stage_doc (roles_begun limits.now (known_doc known) (signed_doc tree_doc targets)) result }
+{
+    grow_on(
+        alloc,
+        limits,
+        known,
+        Growth::new(alloc, targets),
+        Vec::new(alloc),
+    )
+}
+
+/// A role gets its document.
+pub(crate) fn give_role(
+    alloc: Global,
+    limits: &Limits,
+    known: Known,
+    roles: Roles,
+    targets: Signed<Targets>,
+) -> Result<Stage, Error>
+    ensures { Gives stage_doc (role_given limits.now (known_doc known) (roles_doc roles) (signed_doc tree_doc targets)) result }
+{
+    let Roles { growth, received } = roles;
+    let name = String::from_str(alloc, wanted_name(&growth))?;
+    let growth = growth.take(Targets::named(targets, name))?;
+    grow_on(alloc, limits, known, growth, received)
+}
+
+// The document is stored by the name of its file, unless that is reserved.
+fn store_role(
+    setting: &Setting<'_>,
+    known: Known,
+    roles: Roles,
+    file: String,
+    targets: Signed<Targets>,
+) -> Result<Stage, Error>
+    ensures { Gives stage_doc (role_stored (setting_doc setting.now).limits (known_doc known) (roles_doc roles) (string_bytes file) (signed_doc tree_doc targets)) result }
+{
+    match DocumentName::delegated(file) {
+        Some(name) => Ok(Stage::Step(Pending::PutDelegated(known, roles, name, targets))),
+        None => give_role(setting.alloc, &setting.limits, known, roles, targets),
+    }
+}
+
+// The bytes are kept, under the role's name.
+fn keep_bytes(alloc: Global, roles: Roles, bytes: Vec<u8>) -> Result<Roles, AllocError>
+    ensures { IfOk result (λ r. roles_doc r ≡ with_received (roles_doc roles) bytes.items) }
+{
+    let Roles {
+        growth,
+        mut received,
+    } = roles;
+    let role = String::from_str(alloc, wanted_name(&growth))?;
+    received.push(Received { role, bytes })?;
+    Ok(Roles { growth, received })
+}
+
+/// The bytes of a role's document.
+pub(crate) fn take_role<V: Verify>(
+    setting: &Setting<'_>,
+    known: Known,
+    roles: Roles,
+    listed: u64,
+    file: String,
+    bytes: Vec<u8>,
+    verifier: &V,
+) -> Result<Stage, Error>
+    ensures { Gives stage_doc (new_role (V.verifies verifier.now) (setting_doc setting.now) (known_doc known) (roles_doc roles) listed (string_bytes file) bytes.items) result }
+{
+    let holder = Holder::Delegations(roles.growth.holder(), wanted_name(&roles.growth));
+    let targets = match judge(
+        setting,
+        known.start,
+        &holder,
+        listed,
+        bytes.as_slice(),
+        verifier,
+    ) {
+        Ok(targets) => targets,
+        Err(error) => return Err(error),
+    };
+    let roles = keep_bytes(setting.alloc, roles, bytes)?;
+    store_role(setting, known, roles, file, targets)
+}
