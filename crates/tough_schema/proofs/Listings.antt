@@ -1,11 +1,10 @@
 -- What the documents of a tree list, one after another.
-use Rattle.std.proofs.Common.{◌≡◌, ℕ, ◌+◌, ◌<◌, List, [], ◌∷◌, ◌++◌, take, drop, length, get_or, Option, Some, None, is_some, true, option_map, Bor, Ordering, Less, Equal, Greater, inl, inr, refl, sym, ap, subst, ◌∙◌, append_assoc, append-nil}
-use Rattle.std.proofs.lemmas.List.{map-append, take_more, drop_more, take-append-drop}
+use Rattle.std.proofs.Common.{◌≡◌, ℕ, ◌+◌, ◌<◌, List, [], ◌∷◌, ◌++◌, map, take, drop, length, get_or, Option, Some, None, is_some, true, not, option_map, Bor, Ordering, Less, Equal, Greater, refl, sym, ap, ◌∙◌, append_assoc, append-nil}
+use Rattle.std.proofs.lemmas.List.{map-append, take_more, drop_more}
 use Rattle.std.specs.BTreeMap.{insert_entry}
-use Rattle.std.specs.List.{AllByRecursion}
+use Rattle.std.specs.List.{find}
 use Rattle.std.specs.Ordering.{match_ordering}
 use Rattle.tough_names.specs.Named.{Named, by_raw_then_resolved}
-use Rattle.tough_roles.specs.Reaches.{IsAmong}
 use Rattle.tough_roles.specs.declared.signed.Signed.{Signed}
 use Rattle.tough_schema.specs.declared.delegations.DelegatedRole.{DelegatedRole, out-DelegatedRole}
 use Rattle.tough_schema.specs.declared.target.Target.{Target}
@@ -18,7 +17,7 @@ use Rattle.tough_schema.specs.Whole.{TreeDoc, RoleTree, listing_of, tree_doc, ro
 use Rattle.tough_roles.specs.declared.error.Error.{Error}
 use Rattle.tough_roles.specs.declared.error.Error.TheVariants as errors
 use Rattle.tough_schema.specs.Search.{search, IsNotFound}
-use Rattle.tough_schema.specs.Entries.{listed_of, listed_in, all_listed, merged_into, IsListed, IsInvalid}
+use Rattle.tough_schema.specs.Entries.{listed_of, listed_in, merged_into, is_found, first_missing, IsInvalid}
 use Rattle.tough_schema.specs.Gather.{shown, listed_docs, map_docs}
 use Rattle.tough_schema.proofs.lemmas.Wholes.{tree-out, role-held, held-below}
 
@@ -69,32 +68,30 @@ pub merged-more : (found : Listing) (es : List (Bor Named × Bor Target)) (i : �
     → merged_into found (listed_docs (take (i + 1) es)) ≡ insert_entry by_raw_then_resolved (merged_into found (listed_docs (take i es))) e.0.now (target_doc e.1.now)
 merged-more found es i e h is = ap (merged_into found) (docs-more es i e h is) ∙ merged-last found (listed_docs (take i es)) (e.0.now, target_doc e.1.now)
 
--- ---- each of them
-
-all-last : {A : Type 0} (P : A → Type 0) (xs : List A) (x : A) → AllByRecursion P xs → P x → AllByRecursion P (xs ++ x ∷ [])
-all-last P [] x h p = (p, tt)
-all-last P (y ∷ xs) x h p = (h.0, all-last P xs x h.1 p)
-
-pub all-more : (P : Named × TargetDoc → Type 0) (es : List (Bor Named × Bor Target)) (i : ℕ) (e : Bor Named × Bor Target) → i < length es → e ≡ get_or es i e
-    → AllByRecursion P (listed_docs (take i es)) → P (e.0.now, target_doc e.1.now) → AllByRecursion P (listed_docs (take (i + 1) es))
-all-more P es i e h is all p = subst (AllByRecursion P) (sym (docs-more es i e h is)) (all-last P (listed_docs (take i es)) (e.0.now, target_doc e.1.now) all p)
-
-among-middle : {A : Type 0} (xs : List A) (x : A) (ys : List A) → IsAmong x (xs ++ x ∷ ys)
-among-middle [] x ys = inl refl
-among-middle (y ∷ xs) x ys = inr (among-middle xs x ys)
-
-pub among-at : (es : List (Bor Named × Bor Target)) (i : ℕ) (e : Bor Named × Bor Target) → i < length es → e ≡ get_or es i e → IsAmong (e.0.now, target_doc e.1.now) (listed_docs es)
-among-at es i e h is =
-    let rest : drop i es ≡ e ∷ drop (i + 1) es = drop_more es i e h ∙ ap (λ y. y ∷ drop (i + 1) es) (sym is) in
-    let whole : listed_docs es ≡ listed_docs (take i es) ++ (e.0.now, target_doc e.1.now) ∷ listed_docs (drop (i + 1) es) =
-    ap listed_docs (sym (take-append-drop i es)) ∙ ap (λ l. listed_docs (take i es ++ l)) rest ∙ map-append (λ (x : Bor Named × Bor Target). (x.0.now, target_doc x.1.now)) (take i es) (e ∷ drop (i + 1) es) in
-    subst (IsAmong (e.0.now, target_doc e.1.now)) (sym whole) (among-middle (listed_docs (take i es)) (e.0.now, target_doc e.1.now) (listed_docs (drop (i + 1) es)))
+-- ---- the first that is missing
 
 pub is_some-some : {A : Type 0} (o : Option A) (a : A) → o ≡ Some a → is_some o ≡ true
 is_some-some None a h = cc
 is_some-some (Some b) a h = refl
 
-pub invalid-from : (d : TreeDoc) (name : Named) (t : TargetDoc) (e : Error) → IsAmong (name, t) (all_listed d) → IsNotFound name (search true name d) e → IsInvalid d e
-invalid-from d name t (errors.TargetNotFound n) among h = subst (λ m. IsListed m (all_listed d) × (search true m d ≡ None)) (sym h.0) ((t, among), h.1)
-invalid-from d name t errors.Memory among h = h
-invalid-from d name t _ among h = absurd h
+-- the names from i on
+abbrev pub names_from : ℕ → List (Bor Named × Bor Target) → List Named
+names_from i es = map (λ e. e.0) (listed_docs (drop i es))
+
+names-more : (es : List (Bor Named × Bor Target)) (i : ℕ) (e : Bor Named × Bor Target) → i < length es → e ≡ get_or es i e → names_from i es ≡ e.0.now ∷ names_from (i + 1) es
+names-more es i e h is = ap (λ l. map (λ (x : Named × TargetDoc). x.0) (listed_docs l)) (drop_more es i e h ∙ ap (λ y. y ∷ drop (i + 1) es) (sym is))
+
+-- the name at i is found
+pub missing-later : (t : TreeDoc) (es : List (Bor Named × Bor Target)) (i : ℕ) (e : Bor Named × Bor Target) → i < length es → e ≡ get_or es i e → is_found t e.0.now ≡ true
+    → find (λ name. not (is_found t name)) (names_from i es) ≡ find (λ name. not (is_found t name)) (names_from (i + 1) es)
+missing-later t es i e h is found = rw (names-more es i e h is, found) refl
+
+-- it isn't
+pub missing-here : (t : TreeDoc) (es : List (Bor Named × Bor Target)) (i : ℕ) (e : Bor Named × Bor Target) → i < length es → e ≡ get_or es i e → search true e.0.now t ≡ None
+    → find (λ name. not (is_found t name)) (names_from i es) ≡ Some e.0.now
+missing-here t es i e h is missing = rw (names-more es i e h is, missing) refl
+
+pub invalid-from : (d : TreeDoc) (name : Named) (e : Error) → (search true name d ≡ None → first_missing d ≡ Some name) → IsNotFound name (search true name d) e → IsInvalid d e
+invalid-from d name (errors.TargetNotFound n) here h = here h.1 ∙ ap Some (sym h.0)
+invalid-from d name errors.Memory here h = h
+invalid-from d name _ here h = absurd h

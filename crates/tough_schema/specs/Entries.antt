@@ -1,12 +1,10 @@
 -- The roles of a tree in preorder, and what the documents of the tree list (TUF specification 1.0, section 4.5).
-use Rattle.std.specs.Prelude.{◌≡◌, ⊤, ℕ, List, [], ◌∷◌, ◌++◌, map, Option, Some, None, is_some, true}
-use Rattle.std.specs.List.{AllByRecursion, filter_map}
+use Rattle.std.specs.Prelude.{◌≡◌, ⊤, ℕ, List, [], ◌∷◌, ◌++◌, map, Option, Some, None, is_some, Bool, true, not}
+use Rattle.std.specs.List.{AllByRecursion, filter_map, find}
 use Rattle.std.specs.BTreeMap.{insert_entry}
 use Rattle.tough_names.specs.Named.{Named, by_raw_then_resolved}
-use Rattle.tough_roles.specs.Reaches.{IsAmong}
 use Rattle.tough_roles.specs.declared.error.Error.{Error}
 use Rattle.tough_roles.specs.declared.error.Error.TheVariants as errors
-use Rattle.tough_schema.specs.Target.{TargetDoc}
 use Rattle.tough_schema.specs.Tree.{Listing}
 use Rattle.tough_schema.specs.Whole.{TreeDoc, HeldDoc, RoleTree, listing_of}
 use Rattle.tough_schema.specs.Preorder.{preorder_below}
@@ -45,15 +43,24 @@ abbrev pub merged_into : Listing → Listing → Listing
 merged_into found [] = found
 merged_into found (e ∷ es) = merged_into (insert_entry by_raw_then_resolved found e.0 e.1) es
 
--- each listed name is found by the permissive search
+-- the listed names, in this order
+abbrev pub listed_names : TreeDoc → List Named
+listed_names t = map (λ e. e.0) (all_listed t)
+
+-- the permissive search finds the name
+abbrev pub is_found : TreeDoc → Named → Bool
+is_found t name = is_some (search true name t)
+
+-- each listed name is found
 abbrev pub IsValid : TreeDoc → Type 0
-IsValid t = AllByRecursion (λ e. is_some (search true e.0 t) ≡ true) (all_listed t)
+IsValid t = AllByRecursion (λ name. is_found t name ≡ true) (listed_names t)
 
--- A listed name that isn't found. Want of memory says nothing.
-abbrev pub IsListed : Named → Listing → Type 0
-IsListed name l = (t : TargetDoc) × IsAmong (name, t) l
+-- the first listed name that isn't found
+abbrev pub first_missing : TreeDoc → Option Named
+first_missing t = find (λ name. not (is_found t name)) (listed_names t)
 
+-- Why a tree isn't valid. Want of memory says nothing.
 abbrev pub IsInvalid : TreeDoc → Error → Type 0
-IsInvalid t (errors.TargetNotFound name) = IsListed name (all_listed t) × (search true name t ≡ None)
+IsInvalid t (errors.TargetNotFound name) = first_missing t ≡ Some name
 IsInvalid t errors.Memory = ⊤
 IsInvalid t _ = ⊥

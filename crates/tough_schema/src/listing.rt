@@ -1,10 +1,10 @@
 //! What the documents of a tree list.
 
-ghost use Rattle.std.specs.Prelude.{◌≡◌, ◌++◌, [], IfOk, IfErr, OnOk, map};
+ghost use Rattle.std.specs.Prelude.{◌≡◌, ◌++◌, [], None, IfOk, IfErr, OnOk, map};
 ghost use Rattle.tough_schema.specs.Target.{target_doc};
 ghost use Rattle.tough_schema.specs.Targets.{listing_doc};
 ghost use Rattle.tough_schema.specs.Whole.{tree_doc, role_tree};
-ghost use Rattle.tough_schema.specs.Entries.{all_listed, listed_of, merged_into, IsValid, IsInvalid};
+ghost use Rattle.tough_schema.specs.Entries.{all_listed, listed_of, merged_into, first_missing, IsInvalid};
 ghost use Rattle.tough_schema.specs.Gather.{listed_docs, map_docs};
 
 use crate::delegations::DelegatedRole;
@@ -69,9 +69,10 @@ impl Targets {
         Ok(found)
     }
 
-    /// Whether each listed name is found by the permissive search; else `TargetNotFound` with a name that isn't.
+    /// Whether each listed name is found by the permissive search; else `TargetNotFound` with the first that isn't, in
+    /// the order of `targets_iter`.
     pub fn validate(&self, alloc: Global) -> Result<(), Error>
-        ensures ok { IfOk result (λ u. IsValid (tree_doc self.now)) }
+        ensures ok { IfOk result (λ u. first_missing (tree_doc self.now) ≡ None) }
         ensures refused { IfErr result (λ e. IsInvalid (tree_doc self.now) e) }
     {
         let listed = self.targets_iter(alloc)?;
