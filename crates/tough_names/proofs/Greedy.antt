@@ -105,7 +105,7 @@ fits_one : (negated : Bool) (spans : List Span) (c : ℕ) (left : List Part) (re
 fits_one negated spans c left rest taken f = (c ∷ [], rest, refl, (c, refl, taken), f)
 
 -- one character at the front
-pub FirstOf : Bool → List Span → List Part → List ℕ → Type 0
+unfoldable pub FirstOf : Bool → List Span → List Part → List ℕ → Type 0
 FirstOf negated spans left text = (c : ℕ) × (rest : List ℕ) × (text ≡ c ∷ rest) × (accepts negated spans c ≡ true) × Fits left rest
 
 pub first_of_one : (negated : Bool) (spans : List Span) (left : List Part) (text : List ℕ) → Fits (one negated spans ∷ left) text → FirstOf negated spans left text

@@ -6,6 +6,7 @@ pub mod Cleaned
 pub mod Greedy
 pub mod Retry
 pub mod Texts
+pub mod Begins
 pub mod Spelled
 pub mod Read
 pub mod Unreserved

@@ -1,5 +1,5 @@
 -- The characters of a text, taken from the front.
-use Rattle.std.proofs.Common.{◌≡◌, ℕ, List, [], ◌∷◌, ◌++◌, length, chars, encode_utf8, encode_utf8_all, IsUtf8, arith, ap, sym, ◌∙◌, length-append, ◌+◌, ◌≤◌, true, Bool, false, refl}
+use Rattle.std.proofs.Common.{◌≡◌, ℕ, List, [], ◌∷◌, ◌++◌, length, chars, encode_utf8, encode_utf8_all, IsUtf8, arith, ap, sym, ◌∙◌, length-append, ◌+◌, ◌≤◌, true, Bool, false, refl, subst, append-nil}
 use Rattle.std.proofs.lemmas.Str.{chars_past_char, chars-nil, length-encode, len_utf8_bounds, encodes-chars}
 use Rattle.std.specs.Char.{len_utf8}
 use Rattle.tough_names.specs.declared.pattern.item.Span.{Span}
@@ -25,6 +25,17 @@ no_bytes text valid e = ap length (sym (encodes-chars text valid) ∙ ap encode_
 pub no_parts : (items : List Item) → length items ≡ 0 → parts_of items ≡ []
 no_parts [] e = refl
 no_parts (x ∷ xs) e = absurd (omega (arith, e))
+
+pub fits_nothing : (items : List Item) (text : List ℕ) → length items ≡ 0 → length text ≡ 0 → Fits (parts_of items) (chars text)
+fits_nothing [] text none e = no_chars text e
+fits_nothing (x ∷ xs) text none e = absurd (omega (arith, none))
+
+-- a last run takes all
+pub run_fits : (items : List Item) (text : List ℕ) (after : List Item) → parts_of items ≡ run ∷ parts_of after → length after ≡ 0 → Fits (parts_of items) (chars text)
+run_fits items text after e none =
+    let whole : parts_of items ≡ run ∷ [] = e ∙ ap (λ ps. run ∷ ps) (no_parts after none) in
+    let P : List Part → Type 0 = λ ps. Fits ps (chars text) in
+    subst P (sym whole) (chars text, [], sym (append-nil (chars text)), tt, refl)
 
 -- a part that takes a character is one of a class
 pub takes_one : (part : Part) (c : ℕ) → part_takes part c ≡ true → (negated : Bool) × (spans : List Span) × (part ≡ one negated spans) × (accepts negated spans c ≡ true)

@@ -4,6 +4,7 @@ pub mod Apart
 pub mod Glob
 pub mod Items
 pub mod Steps
+pub mod Begins
 pub mod Grammar
 pub mod Reader
 pub mod Spelling

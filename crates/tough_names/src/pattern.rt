@@ -3,11 +3,13 @@ ghost use Rattle.std.specs.Prelude.{◌≡◌, ◌≢◌, ◌↔◌, IsTrue, IfO
 ghost use Rattle.std.proofs.Common.{rules};
 ghost use Rattle.std.specs.Cmp.Rules.{comparing};
 
+mod begins;
 mod item;
 mod matching;
 mod reading;
 
 use crate::TargetName;
+use crate::pattern::begins::begin_alike;
 use crate::pattern::item::Item;
 use crate::pattern::matching::fits;
 pub use crate::pattern::reading::PatternError;
@@ -71,6 +73,9 @@ impl PathPattern {
     pub fn matches(&self, name: &TargetName) -> bool
         ensures { IsTrue result ↔ Matches (chars self.now) (chars name.now.resolved) }
     {
+        if !begin_alike(self.value().as_bytes(), name.resolved().as_bytes()) {
+            return false;
+        }
         fits(self.items.as_slice(), name.resolved())
     }
 }

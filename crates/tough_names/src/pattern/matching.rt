@@ -8,7 +8,7 @@ use crate::pattern::item::{Item, Span};
 
 /// What the first item and the first character allow.
 pub(crate) enum Step<'a> {
-    /// Nothing is left on either side.
+    /// The items fit the text.
     Done,
     /// The first item is a run; these items follow it.
     Widen(&'a [Item]),
@@ -67,7 +67,13 @@ fn next_step<'a>(items: &'a [Item], text: &'a str) -> Step<'a>
                 Step::Stuck
             }
         }
-        Some((Item::Run, after)) => Step::Widen(after),
+        Some((Item::Run, after)) => {
+            if after.is_empty() {
+                Step::Done
+            } else {
+                Step::Widen(after)
+            }
+        }
         Some((item, after)) => match split_first(text) {
             Some((c, tail)) if item.takes(c) => Step::Advance(after, tail),
             _ => Step::Stuck,

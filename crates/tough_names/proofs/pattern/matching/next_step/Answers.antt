@@ -2,11 +2,14 @@ use Rattle.std.proofs.Common.{rules, ◌≡◌, List, ◌∷◌, true, Bool, ari
 use Rattle.tough_names.specs.declared.pattern.item.Span.{Span}
 use Rattle.tough_names.specs.Glob.{one, accepts}
 use Rattle.tough_names.specs.Items.{part_of, parts_of}
-use Rattle.tough_names.proofs.Texts.{no_chars, no_parts, takes_one, nothing_fits}
+use Rattle.tough_names.proofs.Texts.{takes_one, nothing_fits, fits_nothing, run_fits}
 use Rattle.tough_names.proofs.pattern.matching.next_step.Goals as goal
 
 pub returns-then-is_empty : goal.returns-then-is_empty
-returns-then-is_empty c = (no_parts c.args.items.now c.in-None.ensures.cases, no_chars c.args.text.now (search rules))
+returns-then-is_empty c = fits_nothing c.args.items.now c.args.text.now c.in-None.ensures.cases (search rules)
+
+pub returns-then-is_empty-2 : goal.returns-then-is_empty-2
+returns-then-is_empty-2 c = run_fits c.args.items.now c.args.text.now c.in-Some-Run-default.after.now (search rules) (search rules)
 
 pub returns-else-is_empty : goal.returns-else-is_empty
 returns-else-is_empty c = nothing_fits c.args.items.now c.args.text.now c.utf8.text c.in-None.ensures.cases (search rules)
