@@ -1,5 +1,5 @@
 -- How fetches over HTTP are set.
-use Rattle.std.specs.Prelude.{◌≡◌, ℕ, ◌*◌}
+use Rattle.std.specs.Prelude.{ℕ}
 use Rattle.std.specs.Duration.{as_nanos}
 use Rattle.tough_net.specs.declared.retry_events.RetrySettings.{RetrySettings}
 use Rattle.tough_http.specs.declared.builder.HttpTransportBuilder.{HttpTransportBuilder}

@@ -69,15 +69,16 @@ impl<R: Net + Clock + RandomSource + AllocGlobal + Clone + Drop> Transport for H
 
     fn fetch(&self, url: &Url) -> Result<Retrying<HttpRequests<R>>, TransportError> {
         let alloc = self.rt.alloc();
-        if url.scheme() != "http" {
+        if url.scheme() == "http" {
+            let text = String::from_str(alloc, url.as_str())?;
+            let requests = self.requests(url)?;
+            match Retrying::new(alloc, requests, text, self.settings.retries()) {
+                Some(stream) => Ok(stream),
+                None => Err(AllocError.into()),
+            }
+        } else {
             let kind = TransportErrorKind::UnsupportedUrlScheme;
-            return Err(TransportError::new(alloc, kind, url.as_str())?);
-        }
-        let text = String::from_str(alloc, url.as_str())?;
-        let requests = self.requests(url)?;
-        match Retrying::new(alloc, requests, text, self.settings.retries()) {
-            Some(stream) => Ok(stream),
-            None => Err(AllocError.into()),
+            Err(TransportError::new(alloc, kind, url.as_str())?)
         }
     }
 }
