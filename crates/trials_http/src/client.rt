@@ -6,11 +6,14 @@ use anyhow::Result;
 use bytes::Bytes;
 use futures::{Stream, StreamExt};
 use serde_json::Value;
-use std::alloc::Global;
+use std::alloc::{AllocGlobal, Global};
 use std::io::Write;
-use std::net::{SocketAddr, TcpStream};
+use std::net::{Net, SocketAddr, TcpStream};
+use std::random::RandomSource;
+use std::rt::Files;
 use std::str;
-use std::time::Duration;
+use std::sync::Wait;
+use std::time::{Clock, Duration};
 use tokio::runtime::LocalRuntime;
 use tough_http::{DefaultTransport, HttpTransportBuilder};
 use tough_net::{Transport, TransportError};
@@ -74,12 +77,11 @@ fn shown(alloc: Global, items: &[std::result::Result<Bytes, TransportError>]) ->
 }
 
 // What a transport's stream of a URL yields.
-fn fetch_by<T: Transport>(
-    rt: &HostRuntime,
-    runtime: &mut LocalRuntime,
-    transport: &T,
-    url: &Url,
-) -> Result<String> {
+fn fetch_by<R, T>(rt: &R, runtime: &mut LocalRuntime, transport: &T, url: &Url) -> Result<String>
+where
+    R: Wait + Clock + RandomSource + AllocGlobal,
+    T: Transport,
+{
     let alloc = rt.alloc();
     match transport.fetch(url) {
         Ok(stream) => {
@@ -91,7 +93,10 @@ fn fetch_by<T: Transport>(
 }
 
 // What the stream of the case's URL yields.
-fn fetch(rt: &HostRuntime, addr: SocketAddr, case: &Value) -> Result<String> {
+fn fetch<R>(rt: &R, addr: SocketAddr, case: &Value) -> Result<String>
+where
+    R: Net + Wait + Clock + Files + RandomSource + AllocGlobal + Clone + Drop,
+{
     let alloc = rt.alloc();
     let url = url(alloc, addr, case)?;
     let mut runtime = LocalRuntime::new(rt)?;
@@ -110,7 +115,10 @@ fn fetch(rt: &HostRuntime, addr: SocketAddr, case: &Value) -> Result<String> {
 }
 
 /// What the case's stream yields. Then the server is told to end.
-pub(crate) fn fetch_and_end(rt: &HostRuntime, addr: SocketAddr, case: &Value) -> Result<String> {
+pub(crate) fn fetch_and_end<R>(rt: &R, addr: SocketAddr, case: &Value) -> Result<String>
+where
+    R: Net + Wait + Clock + Files + RandomSource + AllocGlobal + Clone + Drop,
+{
     let told = fetch(rt, addr, case);
     TcpStream::connect(rt, addr)?.write_all(b"END\r\n\r\n")?;
     told

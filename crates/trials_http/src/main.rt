@@ -11,8 +11,14 @@ mod server;
 use anyhow::Result;
 use serde_json::Value;
 use server::Seen;
-use std::net::{Ipv4Addr, SocketAddr, TcpListener};
-use std::time::Instant;
+use std::alloc::{AllocGlobal, Global};
+use std::io::Print;
+use std::net::{Ipv4Addr, Net, SocketAddr, TcpListener, TcpStream};
+use std::random::RandomSource;
+use std::rt::Files;
+use std::sync::Wait;
+use std::thread::Threads;
+use std::time::{Clock, Instant};
 use std::{env, fs, thread};
 
 // The text of a member, empty where there is none.
@@ -34,8 +40,8 @@ fn list<'a>(case: &'a Value, name: &str) -> &'a [Value] {
 }
 
 // What was asked for, and whether each request came after the pause that the case states.
-fn told(rt: &HostRuntime, case: &Value, start: Instant, seen: &[Seen]) -> Result<String> {
-    let mut told = String::new(rt.alloc());
+fn told(alloc: Global, case: &Value, start: Instant, seen: &[Seen]) -> Result<String> {
+    let mut told = String::new(alloc);
     let mut last = start;
     for (at, request) in seen.iter().enumerate() {
         told.push_str(if at == 0 { "" } else { ", " })?;
@@ -45,10 +51,10 @@ fn told(rt: &HostRuntime, case: &Value, start: Instant, seen: &[Seen]) -> Result
         last = request.at;
         match wanted.map(u128::from) {
             Some(wanted) if gap < wanted => {
-                told.push_str(format!(in rt.alloc(); " after {gap} ms")?.as_str())?;
+                told.push_str(format!(in alloc; " after {gap} ms")?.as_str())?;
             }
             Some(wanted) if gap > wanted + 20_000 => {
-                told.push_str(format!(in rt.alloc(); " after {gap} ms")?.as_str())?;
+                told.push_str(format!(in alloc; " after {gap} ms")?.as_str())?;
             }
             _ => {}
         }
@@ -57,7 +63,11 @@ fn told(rt: &HostRuntime, case: &Value, start: Instant, seen: &[Seen]) -> Result
 }
 
 // What the case's stream yielded, and what was asked for.
-fn answer(rt: &HostRuntime, case: &Value) -> Result<String> {
+fn answer<R>(rt: &R, case: &Value) -> Result<String>
+where
+    R: Net<Listener = TcpListener, Stream = TcpStream> + Threads + Wait + Clock + Files,
+    R: RandomSource + AllocGlobal + Print + Sync + Clone + Drop,
+{
     let listener = TcpListener::bind(rt, SocketAddr::from((Ipv4Addr::LOCALHOST, 0)))?;
     let addr = listener.local_addr()?;
     let listener = &listener;
@@ -67,12 +77,16 @@ fn answer(rt: &HostRuntime, case: &Value) -> Result<String> {
         move || server::serve(rt, listener, list(case, "answers")),
         move || client::fetch_and_end(rt, addr, case),
     );
-    let asked = told(rt, case, start, seen?.as_slice())?;
+    let asked = told(rt.alloc(), case, start, seen?.as_slice())?;
     Ok(format!(in rt.alloc(); "{} <- {asked}", got?)?)
 }
 
 // Answers a case, and tells whether that is what is wanted.
-fn is_answered(rt: &HostRuntime, case: &Value) -> Result<bool> {
+fn is_answered<R>(rt: &R, case: &Value) -> Result<bool>
+where
+    R: Net<Listener = TcpListener, Stream = TcpStream> + Threads + Wait + Clock + Files,
+    R: RandomSource + AllocGlobal + Print + Sync + Clone + Drop,
+{
     let told = answer(rt, case)?;
     println!(rt; "{}: {told}", text(case, "name"))?;
     let wanted = text(case, "answer");
@@ -84,7 +98,11 @@ fn is_answered(rt: &HostRuntime, case: &Value) -> Result<bool> {
 }
 
 // Answers the cases of a file.
-fn try_file(rt: &HostRuntime, file: &str) -> Result<()> {
+fn try_file<R>(rt: &R, file: &str) -> Result<()>
+where
+    R: Net<Listener = TcpListener, Stream = TcpStream> + Threads + Wait + Clock + Files,
+    R: RandomSource + AllocGlobal + Print + Sync + Clone + Drop,
+{
     let bytes = fs::read(rt, file)?;
     let read = Value::from_slice(rt.alloc(), bytes.as_slice())?;
     let (mut count, mut others) = (0usize, 0usize);

@@ -3,12 +3,11 @@
 use crate::{number, text};
 use anyhow::Result;
 use serde_json::Value;
-use std::alloc::Global;
+use std::alloc::{AllocGlobal, Global};
 use std::io::{Read, Write};
 use std::net::{TcpListener, TcpStream};
-use std::str;
-use std::thread;
-use std::time::{Duration, Instant};
+use std::time::{Clock, Duration, Instant};
+use std::{str, thread};
 
 /// A request.
 #[derive(Drop)]
@@ -50,9 +49,12 @@ fn asked(alloc: Global, head: &str) -> Result<String> {
 }
 
 // Writes what this part of the script says, and waits for the client to close where it says so.
-fn say(rt: &HostRuntime, socket: &mut TcpStream, part: &Value) -> std::io::Result<()> {
+fn say<R: Clock>(rt: &R, socket: &mut TcpStream, part: &Value) -> std::io::Result<()> {
     socket.write_all(text(part, "head").as_bytes())?;
-    let (again, pause) = (number(part, "times").unwrap_or(1), number(part, "pause").unwrap_or(0));
+    let (again, pause) = (
+        number(part, "times").unwrap_or(1),
+        number(part, "pause").unwrap_or(0),
+    );
     for _ in 0..again {
         socket.write_all(text(part, "body").as_bytes())?;
         if pause > 0 {
@@ -67,7 +69,11 @@ fn say(rt: &HostRuntime, socket: &mut TcpStream, part: &Value) -> std::io::Resul
 }
 
 /// Answers connections until one says that it is the last, and gives the requests.
-pub(crate) fn serve(rt: &HostRuntime, listener: &TcpListener, script: &[Value]) -> Result<Vec<Seen>> {
+pub(crate) fn serve<R: Clock + AllocGlobal>(
+    rt: &R,
+    listener: &TcpListener,
+    script: &[Value],
+) -> Result<Vec<Seen>> {
     let mut seen = Vec::new(rt.alloc());
     for _ in 0..MOST {
         let (mut socket, _) = listener.accept()?;
