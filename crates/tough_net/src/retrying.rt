@@ -1,5 +1,6 @@
 //! The stream of a resource that is asked for again where a body breaks off.
 ghost use Rattle.std.specs.Prelude.{◌≡◌, ◌⊎◌, false, IfSome, string_bytes};
+ghost use Rattle.futures.specs.Runs.{Within};
 ghost use Rattle.tough_net.specs.Resource.{Fetches, Happens, IsHttpFault, kind_of_http};
 ghost use Rattle.tough_net.specs.Errors.{IsMemory};
 ghost use Rattle.tough_net.specs.Retries.{started};
@@ -49,6 +50,10 @@ impl<Q: Requests> Retrying<Q> {
         ensures parts { IfSome result (λ m. (m.requests ≡ requests) × (m.url ≡ url)) }
         ensures fresh { IfSome result (λ m. (m.core.settings ≡ settings)
             × (m.core.progress ≡ started settings)) }
+        ensures yields { IfSome result (λ m. Within
+            (Fetches Q.bodies Q.answers settings requests (string_bytes url) (started settings))
+            (Yields Q.bodies Q.answers m.core.settings
+            m.requests (string_bytes m.url) m.core.progress m.state)) }
     {
         let core = RetryCore::new(settings);
         let pause = requests.pause(core.pause())?;

@@ -20,6 +20,44 @@ pub trait TransportStream: Stream<Item = Result<Bytes, TransportError>> {}
 impl<S: Stream<Item = Result<Bytes, TransportError>>> TransportStream for S {}
 
 /// What fetches URLs. Its meaning is what it may answer to a URL: a refusal, or the items of a stream.
+///
+/// A caller may bring his own, where another scheme or another way is wanted. This one has `https` served by a gateway, a program that
+/// is asked over plain HTTP, as for `http://127.0.0.1:8080/HOST/PATH`, and speaks TLS itself; what is not `https` is left to the
+/// transport within. A load takes it as it takes any other: `loader.transport(gateway)`. Its ghost members say how little is known: it
+/// may refuse anything, and a stream is one that the transport within serves of some URL. What a load keeps rests on signatures and
+/// digests, and not on these.
+///
+/// ```
+/// #[derive(Drop)]
+/// pub struct Gateway<T> {
+///     alloc: Global,
+///     base: String,
+///     within: T,
+/// }
+///
+/// impl<T: Transport> Transport for Gateway<T> {
+///     type Stream = T::Stream;
+///
+///     ghost refuses = { λ _ _ _. ⊤ };
+///
+///     ghost serves = { λ t _ xs last. (asked : Parts) × T.serves t.within asked xs last };
+///
+///     fn fetch(&self, url: &Url) -> Result<T::Stream, TransportError> {
+///         if url.scheme() != "https" {
+///             return self.within.fetch(url);
+///         }
+///         let (base, host, path) = (self.base.as_str(), url.host_str().unwrap_or(""), url.path());
+///         let text = format!(in self.alloc; "{base}/{host}{path}")?;
+///         match Url::parse(self.alloc, text.as_str()) {
+///             Ok(asked) => self.within.fetch(&asked),
+///             Err(_) => {
+///                 let kind = TransportErrorKind::Other;
+///                 Err(TransportError::new(self.alloc, kind, text.as_str())?)
+///             }
+///         }
+///     }
+/// }
+/// ```
 pub trait Transport: Drop {
     type Stream: Stream<Item = Result<Bytes, TransportError>>;
 

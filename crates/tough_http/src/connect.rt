@@ -1,0 +1,144 @@
+//! One fresh connection.
+ghost use Rattle.futures.specs.Poll.{OnPending};
+ghost use Rattle.futures.specs.Task.{IsArmed, Keeps};
+
+use crate::deadline::Deadline;
+use futures::Future;
+use futures::task::{Context, Poll};
+use std::alloc::{AllocGlobal, Global};
+use std::io;
+use std::net::{IpAddr, Net, SocketAddr, ToSocketAddrs};
+use std::time::{Clock, Duration};
+use tokio::net::{ConnectFuture, TcpStream};
+use tokio::runtime::Handle;
+use tokio::time::Sleep;
+use url::{Host, Url};
+
+/// A connection, and until when its try may go on.
+#[derive(Drop)]
+pub struct HttpSocket {
+    pub stream: TcpStream,
+    pub deadline: Deadline,
+}
+
+/// Ends after a pause.
+#[derive(Drop)]
+pub struct HttpPause(pub Sleep);
+
+impl Future for HttpPause {
+    type Output = ();
+
+    fn poll(&mut self, cx: &mut Context<'_>) -> Poll<()> {
+        match self.0.poll(cx) {
+            Poll::Ready(_) => Poll::Ready(()),
+            Poll::Pending => Poll::Pending,
+        }
+    }
+}
+
+/// Tries the addresses of a host one after another, each for its share of the time.
+#[derive(Drop)]
+pub struct HttpConnect<R> {
+    rt: R,
+    handle: Handle,
+    // Those that are left, the next one last.
+    addresses: Vec<SocketAddr>,
+    share: Duration,
+    under_way: Option<Attempt>,
+    deadline: Deadline,
+}
+
+// A connection to one address.
+#[derive(Drop)]
+struct Attempt {
+    connect: ConnectFuture,
+    limit: Deadline,
+}
+
+impl<R: Net + Clock + AllocGlobal + Drop> HttpConnect<R> {
+    /// Begins to connect to the host of a URL. The look-up blocks.
+    pub fn new(
+        rt: R,
+        handle: Handle,
+        url: &Url,
+        timeout: Duration,
+        connect_timeout: Duration,
+    ) -> io::Result<HttpConnect<R>> {
+        let mut addresses = addresses_of(&rt, rt.alloc(), url)?;
+        addresses.reverse();
+        let count = u32::try_from(addresses.len()).unwrap_or(u32::MAX);
+        let share = connect_timeout
+            .checked_div(count)
+            .unwrap_or(connect_timeout);
+        let deadline = Deadline::new(handle.time().sleep(&rt, timeout)?);
+        Ok(HttpConnect {
+            rt,
+            handle,
+            addresses,
+            share,
+            under_way: None,
+            deadline,
+        })
+    }
+
+    // Begins with the next address, if one is left.
+    fn next_attempt(&mut self) -> Option<Attempt> {
+        let address = self.addresses.pop()?;
+        let limit = self.handle.time().sleep(&self.rt, self.share).ok()?;
+        Some(Attempt {
+            connect: TcpStream::connect(&self.rt, address, self.handle.reactor()),
+            limit: Deadline::new(limit),
+        })
+    }
+
+    // Goes on to the next address.
+    fn go_on(&mut self, cx: &mut Context<'_>) -> Poll<Option<HttpSocket>>
+        ensures registered { OnPending result (IsArmed cx.new) }
+        ensures kept { Keeps cx.old cx.new }
+    {
+        match self.next_attempt() {
+            Some(attempt) => {
+                self.under_way = Some(attempt);
+                cx.yield_now()
+            }
+            None => Poll::Ready(None),
+        }
+    }
+}
+
+impl<R: Net + Clock + AllocGlobal + Drop> Future for HttpConnect<R> {
+    type Output = Option<HttpSocket>;
+
+    fn poll(&mut self, cx: &mut Context<'_>) -> Poll<Option<HttpSocket>> {
+        let Some(attempt) = &mut self.under_way else {
+            return self.go_on(cx);
+        };
+        match attempt.connect.poll(cx) {
+            Poll::Ready(Ok(stream)) => {
+                let deadline = self.deadline.take();
+                Poll::Ready(Some(HttpSocket { stream, deadline }))
+            }
+            Poll::Ready(Err(_)) => self.go_on(cx),
+            Poll::Pending if attempt.limit.poll_over(cx) => self.go_on(cx),
+            Poll::Pending if self.deadline.poll_over(cx) => Poll::Ready(None),
+            Poll::Pending => Poll::Pending,
+        }
+    }
+}
+
+// The addresses of a URL's host.
+fn addresses_of<N: Net>(net: &N, alloc: Global, url: &Url) -> io::Result<Vec<SocketAddr>> {
+    let port = url.port_or_known_default().unwrap_or(80);
+    let mut found = Vec::new(alloc);
+    match url.host() {
+        Some(Host::Domain(name)) => {
+            for address in (name, port).to_socket_addrs(net)? {
+                found.push(address)?;
+            }
+        }
+        Some(Host::Ipv4(ip)) => found.push(SocketAddr::new(IpAddr::V4(ip), port))?,
+        Some(Host::Ipv6(ip)) => found.push(SocketAddr::new(IpAddr::V6(ip), port))?,
+        None => {}
+    }
+    Ok(found)
+}

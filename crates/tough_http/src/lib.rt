@@ -1,0 +1,21 @@
+//! Fetches over plain HTTP/1.1.
+#![tactic(auto)]
+
+mod answer;
+mod body;
+mod builder;
+mod connect;
+mod deadline;
+mod default;
+mod requests;
+mod transport;
+
+pub use answer::{accepts_ranges, answer_event};
+pub use body::{HttpAnswer, HttpBody};
+pub use builder::HttpTransportBuilder;
+pub use connect::{HttpConnect, HttpPause, HttpSocket};
+pub use deadline::Deadline;
+pub use default::DefaultTransport;
+pub use requests::HttpRequests;
+pub use tough_net::HttpError;
+pub use transport::HttpTransport;

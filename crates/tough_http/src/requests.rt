@@ -1,0 +1,111 @@
+//! Requests over sockets.
+ghost use Rattle.std.specs.Prelude.{⊤};
+
+use crate::body::{HttpAnswer, HttpBody};
+use crate::connect::{HttpConnect, HttpPause, HttpSocket};
+use bytes::Bytes;
+use http::{Request, header};
+use http_body_util::Empty;
+use hyper::client::conn::http1::{self, Connection};
+use std::alloc::{AllocError, AllocGlobal, Global};
+use std::hash::RandomState;
+use std::net::Net;
+use std::random::RandomSource;
+use std::time::{Clock, Duration};
+use tokio::net::TcpStream;
+use tokio::runtime::Handle;
+use tough_net::Requests;
+use url::Url;
+
+/// Makes requests of the resource at a URL, each over a fresh connection.
+#[derive(Drop)]
+pub struct HttpRequests<R> {
+    pub rt: R,
+    pub handle: Handle,
+    pub url: Url,
+    pub timeout: Duration,
+    pub connect_timeout: Duration,
+}
+
+impl<R: Net + Clock + RandomSource + AllocGlobal + Clone + Drop> Requests for HttpRequests<R> {
+    type Body = HttpBody;
+
+    type Answer = HttpAnswer;
+
+    type Conn = Connection<TcpStream, Empty<Bytes>>;
+
+    type Socket = HttpSocket;
+
+    type Connect = HttpConnect<R>;
+
+    type Pause = HttpPause;
+
+    // Nothing is known of what comes over a socket.
+    ghost bodies = { λ _ _ _ _. ⊤ };
+
+    ghost answers = { λ _ _ _. ⊤ };
+
+    fn pause(&self, pause: Duration) -> Option<HttpPause> {
+        let sleep = self.handle.time().sleep(&self.rt, pause).ok()?;
+        Some(HttpPause(sleep))
+    }
+
+    fn connect(&self) -> Option<HttpConnect<R>> {
+        let rt = self.rt.clone().ok()?;
+        let handle = self.handle.clone().ok()?;
+        HttpConnect::new(rt, handle, &self.url, self.timeout, self.connect_timeout).ok()
+    }
+
+    fn send(
+        &self,
+        socket: HttpSocket,
+        from: u64,
+    ) -> Option<(HttpAnswer, Connection<TcpStream, Empty<Bytes>>)> {
+        let alloc = self.rt.alloc();
+        let request = request_for(alloc, &self.url, from)?;
+        let keys = RandomState::new(&self.rt).ok()?;
+        let HttpSocket { stream, deadline } = socket;
+        let Ok((mut sender, conn)) = http1::handshake(alloc, keys, stream) else {
+            return None;
+        };
+        let response = sender.send_request(request);
+        Some((
+            HttpAnswer {
+                alloc,
+                response,
+                deadline,
+            },
+            conn,
+        ))
+    }
+}
+
+// The request of a URL's resource, from this byte on.
+fn request_for(alloc: Global, url: &Url, from: u64) -> Option<Request<Empty<Bytes>>> {
+    let target = target_of(alloc, url).ok()?;
+    let host = host_of(alloc, url).ok()?;
+    let mut request = Request::get(alloc, target.as_str()).header(header::HOST, host.as_str());
+    if from != 0 {
+        let range = format!(in alloc; "bytes={from}-").ok()?;
+        request = request.header(header::RANGE, range.as_str());
+    }
+    request.body(Empty::<Bytes>::new()).ok()
+}
+
+// The path and the query.
+fn target_of(alloc: Global, url: &Url) -> Result<String, AllocError> {
+    let path = url.path();
+    match url.query() {
+        Some(query) => format!(in alloc; "{path}?{query}"),
+        None => String::from_str(alloc, path),
+    }
+}
+
+// The host, and the port where it isn't that of the scheme.
+fn host_of(alloc: Global, url: &Url) -> Result<String, AllocError> {
+    let host = url.host_str().unwrap_or("");
+    match url.port() {
+        Some(port) => format!(in alloc; "{host}:{port}"),
+        None => String::from_str(alloc, host),
+    }
+}
