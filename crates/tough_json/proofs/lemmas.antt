@@ -9,3 +9,4 @@ pub mod MomentExists
 pub mod Named
 pub mod Piece
 pub mod Write
+pub mod Told

@@ -11,3 +11,4 @@ pub mod Moment
 pub mod Pieces
 pub mod Borrowed
 pub mod Table
+pub mod Told

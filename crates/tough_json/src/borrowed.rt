@@ -12,7 +12,7 @@ ghost use Rattle.tough_json.specs.Borrowed.{Converts, ReadsBorrowed, ReadsDocume
 ghost use Rattle.tough_json.specs.Reading.{without};
 ghost use Rattle.tough_json.specs.Results.{Reads};
 
-use crate::error::{ReadError, shape};
+use crate::error::{ReadError, member_shape};
 use crate::number::number_in;
 use json::Reader;
 pub use json::{Scratch, Value as Borrowed};
@@ -215,6 +215,6 @@ pub fn take_member<'a>(
     };
     match last_of(members, name) {
         Some(value) => Ok((value, others)),
-        None => Err(shape(alloc, name)),
+        None => Err(member_shape(alloc, name, "(missing)")),
     }
 }

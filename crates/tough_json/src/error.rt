@@ -1,4 +1,6 @@
+ghost use Rattle.std.specs.Prelude.{◌≡◌, IfOk, string_bytes};
 ghost use Rattle.tough_json.specs.Results.{IsRefusal};
+ghost use Rattle.tough_json.specs.Told.{separator, under, place_text, TellsUnder};
 
 use std::alloc::{AllocError, AllocFailed, Global};
 
@@ -8,7 +10,8 @@ pub enum ReadError {
     /// The bytes are no JSON text.
     #[error("the bytes are no JSON")]
     Json,
-    /// The JSON is no document of the kind: what is said of the member that was wrong.
+    /// The JSON is no document of the kind: the member that was wrong, by its path from the top (`signed.roles.root.keyids[0]`), and what it
+    /// isn't (`(no text)`).
     #[error("not of the document's form: {0}")]
     Shape(String),
     /// A request for memory was refused.
@@ -72,11 +75,78 @@ impl<T: Drop> From<AllocFailed<T>> for WriteError {
     }
 }
 
-// A refusal that names the member.
-pub fn shape(alloc: Global, name: &str) -> ReadError
+/// A refusal that tells this text. Of a value that is refused by itself it tells `(no text)` or the like; `within` puts names before that.
+pub fn shape(alloc: Global, told: &str) -> ReadError
     ensures { IsRefusal result }
 {
-    match String::from_str(alloc, name) {
+    match String::from_str(alloc, told) {
+        Ok(text) => ReadError::Shape(text),
+        Err(_) => ReadError::Memory,
+    }
+}
+
+// What stands between a member's name and what is told of it.
+fn separator(told: &str) -> &'static str
+    ensures { result.now ≡ separator told.now }
+{
+    match told.as_bytes().first() {
+        None | Some(b'[') => "",
+        Some(b'(') => " ",
+        Some(_) => ".",
+    }
+}
+
+// What is told of a member, under its name.
+fn under(alloc: Global, name: &str, told: &str) -> Result<String, AllocError>
+    ensures { IfOk result (λ t. string_bytes t ≡ under name.now told.now) }
+{
+    let mut text = String::from_str(alloc, name)?;
+    text.push_str(separator(told))?;
+    text.push_str(told)?;
+    Ok(text)
+}
+
+// What is told of an item, under its place.
+fn under_place(alloc: Global, place: usize, told: &str) -> Result<String, AllocError>
+    ensures { IfOk result (λ t. string_bytes t ≡ under (place_text place) told.now) }
+{
+    let mut name = String::from_str(alloc, "[")?;
+    name.push_str(place.to_string(alloc)?.as_str())?;
+    name.push_str("]")?;
+    under(alloc, name.as_str(), told)
+}
+
+/// What refused a member's value refuses the object: it is told under the member's name. It takes memory only for a `Shape`.
+pub fn within(alloc: Global, name: &str, error: ReadError) -> ReadError
+    ensures { TellsUnder name.now error result }
+{
+    match error {
+        ReadError::Shape(told) => match under(alloc, name, told.as_str()) {
+            Ok(text) => ReadError::Shape(text),
+            Err(_) => ReadError::Memory,
+        },
+        other => other,
+    }
+}
+
+/// What refused an item refuses the list: it is told under the item's place. It takes memory only for a `Shape`.
+pub fn at(alloc: Global, place: usize, error: ReadError) -> ReadError
+    ensures { TellsUnder (place_text place) error result }
+{
+    match error {
+        ReadError::Shape(told) => match under_place(alloc, place, told.as_str()) {
+            Ok(text) => ReadError::Shape(text),
+            Err(_) => ReadError::Memory,
+        },
+        other => other,
+    }
+}
+
+/// A refusal of a member by itself: `wrong` is `(no text)` or the like.
+pub fn member_shape(alloc: Global, name: &str, wrong: &str) -> ReadError
+    ensures { IsRefusal result }
+{
+    match under(alloc, name, wrong) {
         Ok(text) => ReadError::Shape(text),
         Err(_) => ReadError::Memory,
     }

@@ -7,7 +7,7 @@ ghost use Rattle.tough_base.specs.Spelled.{Spelled};
 ghost use Rattle.tough_json.specs.Reading.{required, listing, all_at, decoded};
 ghost use Rattle.tough_json.specs.Results.{Reads, Takes};
 
-use crate::error::{ReadError, shape};
+use crate::error::{ReadError, at, member_shape, shape, within};
 use crate::member::take;
 use serde_json::{Map, Value};
 use std::alloc::Global;
@@ -21,8 +21,8 @@ pub trait FromJson {
 
     ghost at: { Data → Option Doc };
 
-    /// What the JSON is; `Shape` with the name where it is none.
-    fn from_json(alloc: Global, value: Value, name: &str) -> Result<Self, ReadError>
+    /// What the JSON is; `Shape` where it is none.
+    fn from_json(alloc: Global, value: Value) -> Result<Self, ReadError>
         ensures { Reads doc result (at (view value)) };
 }
 
@@ -33,29 +33,35 @@ impl<T: Decode> FromJson for Decoded<T> {
 
     ghost at = { decoded T.decodes };
 
-    fn from_json(alloc: Global, value: Value, name: &str) -> Result<Decoded<T>, ReadError> {
+    fn from_json(alloc: Global, value: Value) -> Result<Decoded<T>, ReadError> {
         match value {
             Value::String(text) => match Decoded::from_str(alloc, text.as_str()) {
                 Ok(decoded) => Ok(decoded),
                 Err(DecodeError::Memory) => Err(ReadError::Memory),
-                Err(_) => Err(shape(alloc, name)),
+                Err(_) => Err(shape(alloc, "(cannot be decoded)")),
             },
-            _ => Err(shape(alloc, name)),
+            _ => Err(shape(alloc, "(no text)")),
         }
     }
 }
 
+// The item at the place.
+fn item_of<T: FromJson>(alloc: Global, place: usize, value: Value) -> Result<T, ReadError>
+    ensures { Reads T.doc result (T.at (view value)) }
+{
+    match T::from_json(alloc, value) {
+        Ok(item) => Ok(item),
+        Err(error) => Err(at(alloc, place, error)),
+    }
+}
+
 /// Each of the values, read.
-pub fn list_of<T: FromJson + Drop>(
-    alloc: Global,
-    values: Vec<Value>,
-    name: &str,
-) -> Result<Vec<T>, ReadError>
+pub fn list_of<T: FromJson + Drop>(alloc: Global, values: Vec<Value>) -> Result<Vec<T>, ReadError>
     ensures { Reads (λ v. map T.doc v.items) result (all_at T.at (items_view values.items)) }
 {
     let mut list = Vec::new(alloc);
     for value in values {
-        let item = T::from_json(alloc, value, name)?;
+        let item = item_of(alloc, list.len(), value)?;
         list.push(item)?;
     }
     Ok(list)
@@ -70,7 +76,10 @@ pub fn list<T: FromJson + Drop>(
     ensures { Takes (λ v. map T.doc v.items) result (members_view members.new.entries) (required name.now (listing T.at) (members_view members.old.entries)) }
 {
     match take(members, name) {
-        Some(Value::Array(items)) => list_of(alloc, items, name),
-        _ => Err(shape(alloc, name)),
+        Some(Value::Array(items)) => match list_of(alloc, items) {
+            Ok(list) => Ok(list),
+            Err(error) => Err(within(alloc, name, error)),
+        },
+        _ => Err(member_shape(alloc, name, "(no list)")),
     }
 }

@@ -5,7 +5,7 @@ ghost use Rattle.serde_json.specs.Find.{get_member, as_object};
 ghost use Rattle.tough_json.specs.Reading.{without, required, optional, text, whole, positive, hexadecimal, decoded, instant, present, as_items, truth};
 ghost use Rattle.tough_json.specs.Results.{Reads, Takes};
 
-use crate::error::{ReadError, shape};
+use crate::error::{ReadError, member_shape};
 use serde_json::{Map, Value};
 use std::alloc::Global;
 use std::num::NonZeroU64;
@@ -47,7 +47,7 @@ pub fn text(
 {
     match take(members, name) {
         Some(Value::String(text)) => Ok(text),
-        _ => Err(shape(alloc, name)),
+        _ => Err(member_shape(alloc, name, "(no text)")),
     }
 }
 
@@ -60,11 +60,11 @@ pub fn positive(
     ensures { Takes non_zero_u64_get result (members_view members.new.entries) (required name.now positive (members_view members.old.entries)) }
 {
     let Some(number) = take(members, name).and_then(|value| value.as_u64()) else {
-        return Err(shape(alloc, name));
+        return Err(member_shape(alloc, name, "(no number from 1 on)"));
     };
     match NonZeroU64::new(number) {
         Some(number) => Ok(number),
-        None => Err(shape(alloc, name)),
+        None => Err(member_shape(alloc, name, "(no number from 1 on)")),
     }
 }
 
@@ -91,7 +91,7 @@ pub fn length(
         None => Ok(None),
         Some(value) => match value.as_u64() {
             Some(number) => Ok(Some(number)),
-            None => Err(shape(alloc, name)),
+            None => Err(member_shape(alloc, name, "(no number from 0 on)")),
         },
     }
 }
@@ -108,9 +108,9 @@ pub fn decoded<T: Decode>(
         Some(Value::String(text)) => match Decoded::from_str(alloc, text.as_str()) {
             Ok(decoded) => Ok(decoded),
             Err(DecodeError::Memory) => Err(ReadError::Memory),
-            Err(_) => Err(shape(alloc, name)),
+            Err(_) => Err(member_shape(alloc, name, "(cannot be decoded)")),
         },
-        _ => Err(shape(alloc, name)),
+        _ => Err(member_shape(alloc, name, "(no text)")),
     }
 }
 
@@ -136,9 +136,9 @@ pub fn instant(
     match take(members, name) {
         Some(Value::String(text)) => match text.as_str().parse::<jiff::Timestamp>() {
             Ok(instant) => Ok(instant),
-            Err(_) => Err(shape(alloc, name)),
+            Err(_) => Err(member_shape(alloc, name, "(no instant)")),
         },
-        _ => Err(shape(alloc, name)),
+        _ => Err(member_shape(alloc, name, "(no instant)")),
     }
 }
 
@@ -152,7 +152,7 @@ pub fn value(
 {
     match take(members, name) {
         Some(value) => Ok(value),
-        None => Err(shape(alloc, name)),
+        None => Err(member_shape(alloc, name, "(missing)")),
     }
 }
 
@@ -166,7 +166,7 @@ pub fn object(
 {
     match take(members, name) {
         Some(Value::Object(inner)) => Ok(inner),
-        _ => Err(shape(alloc, name)),
+        _ => Err(member_shape(alloc, name, "(no object)")),
     }
 }
 
@@ -180,7 +180,7 @@ pub fn list(
 {
     match take(members, name) {
         Some(Value::Array(items)) => Ok(items),
-        _ => Err(shape(alloc, name)),
+        _ => Err(member_shape(alloc, name, "(no list)")),
     }
 }
 
@@ -190,6 +190,6 @@ pub fn truth(alloc: Global, members: &mut Map<String, Value>, name: &str) -> Res
 {
     match take(members, name) {
         Some(Value::Bool(found)) => Ok(found),
-        _ => Err(shape(alloc, name)),
+        _ => Err(member_shape(alloc, name, "(neither true nor false)")),
     }
 }

@@ -9,7 +9,7 @@ use crate::kind::Kind;
 use serde_json::{Map, Value};
 use std::alloc::Global;
 use tough_base::{Decode, Decoded};
-use tough_json::error::{ReadError, shape};
+use tough_json::error::{ReadError, member_shape, shape, within};
 use tough_json::member::{decoded, take};
 
 fn keytype(alloc: Global, members: &mut Map<String, Value>, name: &str) -> Result<Kind, ReadError>
@@ -18,9 +18,9 @@ fn keytype(alloc: Global, members: &mut Map<String, Value>, name: &str) -> Resul
     match take(members, name) {
         Some(Value::String(text)) => match Kind::of(text.as_str()) {
             Some(kind) => Ok(kind),
-            None => Err(shape(alloc, name)),
+            None => Err(member_shape(alloc, name, "(no known kind of key)")),
         },
-        _ => Err(shape(alloc, name)),
+        _ => Err(member_shape(alloc, name, "(no text)")),
     }
 }
 
@@ -37,10 +37,10 @@ fn scheme(
             if text.as_str() == kind.scheme() {
                 Ok(())
             } else {
-                Err(shape(alloc, name))
+                Err(member_shape(alloc, name, "(not the scheme of its kind)"))
             }
         }
-        _ => Err(shape(alloc, name)),
+        _ => Err(member_shape(alloc, name, "(no text)")),
     }
 }
 
@@ -52,7 +52,7 @@ fn keyval_of<T: Decode>(
     ensures { Reads (λ p. (p.0, members_view p.1.entries)) result (keyval_at T.decodes (view value)) }
 {
     let Value::Object(mut members) = value else {
-        return Err(shape(alloc, "keyval"));
+        return Err(shape(alloc, "(no object)"));
     };
     let public = decoded(alloc, &mut members, "public")?;
     Ok((public, members))
@@ -66,8 +66,11 @@ fn keyval<T: Decode>(
     ensures { Takes (λ p. (p.0, members_view p.1.entries)) result (members_view members.new.entries) (required name.now (keyval_at T.decodes) (members_view members.old.entries)) }
 {
     match take(members, name) {
-        Some(value) => keyval_of(alloc, value),
-        None => Err(shape(alloc, name)),
+        Some(value) => match keyval_of(alloc, value) {
+            Ok(keyval) => Ok(keyval),
+            Err(error) => Err(within(alloc, name, error)),
+        },
+        None => Err(member_shape(alloc, name, "(missing)")),
     }
 }
 
@@ -78,7 +81,7 @@ impl Key {
         ensures { Reads key_doc result (key_at (view value)) }
     {
         let Value::Object(mut members) = value else {
-            return Err(shape(alloc, "key"));
+            return Err(shape(alloc, "(no object)"));
         };
         let kind = keytype(alloc, &mut members, "keytype")?;
         scheme(alloc, &mut members, "scheme", kind)?;

@@ -61,9 +61,10 @@ impl PathPattern {
         PathPattern::new(alloc, String::from_str(alloc, text)?)
     }
 
-    /// The text.
+    /// The text, which is a pattern.
     pub fn value(&self) -> &str
-        ensures { result.now ≡ self.now }
+        ensures text { result.now ≡ self.now }
+        ensures pattern { IsPattern (chars self.now) }
     {
         self.text.as_str()
     }

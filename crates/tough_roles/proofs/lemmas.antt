@@ -3,6 +3,7 @@ pub mod Copies
 pub mod Entry
 pub mod Head
 pub mod Reached
+pub mod Rereading
 pub mod Root
 pub mod Table
 pub mod Tables

@@ -15,7 +15,7 @@ use serde_json::{Map, Value};
 use std::alloc::Global;
 use std::collections::BTreeMap;
 use tough_base::{DecodeError, Decoded, Hex};
-use tough_json::error::{ReadError, WriteError, shape};
+use tough_json::error::{ReadError, WriteError, member_shape, shape, within};
 use tough_json::list::list;
 use tough_json::member::{positive, take, truth};
 use tough_json::table::{FromEntry, table_of};
@@ -29,7 +29,7 @@ fn key_entry(alloc: Global, name: &str, value: Value) -> Result<(Decoded<Hex>, K
     let id = match Decoded::from_str(alloc, name) {
         Ok(id) => id,
         Err(DecodeError::Memory) => return Err(ReadError::Memory),
-        Err(_) => return Err(shape(alloc, "keys")),
+        Err(_) => return Err(shape(alloc, "(no hexadecimal name)")),
     };
     let key = Key::from_value(alloc, value)?;
     match key.digest(alloc) {
@@ -37,11 +37,21 @@ fn key_entry(alloc: Global, name: &str, value: Value) -> Result<(Decoded<Hex>, K
             if own.as_slice() == id.as_slice() {
                 Ok((id, key))
             } else {
-                Err(shape(alloc, "keys"))
+                Err(shape(alloc, "(not the key's identifier)"))
             }
         }
         Err(WriteError::Memory) => Err(ReadError::Memory),
-        Err(WriteError::Unwritable) => Err(shape(alloc, "keys")),
+        Err(WriteError::Unwritable) => Err(shape(alloc, "(a key without an identifier)")),
+    }
+}
+
+// The same, where a refusal tells the name.
+fn named_key(alloc: Global, name: &str, value: Value) -> Result<(Decoded<Hex>, Key), ReadError>
+    ensures { Reads (λ p. (p.0, key_doc p.1)) result (key_entry_at name.now (view value)) }
+{
+    match key_entry(alloc, name, value) {
+        Ok(entry) => Ok(entry),
+        Err(error) => Err(within(alloc, name, error)),
     }
 }
 
@@ -54,9 +64,9 @@ fn keys_of(
 {
     let mut keys = BTreeMap::new(alloc);
     for (name, value) in members {
-        let (id, key) = key_entry(alloc, name.as_str(), value)?;
+        let (id, key) = named_key(alloc, name.as_str(), value)?;
         if keys.contains_key(&id) {
-            return Err(shape(alloc, "keys"));
+            return Err(member_shape(alloc, name.as_str(), "(stands twice)"));
         }
         drop(keys.insert(id, key)?);
     }
@@ -72,8 +82,11 @@ pub fn keys(
     ensures { Takes (λ m. keys_doc m.entries) result (members_view members.new.entries) (required name.now keys_at (members_view members.old.entries)) }
 {
     match take(members, name) {
-        Some(Value::Object(inner)) => keys_of(alloc, inner),
-        _ => Err(shape(alloc, name)),
+        Some(Value::Object(inner)) => match keys_of(alloc, inner) {
+            Ok(keys) => Ok(keys),
+            Err(error) => Err(within(alloc, name, error)),
+        },
+        _ => Err(member_shape(alloc, name, "(no object)")),
     }
 }
 
@@ -93,7 +106,7 @@ fn role_keys_of(alloc: Global, value: Value) -> Result<RoleKeys, ReadError>
     ensures { Reads role_keys_doc result (role_keys_at (view value)) }
 {
     let Value::Object(mut members) = value else {
-        return Err(shape(alloc, "roles"));
+        return Err(shape(alloc, "(no object)"));
     };
     let keyids = keyids(alloc, &mut members, "keyids")?;
     let threshold = positive(alloc, &mut members, "threshold")?;
@@ -118,10 +131,12 @@ impl FromEntry<RoleType> for RoleKeys {
         value: Value,
     ) -> Result<(RoleType, RoleKeys), ReadError> {
         let Some(role) = RoleType::of(name) else {
-            return Err(shape(alloc, "roles"));
+            return Err(member_shape(alloc, name, "(no role)"));
         };
-        let keys = role_keys_of(alloc, value)?;
-        Ok((role, keys))
+        match role_keys_of(alloc, value) {
+            Ok(keys) => Ok((role, keys)),
+            Err(error) => Err(within(alloc, name, error)),
+        }
     }
 }
 
@@ -133,8 +148,11 @@ fn roles(
     ensures { Takes (λ m. roles_doc m.entries) result (members_view members.new.entries) (required name.now roles_at (members_view members.old.entries)) }
 {
     match take(members, name) {
-        Some(Value::Object(inner)) => table_of(alloc, inner),
-        _ => Err(shape(alloc, name)),
+        Some(Value::Object(inner)) => match table_of(alloc, inner) {
+            Ok(roles) => Ok(roles),
+            Err(error) => Err(within(alloc, name, error)),
+        },
+        _ => Err(member_shape(alloc, name, "(no object)")),
     }
 }
 
@@ -144,7 +162,7 @@ pub(crate) fn root_of(alloc: Global, value: Value) -> Result<Root, ReadError>
     ensures { Reads root_doc result (root_at (view value)) }
 {
     let Value::Object(mut members) = value else {
-        return Err(shape(alloc, "root"));
+        return Err(shape(alloc, "(no object)"));
     };
     let (spec_version, version, expires) = head_of(alloc, &mut members)?;
     let consistent_snapshot = truth(alloc, &mut members, "consistent_snapshot")?;

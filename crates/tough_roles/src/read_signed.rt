@@ -11,7 +11,7 @@ use crate::signed::Signed;
 use serde_json::Value;
 use std::alloc::Global;
 use tough_json::borrowed::{Borrowed, take_member};
-use tough_json::error::{ReadError, shape};
+use tough_json::error::{ReadError, shape, within};
 use tough_json::list::{FromJson, list};
 use tough_json::member::hexadecimal;
 
@@ -23,9 +23,9 @@ impl FromJson for Signature {
     ghost at = { signature_at };
 
     #[tactic(auto, unfolding(crate::specs::Signature::signature_at))]
-    fn from_json(alloc: Global, value: Value, name: &str) -> Result<Signature, ReadError> {
+    fn from_json(alloc: Global, value: Value) -> Result<Signature, ReadError> {
         let Value::Object(mut members) = value else {
-            return Err(shape(alloc, name));
+            return Err(shape(alloc, "(no object)"));
         };
         let keyid = hexadecimal(alloc, &mut members, "keyid")?;
         let sig = hexadecimal(alloc, &mut members, "sig")?;
@@ -42,7 +42,7 @@ fn parts_of(
     ensures { (d : Data) → of_json (value_view document.entry) ≡ Some d → ReadsParts (λ v. signatures_doc v.items) result (signed_parts d) }
 {
     let Borrowed::Object(members) = document else {
-        return Err(shape(alloc, "document"));
+        return Err(shape(alloc, "(no object)"));
     };
     let (role, mut others) = take_member(alloc, members, "signed")?;
     let listed = list(alloc, &mut others, "signatures")?;
@@ -63,6 +63,6 @@ pub(crate) fn signed_of<T: Role>(
     };
     match T::from_borrowed(alloc, role) {
         Ok(signed) => Ok(Signed { signed, signatures }),
-        Err(error) => Err(error),
+        Err(error) => Err(within(alloc, "signed", error)),
     }
 }

@@ -17,7 +17,7 @@ pub(crate) fn snapshot_of(alloc: Global, value: Value) -> Result<Snapshot, ReadE
     ensures { Reads snapshot_doc result (snapshot_at (view value)) }
 {
     let Value::Object(mut members) = value else {
-        return Err(shape(alloc, "snapshot"));
+        return Err(shape(alloc, "(no object)"));
     };
     let (spec_version, version, expires) = head_of(alloc, &mut members)?;
     let meta = metafiles(alloc, &mut members, "meta")?;

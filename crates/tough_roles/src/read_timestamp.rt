@@ -11,7 +11,7 @@ use crate::timestamp::{Hashes, Metafile, Timestamp};
 use serde_json::{Map, Value};
 use std::alloc::Global;
 use std::collections::BTreeMap;
-use tough_json::error::{ReadError, shape};
+use tough_json::error::{ReadError, member_shape, shape, within};
 use tough_json::member::{hexadecimal, length, positive, present, take};
 
 /// The hashes that the value is; `Shape` where it is none.
@@ -20,7 +20,7 @@ pub fn hashes_of(alloc: Global, value: Value) -> Result<Hashes, ReadError>
     ensures { Reads hashes_doc result (hashes_at (view value)) }
 {
     let Value::Object(mut members) = value else {
-        return Err(shape(alloc, "hashes"));
+        return Err(shape(alloc, "(no object)"));
     };
     let sha256 = hexadecimal(alloc, &mut members, "sha256")?;
     Ok(Hashes {
@@ -38,7 +38,10 @@ fn hashes(
 {
     match present(members, name) {
         None => Ok(None),
-        Some(value) => Ok(Some(hashes_of(alloc, value)?)),
+        Some(value) => match hashes_of(alloc, value) {
+            Ok(hashes) => Ok(Some(hashes)),
+            Err(error) => Err(within(alloc, name, error)),
+        },
     }
 }
 
@@ -47,7 +50,7 @@ fn metafile_of(alloc: Global, value: Value) -> Result<Metafile, ReadError>
     ensures { Reads metafile_doc result (metafile_at (view value)) }
 {
     let Value::Object(mut members) = value else {
-        return Err(shape(alloc, "meta"));
+        return Err(shape(alloc, "(no object)"));
     };
     let version = positive(alloc, &mut members, "version")?;
     let length = length(alloc, &mut members, "length")?;
@@ -60,6 +63,16 @@ fn metafile_of(alloc: Global, value: Value) -> Result<Metafile, ReadError>
     })
 }
 
+// The same, where a refusal tells the name.
+fn named_metafile(alloc: Global, name: &str, value: Value) -> Result<Metafile, ReadError>
+    ensures { Reads metafile_doc result (metafile_at (view value)) }
+{
+    match metafile_of(alloc, value) {
+        Ok(metafile) => Ok(metafile),
+        Err(error) => Err(within(alloc, name, error)),
+    }
+}
+
 // Each member of an object as a metafile, under its name.
 fn metafiles_of(
     alloc: Global,
@@ -69,7 +82,7 @@ fn metafiles_of(
 {
     let mut metafiles = BTreeMap::new(alloc);
     for (name, value) in members {
-        let metafile = metafile_of(alloc, value)?;
+        let metafile = named_metafile(alloc, name.as_str(), value)?;
         drop(metafiles.insert(name, metafile)?);
     }
     Ok(metafiles)
@@ -83,8 +96,11 @@ pub(crate) fn metafiles(
     ensures { Takes (λ m. metafiles_doc m.entries) result (members_view members.new.entries) (required name.now (mapping metafile_at) (members_view members.old.entries)) }
 {
     match take(members, name) {
-        Some(Value::Object(inner)) => metafiles_of(alloc, inner),
-        _ => Err(shape(alloc, name)),
+        Some(Value::Object(inner)) => match metafiles_of(alloc, inner) {
+            Ok(metafiles) => Ok(metafiles),
+            Err(error) => Err(within(alloc, name, error)),
+        },
+        _ => Err(member_shape(alloc, name, "(no object)")),
     }
 }
 
@@ -93,7 +109,7 @@ pub(crate) fn timestamp_of(alloc: Global, value: Value) -> Result<Timestamp, Rea
     ensures { Reads timestamp_doc result (timestamp_at (view value)) }
 {
     let Value::Object(mut members) = value else {
-        return Err(shape(alloc, "timestamp"));
+        return Err(shape(alloc, "(no object)"));
     };
     let (spec_version, version, expires) = head_of(alloc, &mut members)?;
     let meta = metafiles(alloc, &mut members, "meta")?;

@@ -17,7 +17,7 @@ use Rattle.tough_roles.proofs.lemmas.Head.{head-back}
 use Rattle.tough_roles.proofs.lemmas.Tables.{AreBack, table-back}
 use Rattle.tough_schema.specs.Target.{TargetDoc, target_json}
 use Rattle.tough_schema.specs.Delegations.{DelegationsDoc, delegations_at, delegations_json}
-use Rattle.tough_schema.specs.Targets.{TargetsDoc, if_clean, name_at, entry_at, listing_at, listing_json, resolves_to, raw_name, targets_at, parts_json, around_json, targets_json, IsKept, KeysRise, AreSorted}
+use Rattle.tough_schema.specs.Targets.{TargetsDoc, if_clean, name_at, entry_at, listing_at, listing_json, resolves_to, raw_name, targets_at, parts_json, around_json, targets_json, KeysAreOwn, KeysRise, AreSorted}
 use Rattle.tough_schema.proofs.TargetLemmas.{target-back}
 use Rattle.tough_schema.proofs.DelegationsLemmas.{delegations-back, delegations-present, delegations-kept}
 
@@ -46,15 +46,15 @@ entries_back (e ∷ es) = (entry-back e, entries_back es)
 
 -- ---- the document
 
-delegated-back : (o : Option DelegationsDoc) (inner : Option Data) (ms new : Members) → IsKept o → KeysRise o → optional_json delegations_json o ≡ Some inner → with_optional (codes "delegations") inner ms ≡ Some new
+delegated-back : (o : Option DelegationsDoc) (inner : Option Data) (ms new : Members) → KeysAreOwn o → KeysRise o → optional_json delegations_json o ≡ Some inner → with_optional (codes "delegations") inner ms ≡ Some new
     → optional (codes "delegations") delegations_at new ≡ Some (o, ms)
 delegated-back None None ms new kept rise w h = optional-with_none (codes "delegations") delegations_at ms new h
 delegated-back None (Some d) ms new kept rise w h = cc
 delegated-back (Some g) inner ms new kept rise w h =
     let a = bind_ok (delegations_json g) (λ d. Some (Some d)) inner w in
-    optional-with_some (codes "delegations") delegations_at a.0 ms new g (subst (λ z. with_optional (codes "delegations") z ms ≡ Some new) (sym (some-inj a.2)) h) (delegations-present g a.0 a.1) (delegations-back g a.0 kept.0 kept.1 rise a.1)
+    optional-with_some (codes "delegations") delegations_at a.0 ms new g (subst (λ z. with_optional (codes "delegations") z ms ≡ Some new) (sym (some-inj a.2)) h) (delegations-present g a.0 a.1) (delegations-back g a.0 kept rise a.1)
 
-pub targets-back : (t : TargetsDoc) (d : Data) → IsTimestampNanos t.head.expires → IsKept t.delegations → AreSorted t → targets_json t ≡ Some d → targets_at d ≡ Some t
+pub targets-back : (t : TargetsDoc) (d : Data) → IsTimestampNanos t.head.expires → KeysAreOwn t.delegations → AreSorted t → targets_json t ≡ Some d → targets_at d ≡ Some t
 unfolding targets_json around_json parts_json targets_at
 targets-back t d range kept sorted w =
     let f = bind_ok (listing_json t.targets no_members) (λ listed. around_json (object listed) t >>= λ ms. Some (object ms)) d w in
@@ -69,13 +69,13 @@ targets-back t d range kept sorted w =
       delegated-back t.delegations c.0 t.extra e.0 kept sorted.keys_rise c.1 e.1,
     ) refl
 
-present-kept : (o : Option Data) (g : Option DelegationsDoc) → if_present delegations_at o ≡ Some g → IsKept g
-present-kept None g h = subst IsKept (some-inj h) tt
+present-kept : (o : Option Data) (g : Option DelegationsDoc) → if_present delegations_at o ≡ Some g → KeysAreOwn g
+present-kept None g h = subst KeysAreOwn (some-inj h) tt
 present-kept (Some d) g h =
     let a = map_ok Some (delegations_at d) g h in
-    subst IsKept a.2 (delegations-kept d a.0 a.1)
+    subst KeysAreOwn a.2 (delegations-kept d a.0 a.1)
 
-pub targets-kept : (d : Data) (t : TargetsDoc) → targets_at d ≡ Some t → IsKept t.delegations
+pub targets-kept : (d : Data) (t : TargetsDoc) → targets_at d ≡ Some t → KeysAreOwn t.delegations
 unfolding targets_at
 targets-kept d t h =
     let a = bind_ok (as_object d) _ t h in
@@ -83,4 +83,4 @@ targets-kept d t h =
     let c = bind_ok (required (codes "targets") listing_at b.0.1) _ t b.2 in
     let e = bind_ok (optional (codes "delegations") delegations_at c.0.1) _ t c.2 in
     let o = map_ok (λ x. (x, without (codes "delegations") c.0.1)) (if_present delegations_at (present (codes "delegations") c.0.1)) e.0 e.1 in
-    subst IsKept (ap (λ z. z.0) o.2 ∙ ap (λ z. z.delegations) (some-inj e.2)) (present-kept (present (codes "delegations") c.0.1) o.0 o.1)
+    subst KeysAreOwn (ap (λ z. z.0) o.2 ∙ ap (λ z. z.delegations) (some-inj e.2)) (present-kept (present (codes "delegations") c.0.1) o.0 o.1)

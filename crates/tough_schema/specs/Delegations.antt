@@ -1,5 +1,5 @@
 -- The roles that a document delegates to, and their keys (TUF specification 1.0, section 4.5, `delegations`).
-use Rattle.std.specs.Prelude.{ℕ, List, [], ◌∷◌, map, Bool, Option, Some, codes, string_bytes}
+use Rattle.std.specs.Prelude.{ℕ, List, [], map, Bool, Option, Some, codes, string_bytes}
 use Rattle.std.specs.Int.NonZero.{non_zero_u64_get}
 use Rattle.tough_base.specs.Spelled.{Spelled}
 use Rattle.serde_json.specs.Data.{Data, boolean, string, array, object, no_members}
@@ -11,7 +11,7 @@ use Rattle.tough_keys.specs.Key.{KeyDoc}
 use Rattle.tough_roles.specs.Root.{keys_doc, keys_at, keys_json}
 use Rattle.tough_schema.specs.declared.delegations.DelegatedRole.{DelegatedRole, out-DelegatedRole}
 use Rattle.tough_schema.specs.declared.delegations.Delegations.{Delegations, out-Delegations}
-use Rattle.tough_schema.specs.Paths.{PathsDoc, ArePatterns, paths_doc, paths_at, with_paths}
+use Rattle.tough_schema.specs.Paths.{PathsDoc, paths_doc, paths_at, with_paths}
 
 -- a delegated role, without the document that was loaded for it
 pub record DelegatedRoleDoc : Type 0 where
@@ -58,11 +58,6 @@ delegations_at d = do
   keys ← required (codes "keys") keys_at members
   roles ← required (codes "roles") (listing delegated_role_at) keys.1
   Some (record { keys = keys.0; roles = roles.0 })
-
--- the patterns of each role are some
-abbrev pub ListPatterns : List DelegatedRoleDoc → Type 0
-ListPatterns [] = Unit {0}
-ListPatterns (r ∷ rs) = ArePatterns r.paths × ListPatterns rs
 
 unfoldable pub delegated_role_json : DelegatedRoleDoc → Option Data
 delegated_role_json r = do

@@ -1,5 +1,5 @@
 -- Which names a delegated role may list (TUF specification 1.0, section 4.5, `paths` and `path_hash_prefixes`).
-use Rattle.std.specs.Prelude.{◌≡◌, ℕ, List, [], ◌∷◌, Option, Some, None, option_map, option_and_then, chars, codes}
+use Rattle.std.specs.Prelude.{ℕ, List, Option, Some, None, option_map, option_and_then, chars, codes}
 use Rattle.serde_json.specs.Data.{Data, string, array, Members}
 use Rattle.serde_json.specs.Find.{get_member}
 use Rattle.tough_names.specs.Grammar.{parts_in}
@@ -36,24 +36,19 @@ either_at (Some d) (Some e) = None
 abbrev pub paths_at : Members → Option PathsDoc
 paths_at ms = either_at (get_member (codes "paths") ms) (get_member (codes "path_hash_prefixes") (without (codes "paths") ms))
 
--- each text is a pattern, as in each document that was read
-abbrev pub AllPatterns : List (List ℕ) → Type 0
-AllPatterns [] = Unit {0}
-AllPatterns (p ∷ ps) = (if_pattern p ≡ Some p) × AllPatterns ps
-
-abbrev pub ArePatterns : PathsDoc → Type 0
-ArePatterns (patterns ps) = AllPatterns ps
-ArePatterns (prefixes ps) = Unit {0}
-
 -- ---- writing
 
 abbrev pub text_json : List ℕ → Option Data
 text_json s = Some (string s)
 
+-- a text that is a pattern, as that of each pattern of the program is
+abbrev pub pattern_json : List ℕ → Option Data
+pattern_json s = option_map string (if_pattern s)
+
 -- the members with one of the two
 abbrev pub with_paths : PathsDoc → Members → Option Members
 with_paths (patterns ps) ms = do
-  items ← all_json text_json ps
+  items ← all_json pattern_json ps
   with (codes "paths") (array items) ms
 with_paths (prefixes ps) ms = do
   items ← all_json text_json ps

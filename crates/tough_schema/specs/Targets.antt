@@ -21,7 +21,7 @@ use Rattle.tough_schema.specs.declared.target.Target.{Target}
 use Rattle.tough_schema.specs.declared.targets.Targets.{Targets, out-Targets}
 use Rattle.tough_schema.specs.declared.targets.DelegatedTargets.{DelegatedTargets, out-DelegatedTargets}
 use Rattle.tough_schema.specs.Target.{TargetDoc, target_doc, target_at, target_json}
-use Rattle.tough_schema.specs.Delegations.{DelegationsDoc, no_delegations, ListPatterns, delegations_doc, delegations_at, delegations_json}
+use Rattle.tough_schema.specs.Delegations.{DelegationsDoc, no_delegations, delegations_doc, delegations_at, delegations_json}
 
 -- the targets are in the order of their names
 pub record TargetsDoc : Type 0 where
@@ -131,10 +131,10 @@ targets_json t = do
   members ← around_json (object listed) t
   Some (object members)
 
--- each key stands under its own identifier, and each pattern is one, as in each document that was read
-abbrev pub IsKept : Option DelegationsDoc → Type 0
-IsKept None = Unit {0}
-IsKept (Some g) = AreOwn g.keys × ListPatterns g.roles
+-- each key stands under its own identifier, as in each document that was read
+abbrev pub KeysAreOwn : Option DelegationsDoc → Type 0
+KeysAreOwn None = Unit {0}
+KeysAreOwn (Some g) = AreOwn g.keys
 
 -- the keys are in the order of their identifiers' bytes
 abbrev pub KeysRise : Option DelegationsDoc → Type 0

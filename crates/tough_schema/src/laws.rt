@@ -1,16 +1,31 @@
 //! What the definitions promise of every value.
 
-ghost use Rattle.std.specs.Prelude.{◌≡◌, ◌↔◌, ℕ, List, None, true, chars};
+ghost use Rattle.std.specs.Prelude.{◌≡◌, ◌↔◌, ℕ, List, None, Some, true, chars, option_and_then};
+ghost use Rattle.jiff_core.specs.Timestamp.{IsTimestampNanos};
+ghost use Rattle.serde_json.specs.Data as Data;
+ghost use Rattle.tough_json.specs.Pieces.{text_in};
+ghost use Rattle.tough_json.specs.Results.{json_of};
+ghost use Rattle.tough_json.specs.declared.pieces.Form.TheVariants as forms;
 ghost use Rattle.tough_names.specs.Named.{Named};
 ghost use Rattle.tough_names.specs.Spelling.{Matches};
+ghost use Rattle.tough_roles.specs.Readable.{IsReadable};
+ghost use Rattle.tough_roles.specs.Signature.{SignedDoc, signed_at, signed_json};
 ghost use Rattle.tough_schema.specs.Entries.{first_missing, IsValid};
 ghost use Rattle.tough_schema.specs.Marks.{ReachesExactly};
 ghost use Rattle.tough_schema.specs.Matching.{pattern_matches};
+ghost use Rattle.tough_schema.specs.Targets.{TargetsDoc, KeysAreOwn, AreSorted, targets_at, targets_json};
 ghost use Rattle.tough_schema.specs.Whole.{TreeDoc, TellsItsTop};
 
 /// A pattern is found to match exactly where its grammar says that it does.
 pub fn patterns_match_exactly()
     ensures { (resolved p : List ℕ) → (pattern_matches resolved p ≡ true) ↔ Matches (chars p) (chars resolved) }
+{}
+
+/// The text of signed targets, whose keys stand under their own identifiers, is read as them.
+pub fn targets_reads_back()
+    ensures { (s : SignedDoc TargetsDoc) (d : Data.Data) (text : List ℕ) → IsTimestampNanos s.role.head.expires → KeysAreOwn s.role.delegations → AreSorted s.role
+        → signed_json targets_json s ≡ Some d → IsReadable d → text_in forms.Compact d ≡ Some text
+        → option_and_then (signed_at targets_at) (json_of text) ≡ Some s }
 {}
 
 /// What a document says for itself is the top of its tree.

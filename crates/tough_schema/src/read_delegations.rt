@@ -12,7 +12,7 @@ use crate::delegations::{DelegatedRole, Delegations, PathSet};
 use serde_json::{Map, Value};
 use std::alloc::Global;
 use tough_base::{PathHashPrefix, PathPattern, PatternError};
-use tough_json::error::{ReadError, shape};
+use tough_json::error::{ReadError, at, member_shape, shape, within};
 use tough_json::member::{positive, present, take, text, truth};
 use tough_roles::read_root::{keyids, keys};
 
@@ -24,7 +24,7 @@ fn pattern_in(alloc: Global, text: String) -> Result<PathPattern, ReadError>
     match PathPattern::new(alloc, text) {
         Ok(pattern) => Ok(pattern),
         Err(PatternError::Memory) => Err(ReadError::Memory),
-        Err(PatternError::Glob) => Err(shape(alloc, "paths")),
+        Err(PatternError::Glob) => Err(shape(alloc, "(no pattern)")),
     }
 }
 
@@ -34,7 +34,17 @@ fn pattern_of(alloc: Global, value: Value) -> Result<PathPattern, ReadError>
 {
     match value {
         Value::String(text) => pattern_in(alloc, text),
-        _ => Err(shape(alloc, "paths")),
+        _ => Err(shape(alloc, "(no text)")),
+    }
+}
+
+// The pattern at the place.
+fn pattern_at(alloc: Global, place: usize, value: Value) -> Result<PathPattern, ReadError>
+    ensures { Reads (λ p. p) result (pattern (view value)) }
+{
+    match pattern_of(alloc, value) {
+        Ok(pattern) => Ok(pattern),
+        Err(error) => Err(at(alloc, place, error)),
     }
 }
 
@@ -44,19 +54,19 @@ fn patterns_of(alloc: Global, values: Vec<Value>) -> Result<Vec<PathPattern>, Re
 {
     let mut patterns = Vec::new(alloc);
     for value in values {
-        let pattern = pattern_of(alloc, value)?;
+        let pattern = pattern_at(alloc, patterns.len(), value)?;
         patterns.push(pattern)?;
     }
     Ok(patterns)
 }
 
-// A text as a prefix.
-fn prefix_of(alloc: Global, value: Value) -> Result<PathHashPrefix, ReadError>
+// A text as the prefix at the place.
+fn prefix_at(alloc: Global, place: usize, value: Value) -> Result<PathHashPrefix, ReadError>
     ensures { Reads (λ p. p) result (text (view value)) }
 {
     match value {
         Value::String(text) => Ok(PathHashPrefix::new(text)),
-        _ => Err(shape(alloc, "path_hash_prefixes")),
+        _ => Err(at(alloc, place, shape(alloc, "(no text)"))),
     }
 }
 
@@ -66,7 +76,7 @@ fn prefixes_of(alloc: Global, values: Vec<Value>) -> Result<Vec<PathHashPrefix>,
 {
     let mut prefixes = Vec::new(alloc);
     for value in values {
-        let prefix = prefix_of(alloc, value)?;
+        let prefix = prefix_at(alloc, prefixes.len(), value)?;
         prefixes.push(prefix)?;
     }
     Ok(prefixes)
@@ -81,11 +91,15 @@ fn either(
     ensures { Reads paths_doc result (either_at (option_map view patterns) (option_map view prefixes)) }
 {
     match (patterns, prefixes) {
-        (Some(Value::Array(items)), None) => Ok(PathSet::Paths(patterns_of(alloc, items)?)),
-        (None, Some(Value::Array(items))) => {
-            Ok(PathSet::PathHashPrefixes(prefixes_of(alloc, items)?))
-        }
-        _ => Err(shape(alloc, "paths")),
+        (Some(Value::Array(items)), None) => match patterns_of(alloc, items) {
+            Ok(patterns) => Ok(PathSet::Paths(patterns)),
+            Err(error) => Err(within(alloc, "paths", error)),
+        },
+        (None, Some(Value::Array(items))) => match prefixes_of(alloc, items) {
+            Ok(prefixes) => Ok(PathSet::PathHashPrefixes(prefixes)),
+            Err(error) => Err(within(alloc, "path_hash_prefixes", error)),
+        },
+        _ => Err(shape(alloc, "(not one list of paths or of prefixes)")),
     }
 }
 
@@ -104,7 +118,7 @@ fn delegated_role_of(alloc: Global, value: Value) -> Result<DelegatedRole, ReadE
     ensures fresh { IfOk result HasNoDocument }
 {
     let Value::Object(mut members) = value else {
-        return Err(shape(alloc, "roles"));
+        return Err(shape(alloc, "(no object)"));
     };
     let name = text(alloc, &mut members, "name")?;
     let keyids = keyids(alloc, &mut members, "keyids")?;
@@ -121,6 +135,17 @@ fn delegated_role_of(alloc: Global, value: Value) -> Result<DelegatedRole, ReadE
     })
 }
 
+// The role at the place.
+fn role_at(alloc: Global, place: usize, value: Value) -> Result<DelegatedRole, ReadError>
+    ensures read { Reads delegated_role_doc result (delegated_role_at (view value)) }
+    ensures fresh { IfOk result HasNoDocument }
+{
+    match delegated_role_of(alloc, value) {
+        Ok(role) => Ok(role),
+        Err(error) => Err(at(alloc, place, error)),
+    }
+}
+
 // Each item as a role.
 fn roles_of(alloc: Global, values: Vec<Value>) -> Result<Vec<DelegatedRole>, ReadError>
     ensures read { Reads (λ v. map delegated_role_doc v.items) result (all_at delegated_role_at (items_view values.items)) }
@@ -128,7 +153,7 @@ fn roles_of(alloc: Global, values: Vec<Value>) -> Result<Vec<DelegatedRole>, Rea
 {
     let mut roles = Vec::new(alloc);
     for value in values {
-        let role = delegated_role_of(alloc, value)?;
+        let role = role_at(alloc, roles.len(), value)?;
         roles.push(role)?;
     }
     Ok(roles)
@@ -144,8 +169,11 @@ fn roles(
     ensures fresh { IfOk result (λ v. AreUnloaded v.items) }
 {
     match take(members, name) {
-        Some(Value::Array(items)) => roles_of(alloc, items),
-        _ => Err(shape(alloc, name)),
+        Some(Value::Array(items)) => match roles_of(alloc, items) {
+            Ok(roles) => Ok(roles),
+            Err(error) => Err(within(alloc, name, error)),
+        },
+        _ => Err(member_shape(alloc, name, "(no list)")),
     }
 }
 
@@ -155,7 +183,7 @@ fn delegations_of(alloc: Global, value: Value) -> Result<Delegations, ReadError>
     ensures fresh { IfOk result DelegateUnloaded }
 {
     let Value::Object(mut members) = value else {
-        return Err(shape(alloc, "delegations"));
+        return Err(shape(alloc, "(no object)"));
     };
     let keys = keys(alloc, &mut members, "keys")?;
     let roles = roles(alloc, &mut members, "roles")?;
@@ -173,6 +201,9 @@ pub(crate) fn delegations(
 {
     match present(members, name) {
         None => Ok(None),
-        Some(value) => Ok(Some(delegations_of(alloc, value)?)),
+        Some(value) => match delegations_of(alloc, value) {
+            Ok(delegations) => Ok(Some(delegations)),
+            Err(error) => Err(within(alloc, name, error)),
+        },
     }
 }

@@ -11,7 +11,7 @@ ghost use Rattle.tough_schema.specs.Target.{target_doc, target_at, custom_at, ob
 use crate::target::Target;
 use serde_json::{Map, Value};
 use std::alloc::Global;
-use tough_json::error::{ReadError, shape};
+use tough_json::error::{ReadError, member_shape, shape, within};
 use tough_json::member::take;
 use tough_roles::Hashes;
 use tough_roles::read_timestamp::hashes_of;
@@ -22,7 +22,7 @@ fn size(alloc: Global, members: &mut Map<String, Value>, name: &str) -> Result<u
 {
     match take(members, name).and_then(|value| value.as_u64()) {
         Some(number) => Ok(number),
-        None => Err(shape(alloc, name)),
+        None => Err(member_shape(alloc, name, "(no number from 0 on)")),
     }
 }
 
@@ -31,8 +31,11 @@ fn hashes(alloc: Global, members: &mut Map<String, Value>, name: &str) -> Result
     ensures { Takes hashes_doc result (members_view members.new.entries) (required name.now hashes_at (members_view members.old.entries)) }
 {
     match take(members, name) {
-        Some(value) => hashes_of(alloc, value),
-        None => Err(shape(alloc, name)),
+        Some(value) => match hashes_of(alloc, value) {
+            Ok(hashes) => Ok(hashes),
+            Err(error) => Err(within(alloc, name, error)),
+        },
+        None => Err(member_shape(alloc, name, "(missing)")),
     }
 }
 
@@ -51,7 +54,7 @@ fn object_in(alloc: Global, value: Value) -> Result<Map<String, Value>, ReadErro
 {
     match value {
         Value::Object(inner) => Ok(inner),
-        _ => Err(shape(alloc, "custom")),
+        _ => Err(member_shape(alloc, "custom", "(no object)")),
     }
 }
 
@@ -70,7 +73,7 @@ pub(crate) fn target_of(alloc: Global, value: Value) -> Result<Target, ReadError
     ensures { Reads target_doc result (target_at (view value)) }
 {
     let Value::Object(mut members) = value else {
-        return Err(shape(alloc, "targets"));
+        return Err(shape(alloc, "(no object)"));
     };
     let length = size(alloc, &mut members, "length")?;
     let hashes = hashes(alloc, &mut members, "hashes")?;

@@ -21,7 +21,7 @@ use std::alloc::Global;
 use std::collections::BTreeMap;
 use tough_base::{NameError, TargetName};
 use tough_json::borrowed::{Borrowed, in_order, take_member, value_in};
-use tough_json::error::{ReadError, shape};
+use tough_json::error::{ReadError, member_shape, shape, within};
 use tough_json::member::take;
 use tough_roles::head::head_of;
 
@@ -33,10 +33,12 @@ fn entry(alloc: Global, raw: &str, value: Value) -> Result<(TargetName, Target),
     let name = match TargetName::from_str(alloc, raw) {
         Ok(name) => name,
         Err(NameError::Memory) => return Err(ReadError::Memory),
-        Err(_) => return Err(shape(alloc, "targets")),
+        Err(_) => return Err(member_shape(alloc, raw, "(no target's name)")),
     };
-    let target = target_of(alloc, value)?;
-    Ok((name, target))
+    match target_of(alloc, value) {
+        Ok(target) => Ok((name, target)),
+        Err(error) => Err(within(alloc, raw, error)),
+    }
 }
 
 // The members as targets.
@@ -63,8 +65,11 @@ fn listing(
     ensures { Takes (λ m. listing_doc m.entries) result (members_view members.new.entries) (required name.now listing_at (members_view members.old.entries)) }
 {
     match take(members, name) {
-        Some(Value::Object(inner)) => listing_of(alloc, inner),
-        _ => Err(shape(alloc, name)),
+        Some(Value::Object(inner)) => match listing_of(alloc, inner) {
+            Ok(targets) => Ok(targets),
+            Err(error) => Err(within(alloc, name, error)),
+        },
+        _ => Err(member_shape(alloc, name, "(no object)")),
     }
 }
 
@@ -75,7 +80,7 @@ pub(crate) fn targets_of(alloc: Global, value: Value) -> Result<Targets, ReadErr
     ensures fresh { IfOk result IsFresh }
 {
     let Value::Object(mut members) = value else {
-        return Err(shape(alloc, "targets"));
+        return Err(shape(alloc, "(no object)"));
     };
     let (spec_version, version, expires) = head_of(alloc, &mut members)?;
     let targets = listing(alloc, &mut members, "targets")?;
@@ -127,7 +132,7 @@ fn listing_in(alloc: Global, value: Borrowed<'_>) -> Result<BTreeMap<TargetName,
     ensures { (d : Data) → of_json (value_view value.entry) ≡ Some d → Reads (λ m. listing_doc m.entries) result (listing_at d) }
 {
     let Borrowed::Object(members) = value else {
-        return Err(shape(alloc, "targets"));
+        return Err(shape(alloc, "(no object)"));
     };
     match in_order(alloc, members) {
         Ok(members) => listing_in_order(alloc, members),
@@ -165,7 +170,7 @@ pub(crate) fn targets_in(alloc: Global, value: Borrowed<'_>) -> Result<Targets, 
     ensures fresh { IfOk result IsFresh }
 {
     let Borrowed::Object(members) = value else {
-        return Err(shape(alloc, "targets"));
+        return Err(shape(alloc, "(no object)"));
     };
     let (listed, others) = match take_member(alloc, members, "targets") {
         Ok(parts) => parts,
@@ -173,6 +178,6 @@ pub(crate) fn targets_in(alloc: Global, value: Borrowed<'_>) -> Result<Targets, 
     };
     match listing_in(alloc, listed) {
         Ok(targets) => targets_around(alloc, targets, others),
-        Err(error) => Err(error),
+        Err(error) => Err(within(alloc, "targets", error)),
     }
 }

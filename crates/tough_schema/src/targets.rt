@@ -6,7 +6,7 @@ ghost use Rattle.tough_roles.specs.Names.{file_name};
 ghost use Rattle.tough_roles.specs.RoleId.{standard};
 ghost use Rattle.tough_roles.specs.declared.role_type.RoleType.TheVariants as types;
 ghost use Rattle.tough_schema.specs.Fresh.{IsFresh, IsFreshDelegated};
-ghost use Rattle.tough_schema.specs.Targets.{targets_doc, delegated_doc, delegated_name, delegated_file, delegated_id, targets_at, targets_json, bare_targets, IsKept};
+ghost use Rattle.tough_schema.specs.Targets.{targets_doc, delegated_doc, delegated_name, delegated_file, delegated_id, targets_at, targets_json, bare_targets, KeysAreOwn};
 
 use crate::delegations::Delegations;
 use crate::read_targets::{targets_in, targets_of};
@@ -108,7 +108,7 @@ impl Role for Targets {
 
     ghost json = { λ x. targets_json (targets_doc x) };
 
-    ghost is_kept = { λ x. IsKept (targets_doc x).delegations };
+    ghost is_kept = { λ x. KeysAreOwn (targets_doc x).delegations };
 
     ghost is_fresh = { IsFresh };
 
@@ -170,7 +170,7 @@ impl Role for DelegatedTargets {
 
     ghost json = { λ x. targets_json (delegated_doc x) };
 
-    ghost is_kept = { λ x. IsKept (delegated_doc x).delegations };
+    ghost is_kept = { λ x. KeysAreOwn (delegated_doc x).delegations };
 
     ghost is_fresh = { IsFreshDelegated };
 

@@ -5,7 +5,7 @@ ghost use Rattle.serde_json.specs.Data.{boolean, string, no_members};
 ghost use Rattle.serde_json.specs.View.{view, items_view, members_view};
 ghost use Rattle.tough_json.specs.Results.{Writes};
 ghost use Rattle.tough_json.specs.Writing.{all_json, optional_json};
-ghost use Rattle.tough_schema.specs.Paths.{paths_doc, with_paths, text_json};
+ghost use Rattle.tough_schema.specs.Paths.{paths_doc, with_paths, text_json, pattern_json};
 ghost use Rattle.tough_schema.specs.Delegations.{delegated_role_doc, delegations_doc, delegated_role_json, delegations_json};
 ghost use Rattle.tough_schema.specs.Targets.{KeysRise};
 
@@ -26,7 +26,7 @@ fn text_value(alloc: Global, text: &str) -> Result<Value, AllocError>
 
 // Each pattern's text as an item.
 fn pattern_values(alloc: Global, patterns: &[PathPattern]) -> Result<Vec<Value>, AllocError>
-    ensures { IfOk result (λ v. all_json text_json patterns.now ≡ Some (items_view v.items)) }
+    ensures { IfOk result (λ v. all_json pattern_json patterns.now ≡ Some (items_view v.items)) }
 {
     let mut values = Vec::new(alloc);
     for pattern in patterns {

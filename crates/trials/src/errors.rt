@@ -86,7 +86,10 @@ fn of_causes(alloc: Global, name: &str) -> Result<Option<Error>> {
         "VerifyTrustedMetadata" => Error::VerifyTrustedMetadata { source: missing },
         "ParseMetadata" => Error::ParseMetadata {
             role: RoleType::Targets,
-            source: ReadError::Shape(String::from_str(alloc, "version")?),
+            source: ReadError::Shape(String::from_str(
+                alloc,
+                "signed.version (no number from 1 on)",
+            )?),
         },
         "VerifyMetadata" => Error::VerifyMetadata {
             role: RoleType::Snapshot,

@@ -1,5 +1,5 @@
 -- What is written for a signed document is read as it.
-use Rattle.std.proofs.Common.{◌≡◌, ℕ, Result, Ok, Err, List, codes, Option, Some, None, inl, inr, refl}
+use Rattle.std.proofs.Common.{◌≡◌, ℕ, Result, Ok, Err, List, codes, Option, Some, None, inl, inr, refl, sym, subst}
 use Rattle.serde_json.specs.Data.{Data, array, object, no_members}
 use Rattle.tough_json.specs.Reading.{◌>>=◌, hexadecimal, listing}
 use Rattle.tough_json.specs.Writing.{with, hexadecimal_json, all_json}
@@ -7,6 +7,7 @@ use Rattle.tough_json.proofs.lemmas.Write.{bind_ok, some-inj, required-with, hex
 use Rattle.tough_roles.specs.Signature.{SignatureDoc, signature_at, signature_json, signed_parts, signed_parts_json, signed_at, signed_doc}
 use Rattle.tough_roles.specs.declared.signed.Signed.{Signed}
 use Rattle.tough_json.specs.Results.{json_of, Refuses}
+use Rattle.tough_json.specs.Told.{TellsUnder}
 use Rattle.tough_json.specs.declared.error.ReadError.{ReadError}
 use Rattle.tough_json.specs.declared.error.ReadError.TheVariants as errors
 use Rattle.tough_roles.specs.Document.{IsSigned, IsNotSigned, RefusesValue, ReadsValue, ReadsText}
@@ -56,6 +57,14 @@ pub no-role : (refused : Data → Type 0) (e : ReadError) (d role : Data) (ss : 
 no-role refused errors.Json d role ss found h = h
 no-role refused (errors.Shape s) d role ss found h = inr (role, ss, found, h)
 no-role refused errors.Memory d role ss found h = tt
+
+-- what is told under a name is refused as before
+pub value-under : (refused : Data → Type 0) (name : List ℕ) (e f : ReadError) (d : Data) → TellsUnder name e f → RefusesValue refused e d → RefusesValue refused f d
+value-under refused name errors.Json f d t r = absurd r
+value-under refused name (errors.Shape told) errors.Json d t r = t
+value-under refused name (errors.Shape told) (errors.Shape text) d t r = r
+value-under refused name (errors.Shape told) errors.Memory d t r = tt
+value-under refused name errors.Memory f d t r = subst (λ z. RefusesValue refused z d) (sym t) tt
 
 pub read-text : {X : Type 0} (is : Data → X → Type 0) (refused : Data → Type 0) (r : Result X ReadError) (d : Data) (bytes : List ℕ) → json_of bytes ≡ Some d → ReadsValue is refused r d → ReadsText is refused r bytes
 read-text is refused (Ok x) d bytes e h = (d, e, h)

@@ -1,7 +1,6 @@
 use Rattle.tough_roles.specs.Root.{root_at, root_json}
 use Rattle.tough_roles.specs.Signature.{signed_at}
-use Rattle.tough_roles.proofs.Backs.{document-back}
-use Rattle.tough_roles.proofs.Rereading.{read-back}
+use Rattle.tough_roles.proofs.lemmas.Rereading.{document-back, read-back}
 use Rattle.tough_roles.proofs.lemmas.Root.{root-back}
 use Rattle.tough_roles.proofs.laws.root_reads_back.Goals as goal
 

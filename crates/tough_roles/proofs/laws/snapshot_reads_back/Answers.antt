@@ -1,7 +1,6 @@
 use Rattle.tough_roles.specs.Snapshot.{snapshot_at, snapshot_json}
 use Rattle.tough_roles.specs.Signature.{signed_at}
-use Rattle.tough_roles.proofs.Backs.{document-back}
-use Rattle.tough_roles.proofs.Rereading.{read-back}
+use Rattle.tough_roles.proofs.lemmas.Rereading.{document-back, read-back}
 use Rattle.tough_roles.proofs.SnapshotLemmas.{snapshot-back}
 use Rattle.tough_roles.proofs.laws.snapshot_reads_back.Goals as goal
 

@@ -1,7 +1,6 @@
 use Rattle.tough_roles.specs.Timestamp.{timestamp_at, timestamp_json}
 use Rattle.tough_roles.specs.Signature.{signed_at}
-use Rattle.tough_roles.proofs.Backs.{document-back}
-use Rattle.tough_roles.proofs.Rereading.{read-back}
+use Rattle.tough_roles.proofs.lemmas.Rereading.{document-back, read-back}
 use Rattle.tough_roles.proofs.lemmas.Timestamp.{timestamp-back}
 use Rattle.tough_roles.proofs.laws.timestamp_reads_back.Goals as goal
 

@@ -1,4 +1,4 @@
--- The compact text of a value is read as it.
+-- The compact text of a value is read as it, and that of a signed document too.
 use Rattle.std.proofs.Common.{◌≡◌, ℕ, suc, ◌<◌, ◌≤◌, ltb-true, pos, negsuc, Bool, true, false, List, [], ◌∷◌, ◌++◌, Option, Some, None, if◌then◌else◌, IsUtf8, Greater, nat_cmp, option_map, option_and_then, refl, sym, ap, ◌∙◌, arith, append-nil}
 use Rattle.std.proofs.lemmas.Bool.{or_parts, true≢false}
 use Rattle.std.proofs.lemmas.Cmp.{nat_list_cmp_total}
@@ -24,7 +24,9 @@ use Rattle.tough_json.specs.Pieces.{IsBelow, text_in}
 use Rattle.tough_json.specs.Results.{json_of}
 use Rattle.tough_json.specs.declared.pieces.Form.TheVariants as forms
 use Rattle.tough_json.proofs.lemmas.Json.{json_of-some}
-use Rattle.tough_json.proofs.lemmas.Write.{some-inj}
+use Rattle.tough_json.proofs.lemmas.Write.{bind_ok, some-inj}
+use Rattle.tough_roles.specs.Signature.{SignedDoc, signed_parts_json, signed_at, signed_json}
+use Rattle.tough_roles.proofs.lemmas.Signed.{signed-back}
 use Rattle.tough_roles.specs.Readable.{IsWord, IsValue, AreValues, AreMembers, IsReadable}
 
 -- ---- numbers
@@ -199,3 +201,9 @@ text-back d bytes r h =
 -- the bytes read as x, where the JSON that they are the text of does
 pub read-back : {A : Type 0} (f : Data → Option A) (d : Data) (x : A) (bytes : List ℕ) → IsReadable d → text_in forms.Compact d ≡ Some bytes → f d ≡ Some x → option_and_then f (json_of bytes) ≡ Some x
 read-back f d x bytes r h is = ap (option_and_then f) (text-back d bytes r h) ∙ is
+
+-- a signed document's JSON is read as it, where its role's is
+pub document-back : {A : Type 0} (f : Data → Option A) (g : A → Option Data) (s : SignedDoc A) (d : Data) → ((e : Data) → g s.role ≡ Some e → f e ≡ Some s.role) → signed_json g s ≡ Some d → signed_at f d ≡ Some s
+document-back f g s d back w =
+    let a = bind_ok (g s.role) (λ role. signed_parts_json role s.signatures) d w in
+    rw (signed-back a.0 s.signatures d a.2, back a.0 a.1) refl
