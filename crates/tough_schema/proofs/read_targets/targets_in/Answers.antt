@@ -1,4 +1,4 @@
-use Rattle.std.proofs.Common.{sym, ap, subst, ◌∙◌}
+use Rattle.std.proofs.Common.{codes, sym, ap, subst, ◌∙◌}
 use Rattle.tough_json.specs.Results.{Reads, Refuses}
 use Rattle.tough_json.proofs.lemmas.Told.{refuses-under}
 use Rattle.tough_schema.specs.Targets.{targets_doc, listing_doc, targets_at, targets_around}
@@ -22,4 +22,4 @@ pub returns-in-Err-listing_in-clause-read : goal.returns-in-Err-listing_in-claus
 returns-in-Err-listing_in-clause-read c = λ d h.
     let ms = object-members c.args.value c.in-Object.members d c.in-Object.is h in
     let part = c.in-Ok.ensures ms.0 ms.1 in
-    subst (λ x. Refuses c.within.result (targets_at x)) ms.2 (refused-listing c.within.result ms.0 part.0 part.2 (refuses-under _ c.in-Err-listing_in.error c.within.result _ c.within.ensures (c.in-Err-listing_in.ensures part.0 part.1)))
+    subst (λ x. Refuses c.within.result (targets_at x)) ms.2 (refused-listing c.within.result ms.0 part.0 part.2 (refuses-under (codes "targets") c.in-Err-listing_in.error c.within.result _ c.within.ensures (c.in-Err-listing_in.ensures part.0 part.1)))
