@@ -36,8 +36,8 @@ pub fn run(rt: &HostRuntime, count: u32, folder: Option<&str>) -> Result<(), Err
     Ok(())
 }
 
-// Prints what was done, how long it took, and what the process has held at most.
-fn print(rt: &HostRuntime, done: &str, began: Instant) -> Result<(), Error> {
+/// Prints what was done, how long it took, and what the process has held at most.
+pub fn print(rt: &HostRuntime, done: &str, began: Instant) -> Result<(), Error> {
     let time = began.elapsed(rt)?;
     println!(rt;
         "  {done}: {} ms; peak memory {} kB",
@@ -71,8 +71,12 @@ fn parts(rt: &HostRuntime, root: &[u8], document: &[u8]) -> Result<(), Error> {
     print(rt, "stored", began)
 }
 
-// Loads the repository over memory.
-fn over_memory(rt: &HostRuntime, root: &[u8], metadata: &[RepositoryFile]) -> Result<(), Error> {
+/// Loads the repository over memory.
+pub fn over_memory(
+    rt: &HostRuntime,
+    root: &[u8],
+    metadata: &[RepositoryFile],
+) -> Result<(), Error> {
     let alloc = rt.alloc();
     let mut transport = MemoryTransport::in_pieces(alloc, PIECE_LEN);
     for file in metadata {
@@ -88,8 +92,8 @@ fn over_memory(rt: &HostRuntime, root: &[u8], metadata: &[RepositoryFile]) -> Re
     print(rt, "loaded over memory", began)
 }
 
-// Loads the repository over files in the folder.
-fn over_files(
+/// Loads the repository over files in the folder.
+pub fn over_files(
     rt: &HostRuntime,
     root: &[u8],
     metadata: &[RepositoryFile],

@@ -6,13 +6,14 @@ mod load;
 mod matching;
 mod memory;
 mod search;
+mod tree;
 mod verify;
 
 use anyhow::Error;
 use std::env;
 
 const USAGE: &str =
-    "usage: bench canonical [MEGABYTES] | verify [THOUSANDS] | load [TARGETS [FOLDER]] | match [CHARACTERS] | search [ROLES]";
+    "usage: bench canonical [MEGABYTES] | verify [THOUSANDS] | load [TARGETS [FOLDER]] | match [CHARACTERS] | search [ROLES] | chain TARGETS ROLES [FOLDER] | fan TARGETS ROLES [FOLDER]";
 
 fn main(rt: HostRuntime) -> Result<(), Error> {
     let mut words = env::args(&rt)?.skip(1);
@@ -29,6 +30,20 @@ fn main(rt: HostRuntime) -> Result<(), Error> {
         "verify" => verify::run(&rt, size)?,
         "match" => matching::run(&rt, size)?,
         "search" => search::run(&rt, size)?,
+        "chain" | "fan" => {
+            let roles = match words.next() {
+                Some(word) => word.parse()?,
+                None => 12,
+            };
+            let folder = words.next();
+            tree::run(
+                &rt,
+                name.as_str() == "chain",
+                size as usize,
+                roles,
+                folder.as_deref(),
+            )?
+        }
         "load" => load::run(&rt, size, words.next().as_deref())?,
         _ => println!(rt; "{USAGE}")?,
     }

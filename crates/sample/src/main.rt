@@ -5,11 +5,13 @@ mod put;
 
 use crate::put::put_repository;
 use anyhow::Error;
+use std::alloc::Global;
 use std::env;
 use std::process::ExitCode;
+use tough_demo::{DemoError, RepositoryFiles};
 use tough_files::OsFiles;
 
-const USAGE: &str = "usage: sample FOLDER [--plain]";
+const USAGE: &str = "usage: sample FOLDER [--plain] [--delegated]";
 
 // How many targets the repository has.
 const TARGETS: u64 = 3;
@@ -19,6 +21,7 @@ const TARGETS: u64 = 3;
 struct Words {
     folder: String,
     consistent: bool,
+    delegated: bool,
 }
 
 // The words of the command line; none where they are wrong.
@@ -27,20 +30,36 @@ fn read_words(rt: &HostRuntime) -> Result<Option<Words>, Error> {
     let Some(folder) = given.next() else {
         return Ok(None);
     };
-    let consistent = match given.next() {
-        None => true,
-        Some(word) if word.as_str() == "--plain" => false,
-        Some(_) => return Ok(None),
-    };
-    if given.next().is_some() || folder.is_empty() || folder.starts_with("--") {
+    if folder.is_empty() || folder.starts_with("--") {
         return Ok(None);
     }
-    Ok(Some(Words { folder, consistent }))
+    let mut words = Words {
+        folder,
+        consistent: true,
+        delegated: false,
+    };
+    for word in given {
+        match word.as_str() {
+            "--plain" if words.consistent => words.consistent = false,
+            "--delegated" if !words.delegated => words.delegated = true,
+            _ => return Ok(None),
+        }
+    }
+    Ok(Some(words))
+}
+
+// Makes the repository that is asked for.
+fn made(alloc: Global, words: &Words) -> Result<RepositoryFiles, DemoError> {
+    if words.delegated {
+        let plan = tough_demo::mixed(alloc)?;
+        return tough_demo::delegated_repository(alloc, TARGETS, &plan, words.consistent);
+    }
+    tough_demo::repository(alloc, TARGETS, words.consistent)
 }
 
 // Makes the repository, and writes it.
 fn run(rt: &HostRuntime, words: &Words) -> Result<(), Error> {
-    let made = tough_demo::repository(rt.alloc(), TARGETS, words.consistent)?;
+    let made = made(rt.alloc(), words)?;
     let mut files = OsFiles::new(rt.clone()?);
     put_repository(rt.alloc(), &mut files, words.folder.as_str(), &made)?;
     println!(rt; "wrote {}", words.folder)?;

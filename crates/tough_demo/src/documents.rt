@@ -5,7 +5,7 @@ ghost use Rattle.serde_json.specs.Data.{no_members};
 ghost use Rattle.jiff.specs.Words.{parse_timestamp};
 ghost use Rattle.tough_keys.specs.Key.{key_doc};
 ghost use Rattle.tough_roles.specs.Root.{root_doc, roles_doc};
-ghost use Rattle.tough_roles.specs.Timestamp.{metafile_doc, timestamp_doc};
+ghost use Rattle.tough_roles.specs.Timestamp.{metafile_doc, metafiles_doc, timestamp_doc};
 ghost use Rattle.tough_roles.specs.Snapshot.{snapshot_doc};
 ghost use Rattle.tough_schema.specs.Delegations.{no_delegations};
 ghost use Rattle.tough_schema.specs.Targets.{listing_doc, targets_doc};
@@ -137,6 +137,19 @@ pub fn snapshot(
 {
     let mut meta = BTreeMap::new(alloc);
     meta.insert(String::from_str(alloc, "targets.json")?, targets)?;
+    snapshot_of(alloc, version, meta)
+}
+
+/// A snapshot of this version, which says this of these documents.
+pub fn snapshot_of(
+    alloc: Global,
+    version: NonZeroU64,
+    meta: BTreeMap<String, Metafile>,
+) -> Result<Snapshot, DemoError>
+    ensures head { IfOk result (λ s. IsHead EXPIRES.now (non_zero_u64_get version) (snapshot_doc s).head) }
+    ensures meta { IfOk result (λ s. (snapshot_doc s).meta ≡ metafiles_doc meta.entries) }
+    ensures extra { IfOk result (λ s. (snapshot_doc s).extra ≡ no_members) }
+{
     Ok(Snapshot {
         spec_version: String::from_str(alloc, SPEC_VERSION)?,
         version,

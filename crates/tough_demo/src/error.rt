@@ -1,6 +1,6 @@
 use std::alloc::{AllocError, AllocFailed};
 use thiserror::Error;
-use tough_base::{DecodeError, NameError};
+use tough_base::{DecodeError, NameError, PatternError};
 use tough_schema::{SignError, WriteError};
 
 /// Why a document of a demonstration wasn't made.
@@ -15,6 +15,9 @@ pub enum DemoError {
     /// A text is no target's name.
     #[error("not the name of a target")]
     Name,
+    /// A text is no pattern.
+    #[error("not a pattern")]
+    Pattern,
     /// A document has no JSON.
     #[error("a document has no JSON")]
     Unwritable,
@@ -52,6 +55,15 @@ impl From<NameError> for DemoError {
         match error {
             NameError::Memory => DemoError::Memory,
             _ => DemoError::Name,
+        }
+    }
+}
+
+impl From<PatternError> for DemoError {
+    fn from(error: PatternError) -> DemoError {
+        match error {
+            PatternError::Memory => DemoError::Memory,
+            PatternError::Glob => DemoError::Pattern,
         }
     }
 }

@@ -8,14 +8,18 @@ mod entries;
 mod error;
 mod files;
 mod keys;
+mod plans;
+mod roles;
 mod text;
 
-pub use build::repository;
+pub use build::{delegated_repository, repository};
 pub use documents::{
-    EXPIRES, expires, root, root_with, snapshot, targets, timestamp, timestamp_of,
+    EXPIRES, expires, root, root_with, snapshot, snapshot_of, targets, timestamp, timestamp_of,
 };
 pub use entries::{hashes, metafile, target};
 pub use error::DemoError;
 pub use files::{RepositoryFile, RepositoryFiles};
 pub use keys::{PUBLIC, demo_signer, ed25519};
+pub use plans::{RolePlan, chain, fan, mixed};
+pub use roles::{by_pattern, by_prefix, delegated_role, delegations, role_key};
 pub use text::{pretty, sign};
