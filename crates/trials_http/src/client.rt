@@ -92,6 +92,56 @@ where
     }
 }
 
+// The URL of the case's gateway: the server, if there is one.
+fn gateway_of(alloc: Global, addr: SocketAddr, case: &Value) -> Result<String> {
+    if case.get("gateway").is_none() {
+        return Ok(String::from_str(alloc, "none:")?);
+    }
+    Ok(format!(in alloc; "http://127.0.0.1:{}", addr.port())?)
+}
+
+// The transport of these settings.
+fn transport_of<R>(
+    rt: &R,
+    runtime: &LocalRuntime,
+    settings: HttpTransportBuilder,
+) -> Result<DefaultTransport<R>>
+where
+    R: Net + Clock + Files + RandomSource + AllocGlobal + Clone + Drop,
+{
+    let handle = runtime.handle().clone()?;
+    let rt = rt.clone()?;
+    match DefaultTransport::new_with_http_settings(rt, handle, settings) {
+        Ok(transport) => Ok(transport),
+        Err(error) => Err(error.into()),
+    }
+}
+
+// What the stream of a URL yields, by a gateway where it is `https`.
+fn fetch_there<R>(
+    rt: &R,
+    runtime: &mut LocalRuntime,
+    settings: HttpTransportBuilder,
+    base: String,
+    url: &Url,
+) -> Result<String>
+where
+    R: Net + Wait + Clock + Files + RandomSource + AllocGlobal + Clone + Drop,
+{
+    let alloc = rt.alloc();
+    match transport_of(rt, runtime, settings) {
+        Ok(within) => {
+            let gateway = Gateway {
+                alloc,
+                base,
+                within,
+            };
+            fetch_by(rt, runtime, gateway, url)
+        }
+        Err(error) => Err(error),
+    }
+}
+
 // What the stream of the case's URL yields.
 fn fetch<R>(rt: &R, addr: SocketAddr, case: &Value) -> Result<String>
 where
@@ -99,19 +149,9 @@ where
 {
     let alloc = rt.alloc();
     let url = url(alloc, addr, case)?;
+    let base = gateway_of(alloc, addr, case)?;
     let mut runtime = LocalRuntime::new(rt)?;
-    let handle = runtime.handle().clone()?;
-    let within = DefaultTransport::new_with_http_settings(rt.clone()?, handle, settings(case))?;
-    if case.get("gateway").is_none() {
-        return fetch_by(rt, &mut runtime, &within, &url);
-    }
-    let base = format!(in alloc; "http://127.0.0.1:{}", addr.port())?;
-    let gateway = Gateway {
-        alloc,
-        base,
-        within,
-    };
-    fetch_by(rt, &mut runtime, &gateway, &url)
+    fetch_there(rt, &mut runtime, settings(case), base, &url)
 }
 
 /// What the case's stream yields. Then the server is told to end.

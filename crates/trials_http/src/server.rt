@@ -63,7 +63,11 @@ fn say<R: Clock>(rt: &R, socket: &mut TcpStream, part: &Value) -> std::io::Resul
     }
     if part.get("waits").and_then(Value::as_bool) == Some(true) {
         let mut buffer = [0u8; 64];
-        while socket.read(&mut buffer)? > 0 {}
+        for _ in 0..MOST {
+            if socket.read(&mut buffer)? == 0 {
+                break;
+            }
+        }
     }
     Ok(())
 }
