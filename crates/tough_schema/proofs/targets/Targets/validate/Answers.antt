@@ -1,4 +1,4 @@
-use Rattle.std.proofs.Common.{sym, ◌∙◌}
+use Rattle.std.proofs.Common.{true, sym, ◌∙◌}
 use Rattle.tough_schema.specs.Whole.{tree_doc}
 use Rattle.tough_schema.specs.Search.{search}
 use Rattle.tough_schema.proofs.Listings.{is_some-some, missing-later, missing-here, invalid-from}
