@@ -1,5 +1,5 @@
 -- A key is the same as itself, and so a root's keys aren't rotated against themselves.
-use Rattle.std.proofs.Common.{◌≡◌, List, [], ◌∷◌, Bool, true, false, ◌&&◌, ◌||◌, not, refl, ap, ◌∙◌}
+use Rattle.std.proofs.Common.{◌≡◌, List, [], ◌∷◌, true, false, ◌&&◌, ◌||◌, not, refl, ap, ◌∙◌}
 use Rattle.tough_keys.specs.Key.{KeyDoc}
 use Rattle.tough_keys.specs.Equals.{same_doc-refl}
 use Rattle.tough_roles.specs.Root.{RootDoc}

@@ -1,5 +1,5 @@
 -- Timestamp and snapshot are forgotten exactly where keys were rotated, and which file is asked for.
-use Rattle.std.specs.Prelude.{◌≡◌, ◌⊎◌, ◌++◌, List, [], ◌∷◌, Bool}
+use Rattle.std.specs.Prelude.{◌≡◌, List, [], ◌∷◌, Bool}
 use Rattle.std.proofs.Common.{refl, sym, ◌∙◌, ap, subst, inl, inr}
 use Rattle.tough_keys.specs.Same.{Verifies}
 use Rattle.tough_vault.specs.Act.{ClearRotated}

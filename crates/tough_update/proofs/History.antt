@@ -1,13 +1,11 @@
 -- What is so of each stage after given answers: what the clock told, which roots were met, and which files may be asked for.
-use Rattle.std.specs.Prelude.{◌≡◌, ℕ, ℤ, ◌+◌, ◌-◌, ◌^◌, ◌==◌, List, [], ◌∷◌, ◌++◌, codes, Option, Some, None, Bool, true, false, IsTrue, ⊤, Result, Ok, Err, nat_lt, not, if◌then◌else◌}
+use Rattle.std.specs.Prelude.{◌≡◌, ℕ, ℤ, ◌+◌, ◌-◌, ◌^◌, ◌==◌, List, [], ◌∷◌, ◌++◌, codes, Option, Some, None, Bool, true, false, ⊤, Result, Ok, Err, nat_lt, not, if◌then◌else◌}
 use Rattle.std.proofs.Common.{refl, sym, ◌∙◌, ap, subst, inl, inr}
 use Rattle.std.proofs.lemmas.Bool.{eqb-true}
-use Rattle.std.proofs.lemmas.List.{append-nil, append_assoc}
 use Rattle.tough_keys.specs.Same.{Verifies}
 use Rattle.tough_roles.specs.Signature.{SignedDoc}
 use Rattle.tough_roles.specs.Root.{RootDoc}
 use Rattle.tough_roles.specs.Timestamp.{TimestampDoc, MetafileDoc}
-use Rattle.tough_roles.specs.Snapshot.{SnapshotDoc}
 use Rattle.tough_roles.specs.Verdict.{Refused}
 use Rattle.tough_roles.specs.declared.role_type.RoleType.TheVariants as role
 use Rattle.tough_vault.specs.Checks.{ExpiredMetadata, is_expired}
@@ -36,13 +34,13 @@ use Rattle.tough_update.specs.Questions.{Question}
 use Rattle.tough_update.specs.Questions as ask
 use Rattle.tough_update.specs.Answered.{AnswerDoc}
 use Rattle.tough_update.specs.Answered as got
-use Rattle.tough_update.specs.Machine.{question, question_at, walked, base_of, walk_ended, want_snapshot, known_of, want_targets, read_wanted, after, settled, stage_after, answered}
+use Rattle.tough_update.specs.Machine.{question, walked, base_of, walk_ended, want_snapshot, known_of, want_targets, read_wanted, after, settled, stage_after, answered}
 use Rattle.tough_update.specs.Trusted.{Chain, followed}
-use Rattle.tough_update.specs.Runs.{run, EndsWalk, AskedNext, IsLast, IsFresh, WasTold, EndsWalking, WasRotated}
+use Rattle.tough_update.specs.Runs.{run, EndsWalk, IsLast, IsFresh, WasTold, EndsWalking, WasRotated}
 use Rattle.tough_update.specs.Asking.{HasTaken, AsksSnapshot, AsksTargets, AsksRole}
 use Rattle.tough_update.proofs.Turning.{Fine, unless-fine, if-fine, and_then-fine, keeps-answer}
 use Rattle.tough_update.proofs.Sound.{first-fine, next-fine, if_read-ok, if_verified-ok, ok-same}
-use Rattle.tough_update.proofs.Prefixes.{in_stage, longer, run-last, run-same, whole, whole-at}
+use Rattle.tough_update.proofs.Prefixes.{in_stage, longer, run-same, whole, whole-at}
 
 pub first-read : (v : Verifies) (bytes : List ℕ) (root : SignedDoc RootDoc) → first_root v bytes ≡ Ok root → root_in bytes ≡ Some root
 first-read v bytes root h =

@@ -5,7 +5,6 @@ use Rattle.std.proofs.lemmas.Bool.{eq-eqb, lt-ltb}
 use Rattle.std.proofs.Math.Nat.{sub_self}
 use Rattle.serde_json.specs.Data.{Data}
 use Rattle.tough_net.specs.declared.error.TransportError.{TransportError}
-use Rattle.tough_net.specs.declared.error.TransportErrorKind.{TransportErrorKind}
 use Rattle.tough_net.specs.declared.error.TransportErrorKind.TheVariants as kind
 use Rattle.tough_net.specs.Errors.{error_kind}
 use Rattle.tough_keys.specs.Same.{Verifies}
@@ -21,7 +20,7 @@ use Rattle.tough_roles.specs.declared.role_type.RoleType.TheVariants as role
 use Rattle.tough_roles.proofs.lemmas.Reached.{reaches-to}
 use Rattle.tough_schema.specs.Targets.{TargetsDoc, targets_json}
 use Rattle.tough_vault.specs.Checks.{Reason, VerifyMetadata, VersionMismatch, TimestampMetaLength, MissingSnapshotMeta, SnapshotTargetsMetaMissing, ExpiredMetadata, refuse, or_else, is_expired, expiry, verified, timestamp_form, snapshot_form}
-use Rattle.tough_vault.specs.Documents.{root_in, root_text, timestamp_in, snapshot_in, snapshot_verdict, metafile_in}
+use Rattle.tough_vault.specs.Documents.{root_text, snapshot_verdict, metafile_in}
 use Rattle.tough_vault.specs.Steps.{time_text, needs}
 use Rattle.tough_vault.specs.Act.{Act}
 use Rattle.tough_vault.specs.Act as act
@@ -41,7 +40,7 @@ use Rattle.tough_update.specs.Questions as ask
 use Rattle.tough_update.specs.declared.request.Fault.TheVariants as fault
 use Rattle.tough_update.specs.Answered.{AnswerDoc}
 use Rattle.tough_update.specs.Answered as got
-use Rattle.tough_update.specs.Machine.{is_memory, fault_failure, question, question_at, answered, settled, stage_after, walked, began, base_of, walk_ended, want_snapshot, known_of, want_targets, new_targets}
+use Rattle.tough_update.specs.Machine.{is_memory, fault_failure, question, question_at, settled, stage_after, walked, want_snapshot, known_of, want_targets, new_targets}
 use Rattle.tough_update.specs.Runs.{run, IsFresh}
 use Rattle.tough_update.specs.Loadable.{Files, Delivers, Gets, refusal_at_first, step_answer, Honest, AllHonest, Loadable, IsLoaded}
 use Rattle.tough_update.proofs.Alike.{not-rotated}

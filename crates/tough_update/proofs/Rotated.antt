@@ -1,5 +1,5 @@
 -- Lists of keys, side by side.
-use Rattle.std.proofs.Common.{◌≡◌, ◌≢◌, ℕ, zero, suc, ◌+◌, ◌<◌, List, [], ◌∷◌, length, drop, get_or, Option, Some, None, Bool, true, false, not, ◌&&◌, refl, sym, ap, ◌∙◌, add-one, arith}
+use Rattle.std.proofs.Common.{◌≡◌, ℕ, zero, suc, ◌+◌, ◌<◌, List, [], ◌∷◌, length, drop, get_or, Some, Bool, true, false, not, ◌&&◌, refl, sym, ap, ◌∙◌, add-one, arith}
 use Rattle.std.proofs.Math.Seq.{drop-nil}
 use Rattle.tough_base.specs.Spelled.{Spelled}
 use Rattle.tough_keys.specs.Key.{KeyDoc}

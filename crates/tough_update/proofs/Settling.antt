@@ -1,11 +1,23 @@
 -- How a turn of the program ends.
-use Rattle.std.proofs.Common.{◌≡◌, ◌⊎◌, List, ℕ, Result, Ok, Err, refl, sym, ap, ◌∙◌, inl, inr}
+use Rattle.std.proofs.Common.{◌≡◌, List, ℕ, ℤ, Bool, Some, None, Result, Ok, Err, refl, sym, ap, ◌∙◌, inl, inr}
 use Rattle.tough_keys.specs.Same.{Verifies}
 use Rattle.tough_update.specs.Failure.{Failure, ParseTrustedMetadata, VerifyTrustedMetadata, ParseMetadata, MaxUpdatesExceeded, ParseUrl, JoinUrl, Transport, InvalidPath, Checked, DatastoreOpen, DatastoreCreate, DatastoreRemove, Memory, IsRefused}
-use Rattle.tough_update.specs.Stages.{StageDoc, SettingDoc, CoreDoc, Done}
+use Rattle.tough_update.specs.Stages.{StageDoc, CoreDoc, Done}
 use Rattle.tough_update.specs.Answered.{AnswerDoc}
 use Rattle.tough_update.specs.Machine.{settled, stage_after}
-use Rattle.tough_update.specs.Promises.{Settles, Goes}
+use Rattle.tough_update.specs.Promises.{Settles, Goes, ended}
+use Rattle.tough_roles.specs.Signature.{SignedDoc}
+use Rattle.tough_roles.specs.declared.role_type.RoleType.TheVariants as role
+use Rattle.tough_schema.specs.Targets.{TargetsDoc}
+use Rattle.tough_delegated.specs.Bare.{bare}
+use Rattle.tough_update.specs.Listed.{HolderDoc, targets_in, targets_checked, judged}
+use Rattle.tough_update.specs.Outcomes.{and_then}
+use Rattle.tough_update.specs.View.{stage_doc}
+use Rattle.tough_update.specs.Walk.{if_read, holds_json}
+use Rattle.tough_update.specs.declared.error.Error.{Error}
+use Rattle.tough_update.specs.declared.stage.Loaded.{Loaded}
+use Rattle.tough_update.specs.declared.stage.Stage.{Stage}
+use Rattle.tough_update.specs.declared.stage.Stage.TheVariants as in_stage
 
 pub went : (r : Result StageDoc Failure) (stage : StageDoc) → r ≡ Ok stage → Settles r stage
 went r stage h = inl (sym (ap settled h))
@@ -31,3 +43,18 @@ pub goes : (v : Verifies) (old : CoreDoc) (trusted : List ℕ) (stage : StageDoc
 goes v old trusted stage a new t s (inl h) =
     inl (ap (λ x. record { setting = old.setting; stage = x }) (h ∙ (ap (λ x. settled (stage_after v (record { trusted = x; limits = old.setting.limits; enforced = old.setting.enforced }) stage a)) t ∙ ap (λ x. settled (stage_after v old.setting x a)) s)))
 goes v old trusted stage a new t s (inr h) = inr (ap (λ x. record { setting = old.setting; stage = x }) h)
+
+-- a stage that is no end
+pub unended : (s : Stage) → ((o : Result Loaded Error) → s ≡ in_stage.Done o → ⊥) → None ≡ ended (stage_doc s)
+unended in_stage.Moment h = refl
+unended (in_stage.Fetch w r) h = refl
+unended (in_stage.Step p) h = refl
+unended (in_stage.Done o) h = absurd (h o refl)
+unended in_stage.Taken h = refl
+
+-- targets that were read and checked
+pub judged-to : (v : Verifies) (enforced : Bool) (start : ℤ) (holder : HolderDoc) (listed : ℕ) (bytes : List ℕ) (page : SignedDoc TargetsDoc) → targets_in bytes ≡ Some page
+    → targets_checked v enforced start holder listed page ≡ Ok (tt {0}) → judged v enforced start holder listed bytes ≡ Ok (bare page)
+judged-to v enforced start holder listed bytes page h k =
+    ap (λ o. if_read (ParseMetadata role.Targets (holds_json bytes)) o (λ d. and_then (targets_checked v enforced start holder listed d) (λ u. Ok (bare d)))) h
+    ∙ ap (λ r. and_then r (λ u. Ok (bare page))) k

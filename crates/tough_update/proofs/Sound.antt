@@ -1,5 +1,5 @@
 -- What holds of each stage, and that each answer keeps it.
-use Rattle.std.specs.Prelude.{◌≡◌, ℕ, ℤ, ◌+◌, ◌-◌, ◌^◌, ◌==◌, ◌≤◌, List, [], ◌∷◌, ◌++◌, length, codes, Option, Some, None, IfSome, Bool, true, false, IsTrue, ⊤, Result, Ok, Err, nat_lt, nat_le, not, ◌&&◌, is_some, if◌then◌else◌}
+use Rattle.std.specs.Prelude.{◌≡◌, ℕ, ℤ, ◌+◌, ◌-◌, ◌^◌, ◌==◌, ◌≤◌, List, [], ◌∷◌, ◌++◌, length, codes, Option, Some, None, IfSome, Bool, true, false, IsTrue, ⊤, Result, Ok, Err, nat_lt, nat_le, not, ◌&&◌, if◌then◌else◌}
 use Rattle.std.proofs.Common.{◌≤ℤ◌, int_lt, refl, sym, ◌∙◌, ap, subst, arith}
 use Rattle.jiff_core.proofs.SignedLemmas.{signed_arith}
 use Rattle.std.proofs.lemmas.Bool.{eqb-true, leb-true}
@@ -7,7 +7,7 @@ use Rattle.std.proofs.lemmas.Slice.Eq.{bytes_eq-Decides}
 use Rattle.sha2.specs.Sha256.{sha256}
 use Rattle.tough_keys.specs.Same.{Verifies}
 use Rattle.tough_roles.specs.Signature.{SignedDoc}
-use Rattle.tough_roles.specs.Root.{RootDoc, root_json}
+use Rattle.tough_roles.specs.Root.{RootDoc}
 use Rattle.tough_roles.specs.Timestamp.{TimestampDoc, MetafileDoc, timestamp_json}
 use Rattle.tough_roles.specs.Snapshot.{SnapshotDoc, snapshot_json}
 use Rattle.tough_roles.specs.Verdict.{Refused, verdict}
@@ -18,7 +18,6 @@ use Rattle.tough_roles.proofs.lemmas.Reached.{reaches-from, ok-reaches}
 use Rattle.tough_vault.specs.Checks.{Reason, refuse, or_else, VersionMismatch, VerifyMetadata, OlderMetadata, TimestampMetaLength, expiry, is_expired, ExpiredMetadata, verified, timestamp_first, timestamp_form, snapshot_first, snapshot_form}
 use Rattle.tough_vault.specs.Documents.{root_in, timestamp_in, snapshot_in, metafile_in, timestamp_verdict, snapshot_verdict}
 use Rattle.tough_vault.specs.Files.{snapshot_file, targets_file}
-use Rattle.tough_update.specs.declared.limits.Limits.{Limits}
 use Rattle.tough_update.specs.Failure.{Failure, ParseTrustedMetadata, VerifyTrustedMetadata, ParseMetadata, MaxUpdatesExceeded, Checked}
 use Rattle.tough_update.specs.Walk.{holds_json, first_root, next_root, root_verdict, if_read, if_verified, if_next}
 use Rattle.tough_update.specs.Requests.{RequestDoc, bound, stated_digest, has_digest, fits_request, root_request, timestamp_request}
@@ -27,7 +26,7 @@ use Rattle.tough_update.specs.Outcomes.{unless, and_then}
 use Rattle.tough_update.specs.Rotation.{is_rotated}
 use Rattle.tough_update.specs.Listed.{targets_in, HolderDoc, by_root, by_delegations, targets_verdict, targets_checked, judged}
 use Rattle.tough_update.specs.Delegated.{first_name, wanted_name, role_holder, metas_in, is_reserved, if_found, grown_on, roles_begun, given, role_given, role_stored, with_received, new_role}
-use Rattle.tough_names.specs.Named.{Named}
+use Rattle.tough_names.specs.Named.{Named as ListedName}
 use Rattle.tough_roles.specs.Policy.{Policy}
 use Rattle.tough_schema.specs.Delegations.{DelegationsDoc}
 use Rattle.tough_schema.specs.Tree.{Entry}
@@ -49,8 +48,8 @@ use Rattle.tough_update.specs.Stages.{WalkDoc, BaseDoc, KnownDoc, WantedDoc, Pen
 use Rattle.tough_update.specs.Stages as at
 use Rattle.tough_update.specs.Answered.{AnswerDoc}
 use Rattle.tough_update.specs.Answered as got
-use Rattle.tough_update.specs.Machine.{walked, began, new_root, base_of, walk_ended, new_timestamp, want_snapshot, known_of, want_targets, new_targets, read_wanted, after, stage_after, question_at}
-use Rattle.tough_update.specs.Trusted.{Chain, handed_in, followed, Named, Lists, IsVouched}
+use Rattle.tough_update.specs.Machine.{walked, began, new_root, base_of, walk_ended, want_snapshot, known_of, want_targets, new_targets, read_wanted, after, stage_after, question_at}
+use Rattle.tough_update.specs.Trusted.{Chain, handed_in, followed, Lists, IsVouched}
 use Rattle.tough_update.specs.Runs.{Keeps, EndsWalk}
 use Rattle.tough_update.proofs.Walking.{under, follows}
 use Rattle.tough_update.proofs.Turning.{Fine, unless-fine, if-fine, and_then-fine, keeps-answer}
@@ -381,7 +380,7 @@ module _ (verifies : Verifies) (s : SettingDoc) (N : ℤ → Type 0) (E : Signed
           found = (valid-missing t.role).1 none;
         }
 
-    found-fine : (k : KnownDoc) (received : List ReceivedDoc) (t : SignedDoc TreeDoc) (o : Option Named) → first_missing t.role ≡ o → KnownFine k → GrowsTo k (grown t)
+    found-fine : (k : KnownDoc) (received : List ReceivedDoc) (t : SignedDoc TreeDoc) (o : Option ListedName) → first_missing t.role ≡ o → KnownFine k → GrowsTo k (grown t)
         → Fine Holds bad (if_found o (record { known = k; targets = t; received = received }))
     found-fine k received t None is h g = (h, tree-fine k t g is)
     found-fine k received t (Some name) is h g = tt

@@ -1,5 +1,5 @@
 -- Why an update failed, apart from the member that makes bytes no document.
-use Rattle.std.specs.Prelude.{◌≡◌, ℕ, ℤ, List, Option, Some, None, Bool, true, false, Result, Ok, Err, string_bytes, ⊤}
+use Rattle.std.specs.Prelude.{◌≡◌, ℕ, List, Option, Some, None, Bool, true, false, Result, Ok, Err, string_bytes, ⊤}
 use Rattle.url.specs.declared.error.ParseError.{ParseError}
 use Rattle.tough_json.specs.declared.error.ReadError.{ReadError}
 use Rattle.tough_names.specs.Named.{Named}

@@ -1,5 +1,5 @@
 -- Targets as an update takes them: those of a repository, and the documents of delegated roles (TUF specification 1.0, section 5.6).
-use Rattle.std.specs.Prelude.{ℕ, ℤ, ◌==◌, List, length, Option, Some, None, Bool, not, option_and_then, Result, Ok}
+use Rattle.std.specs.Prelude.{ℕ, ℤ, ◌==◌, List, Option, Some, Bool, not, option_and_then, Result, Ok}
 use Rattle.tough_json.specs.Results.{json_of}
 use Rattle.tough_keys.specs.Same.{Verifies}
 use Rattle.tough_roles.specs.Signature.{SignedDoc, signed_at, signed_json}

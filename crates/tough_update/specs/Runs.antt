@@ -1,5 +1,5 @@
 -- Runs of an update, over any answers.
-use Rattle.std.specs.Prelude.{◌≡◌, ◌≢◌, ◌⊎◌, ℕ, ℤ, ◌+◌, ◌-◌, ◌^◌, List, [], ◌∷◌, ◌++◌, Option, Some, None, Bool, true, false, IsTrue, ⊤, Result, Ok, Err, if◌then◌else◌}
+use Rattle.std.specs.Prelude.{◌≡◌, ◌≢◌, ◌⊎◌, ℤ, ◌+◌, ◌-◌, ◌^◌, List, [], ◌∷◌, ◌++◌, Some, true, false, IsTrue, ⊤, Ok, if◌then◌else◌}
 use Rattle.tough_net.specs.declared.error.TransportErrorKind.TheVariants as kind
 use Rattle.tough_net.specs.Errors.{error_kind}
 use Rattle.tough_keys.specs.Same.{Verifies}

@@ -1,5 +1,5 @@
 -- What an update that succeeds vouches for (TUF specification 1.0, section 5).
-use Rattle.std.specs.Prelude.{◌≡◌, ◌≤◌, ◌≤ℤ◌, ℕ, ℤ, List, ◌++◌, length, codes, Option, Some, None, IfSome}
+use Rattle.std.specs.Prelude.{◌≡◌, ◌≤◌, ◌≤ℤ◌, ℕ, List, ◌++◌, length, codes, Option, Some, None, IfSome}
 use Rattle.sha2.specs.Sha256.{sha256}
 use Rattle.tough_keys.specs.Same.{Verifies}
 use Rattle.tough_roles.specs.Signature.{SignedDoc}

@@ -1,5 +1,5 @@
 -- The machine of the program, seen as plain data.
-use Rattle.std.specs.Prelude.{◌≡◌, ◌⊎◌, ℕ, List, Option, Some, None, Result, Ok, Err, option_map, map, string_bytes, ⊤}
+use Rattle.std.specs.Prelude.{List, Option, Some, None, Result, Ok, Err, option_map, map, string_bytes, ⊤}
 use Rattle.tough_roles.specs.Signature.{SignedDoc, signed_doc}
 use Rattle.tough_roles.specs.Root.{RootDoc, root_doc}
 use Rattle.tough_roles.specs.declared.root.Root.{Root}

@@ -1,5 +1,5 @@
 -- Whole updates.
-use Rattle.std.specs.Prelude.{◌≡◌, ◌+◌, ℤ, List, [], ◌∷◌, ◌++◌, Ok, true}
+use Rattle.std.specs.Prelude.{◌≡◌, ℤ, List, [], ◌∷◌, ◌++◌, Ok}
 use Rattle.std.proofs.Common.{◌≤ℤ◌, refl, sym, ◌∙◌, ap, subst, inl, inr}
 use Rattle.tough_keys.specs.Same.{Verifies}
 use Rattle.tough_roles.specs.Signature.{SignedDoc}

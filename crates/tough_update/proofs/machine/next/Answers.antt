@@ -1,4 +1,3 @@
-use Rattle.tough_keys.specs.Same.{Verifies}
 use Rattle.tough_update.specs.Failure.{failure_of}
 use Rattle.tough_update.specs.Machine.{stage_after}
 use Rattle.tough_update.specs.View.{stage_doc, answer_doc, setting_doc}

@@ -1,0 +1,17 @@
+use Rattle.std.proofs.Common.{ap, ◌∙◌}
+use Rattle.tough_vault.specs.Checks.{enforces}
+use Rattle.tough_update.specs.Promises.{ended}
+use Rattle.tough_update.specs.Stages.{CoreDoc, SettingDoc}
+use Rattle.tough_update.specs.View.{stage_doc}
+use Rattle.tough_update.proofs.Settling.{unended}
+use Rattle.tough_update.proofs.machine.Core.take_outcome.Goals as goal
+
+pub returns-in_default : goal.returns-in_default
+returns-in_default c =
+    let self = c.args.self.now in
+    let setting : SettingDoc = record { trusted = self.trusted.items; limits = self.limits; enforced = enforces self.enforcement } in
+    record {
+      done = unended c.replace.result c.in_default.not-Done ∙ ap (λ s. ended (stage_doc s)) c.replace.ensures.value;
+      taken = λ h. cc;
+      not_yet = λ h. ap (λ s. let d : CoreDoc = record { setting = setting; stage = stage_doc s } in d) c.replace.ensures.value;
+    }
