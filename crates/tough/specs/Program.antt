@@ -1,6 +1,7 @@
 -- What the program vouches for and prints.
 use Rattle.std.specs.Prelude.{ℕ, List, ◌++◌, codes, decimal}
 use Rattle.tough_keys.specs.Demo.{demo_verifies}
+use Rattle.tough_schema.specs.Whole.{top_doc}
 use Rattle.tough_update.specs.Stages.{LoadedDoc}
 use Rattle.tough_update.specs.Trusted.{Trusted, Unexpired}
 
@@ -21,4 +22,4 @@ versions_text l =
     version_line (codes "root") l.known.root.role.head.version
     ++ version_line (codes "timestamp") l.known.timestamp.role.head.version
     ++ version_line (codes "snapshot") l.known.snapshot.role.head.version
-    ++ version_line (codes "targets") l.targets.role.head.version
+    ++ version_line (codes "targets") (top_doc l.targets.role).head.version
