@@ -36,8 +36,8 @@ pub fn run(rt: &HostRuntime, count: u32, folder: Option<&str>) -> Result<(), Err
     Ok(())
 }
 
-/// Prints what was done, how long it took, and what the process has held at most.
-pub fn print(rt: &HostRuntime, done: &str, began: Instant) -> Result<(), Error> {
+// Prints what was done, how long it took, and what the process has held at most.
+fn print(rt: &HostRuntime, done: &str, began: Instant) -> Result<(), Error> {
     let time = began.elapsed(rt)?;
     println!(rt;
         "  {done}: {} ms; peak memory {} kB",
