@@ -34,7 +34,7 @@ mutual
   same_below : (j k : ℕ) (t : TreeDoc) → roles (preorder_below j t) ≡ roles (preorder_below k t)
   same_below j k (tree o bs) = same_roles j k bs
 
-roles-put : (r : RoleTree) (bs : Branches) → roles_in (put_branch r bs) ≡ gathered r ++ roles_in bs
+pub roles-put : (r : RoleTree) (bs : Branches) → roles_in (put_branch r bs) ≡ gathered r ++ roles_in bs
 roles-put (e, None) bs = ap (λ (l : List RoleTree). (e, None) ∷ l) (same_roles 1 0 bs)
 roles-put (e, Some h) bs =
     let inside = preorder_below 1 h.below in

@@ -31,7 +31,7 @@ listed-none r h = ap listed_of (role-held r ∙ ap (option_map held_doc) h)
 pub listed-some : (r : DelegatedRole) (s : Signed DelegatedTargets) → (out-DelegatedRole r).targets ≡ Some s → listed_of (role_tree r).1 ≡ listing_doc (out-Targets (out-DelegatedTargets s.signed).targets).targets.entries
 listed-some r s h = ap listed_of (role-held r ∙ ap (option_map held_doc) h) ∙ ap listing_of (held-below s) ∙ listing-tree (out-DelegatedTargets s.signed).targets
 
-listed_in-append : (xs ys : List RoleTree) → listed_in (xs ++ ys) ≡ listed_in xs ++ listed_in ys
+pub listed_in-append : (xs ys : List RoleTree) → listed_in (xs ++ ys) ≡ listed_in xs ++ listed_in ys
 listed_in-append [] ys = refl
 listed_in-append (x ∷ xs) ys = ap (λ l. listed_of x.1 ++ l) (listed_in-append xs ys) ∙ sym (append_assoc (listed_of x.1) (listed_in xs) (listed_in ys))
 
@@ -73,23 +73,6 @@ merged-more found es i e h is = ap (merged_into found) (docs-more es i e h is) �
 pub is_some-some : {A : Type 0} (o : Option A) (a : A) → o ≡ Some a → is_some o ≡ true
 is_some-some None a h = cc
 is_some-some (Some b) a h = refl
-
--- the names from i on
-abbrev pub names_from : ℕ → List (Bor Named × Bor Target) → List Named
-names_from i es = map (λ e. e.0) (listed_docs (drop i es))
-
-names-more : (es : List (Bor Named × Bor Target)) (i : ℕ) (e : Bor Named × Bor Target) → i < length es → e ≡ get_or es i e → names_from i es ≡ e.0.now ∷ names_from (i + 1) es
-names-more es i e h is = ap (λ l. map (λ (x : Named × TargetDoc). x.0) (listed_docs l)) (drop_more es i e h ∙ ap (λ y. y ∷ drop (i + 1) es) (sym is))
-
--- the name at i is found
-pub missing-later : (t : TreeDoc) (es : List (Bor Named × Bor Target)) (i : ℕ) (e : Bor Named × Bor Target) → i < length es → e ≡ get_or es i e → is_found t e.0.now ≡ true
-    → find (λ name. not (is_found t name)) (names_from i es) ≡ find (λ name. not (is_found t name)) (names_from (i + 1) es)
-missing-later t es i e h is found = rw (names-more es i e h is, found) refl
-
--- it isn't
-pub missing-here : (t : TreeDoc) (es : List (Bor Named × Bor Target)) (i : ℕ) (e : Bor Named × Bor Target) → i < length es → e ≡ get_or es i e → search true e.0.now t ≡ None
-    → find (λ name. not (is_found t name)) (names_from i es) ≡ Some e.0.now
-missing-here t es i e h is missing = rw (names-more es i e h is, missing) refl
 
 pub invalid-from : (d : TreeDoc) (name : Named) (e : Error) → (search true name d ≡ None → first_missing d ≡ Some name) → IsNotFound name (search true name d) e → IsInvalid d e
 invalid-from d name (errors.TargetNotFound n) here h = here h.1 ∙ ap Some (sym h.0)

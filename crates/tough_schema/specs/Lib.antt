@@ -11,6 +11,7 @@ pub mod Marks
 pub mod Walk
 pub mod Verify
 pub mod Entries
+pub mod Strays
 pub mod Gather
 pub mod Seek
 pub mod Seeking

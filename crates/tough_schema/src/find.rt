@@ -22,7 +22,7 @@ enum Found<'a> {
 }
 
 impl DelegatedRole {
-    fn matches(&self, name: &TargetName) -> bool
+    pub(crate) fn matches(&self, name: &TargetName) -> bool
         ensures { result ≡ matches name.now (role_tree self.now).0 }
     {
         self.paths.matches(name)

@@ -20,6 +20,7 @@ mod read_delegations;
 mod read_target;
 mod read_targets;
 mod seek;
+mod strays;
 mod target;
 mod targets;
 mod update;

@@ -75,9 +75,8 @@ impl Targets {
         ensures ok { IfOk result (λ u. first_missing (tree_doc self.now) ≡ None) }
         ensures refused { IfErr result (λ e. IsInvalid (tree_doc self.now) e) }
     {
-        let listed = self.targets_iter(alloc)?;
-        for entry in &listed {
-            let (name, _) = *entry;
+        let strays = self.strays(alloc)?;
+        for name in &strays {
             match self.find_target(alloc, name, true) {
                 Ok(_) => {}
                 Err(error) => return Err(error),
