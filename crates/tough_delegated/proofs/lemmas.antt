@@ -3,3 +3,4 @@ pub mod Bare
 pub mod Once
 pub mod Under
 pub mod Listed
+pub mod Full

@@ -1,22 +1,20 @@
 -- A document that was read is the bare tree of what it says for itself.
-use Rattle.std.proofs.Common.{◌≡◌, ℕ, List, [], ◌∷◌, Bool, true, false, if◌then◌else◌, Option, Some, None, is_some, option_map, refl, ap, sym, ◌∙◌}
+use Rattle.std.proofs.Common.{◌≡◌, List, [], ◌∷◌, Option, Some, None, refl, ap, sym, ◌∙◌}
 use Rattle.tough_base.specs.Spelled.{Spelled}
 use Rattle.tough_keys.specs.Key.{KeyDoc}
 use Rattle.serde_json.specs.Data.{Members}
 use Rattle.tough_roles.specs.Head.{Head}
-use Rattle.tough_roles.specs.Signature.{SignatureDoc, SignedDoc, signed_doc}
+use Rattle.tough_roles.specs.Signature.{SignedDoc, signed_doc}
 use Rattle.tough_roles.specs.declared.signed.Signed.{Signed}
 use Rattle.tough_schema.specs.Delegations.{DelegationsDoc}
 use Rattle.tough_schema.specs.Targets.{TargetsDoc, targets_doc}
 use Rattle.tough_schema.specs.Tree.{Listing, Entry}
 use Rattle.tough_schema.specs.Fresh.{carriers, carriers_below, IsFresh}
-use Rattle.tough_schema.specs.Whole.{OwnDoc, TreeDoc, tree, Branches, no_branches, unloaded, loaded, entries_in, top_doc, tree_doc}
+use Rattle.tough_schema.specs.Whole.{TreeDoc, tree, Branches, no_branches, unloaded, loaded, entries_in, top_doc, tree_doc}
 use Rattle.tough_schema.specs.declared.delegations.Delegations.{Delegations}
 use Rattle.tough_schema.specs.declared.targets.Targets.{Targets, out-Targets}
 use Rattle.tough_schema.proofs.lemmas.Wholes.{tree-leaf, tree-inner, top-tells}
-use Rattle.tough_delegated.specs.Bare.{all_unloaded, roles_of, bare_tree, bare, top_page, held_as}
-use Rattle.tough_delegated.specs.Growing.{Metas, grown, begun}
-use Rattle.tough_schema.specs.Update.{listed_roles}
+use Rattle.tough_delegated.specs.Bare.{all_unloaded, roles_of, bare_tree, bare, top_page}
 
 unloaded-again : (bs : Branches) → carriers bs ≡ [] → all_unloaded (entries_in bs) ≡ bs
 unloaded-again no_branches h = refl
@@ -49,7 +47,7 @@ signed-bare s f = ap (λ t. let d : SignedDoc TreeDoc = record { role = t; signa
 
 -- ---- what such a tree says for itself
 
-entries-unloaded : (es : List Entry) → entries_in (all_unloaded es) ≡ es
+pub entries-unloaded : (es : List Entry) → entries_in (all_unloaded es) ≡ es
 entries-unloaded [] = refl
 entries-unloaded (e ∷ es) = ap (λ l. e ∷ l) (entries-unloaded es)
 
@@ -70,29 +68,3 @@ bare-none d = unloaded-none (roles_of d.role.delegations)
 -- what the tree of a program says for itself
 pub page-tells : (s : Signed Targets) → signed_doc targets_doc s ≡ top_page (signed_doc tree_doc s)
 page-tells s = ap (λ r. let d : SignedDoc TargetsDoc = record { role = r; signatures = (signed_doc targets_doc s).signatures } in d) (top-tells s.signed)
-
--- ---- documents that list no role
-
-leaf-any : (h : Head) (l : Listing) (k : Option (List (Spelled × KeyDoc))) (x : Members) → IsBareTree (tree (record { head = h; targets = l; keys = k; extra = x }) no_branches)
-leaf-any h l None x = refl
-leaf-any h l (Some ks) x = refl
-
-empty-tree : (t : TreeDoc) → listed_roles t ≡ [] → IsBareTree t
-empty-tree (tree o no_branches) h = leaf-any o.head o.targets o.keys o.extra
-empty-tree (tree o (unloaded e bs)) h = cc
-empty-tree (tree o (loaded e n s t bs)) h = cc
-
-pub empty-bare : (d : SignedDoc TreeDoc) → listed_roles d.role ≡ [] → bare (top_page d) ≡ d
-empty-bare d h = ap (λ t. let s : SignedDoc TreeDoc = record { role = t; signatures = d.signatures } in s) (sym (empty-tree d.role h))
-
-refilled-twice : (o : OwnDoc) (b : Bool) → tree o (if b then no_branches else (if b then no_branches else no_branches)) ≡ tree o no_branches
-refilled-twice o true = refl
-refilled-twice o false = refl
-
-grows-empty : (metas : Metas) (t : TreeDoc) (ss : List SignatureDoc) → listed_roles t ≡ [] → begun metas (held_as [] (record { role = t; signatures = ss })) ≡ grown (record { role = t; signatures = ss })
-grows-empty metas (tree o no_branches) ss h = ap (λ t. grown (record { role = t; signatures = ss })) (refilled-twice o (is_some o.keys))
-grows-empty metas (tree o (unloaded e bs)) ss h = absurd (cc)
-grows-empty metas (tree o (loaded e n s t bs)) ss h = absurd (cc)
-
-pub empty-grows : (metas : Metas) (d : SignedDoc TreeDoc) → listed_roles d.role ≡ [] → begun metas (held_as [] d) ≡ grown d
-empty-grows metas d h = grows-empty metas d.role d.signatures h
