@@ -6,6 +6,9 @@ ghost use Rattle.tough_http.specs.Transports.{builder_of};
 ghost use Rattle.tough_http.specs.Settings.{defaults, retries_of, settings};
 
 use crate::{HttpRequests, HttpTransportBuilder};
+use bytes::Bytes;
+use futures::Stream;
+use futures::task::{Context, Poll};
 use std::alloc::{AllocError, AllocGlobal};
 use std::net::Net;
 use std::random::RandomSource;
@@ -21,6 +24,24 @@ pub struct HttpTransport<R> {
     rt: R,
     handle: Handle,
     settings: HttpTransportBuilder,
+}
+
+/// The pieces that come over HTTP, by as many requests as the settings allow. It ends after an error.
+#[derive(Drop)]
+pub struct HttpStream<R: Net + Clock + RandomSource + AllocGlobal + Clone + Drop> {
+    pieces: Retrying<HttpRequests<R>>,
+}
+
+impl<R: Net + Clock + RandomSource + AllocGlobal + Clone + Drop> Stream for HttpStream<R> {
+    type Item = Result<Bytes, TransportError>;
+
+    ghost can_poll = { λ m. ⟦<Retrying<HttpRequests<R>> as Stream>⟧.can_poll m.pieces };
+
+    ghost yields = { λ m. ⟦<Retrying<HttpRequests<R>> as Stream>⟧.yields m.pieces };
+
+    fn poll_next(&mut self, cx: &mut Context<'_>) -> Poll<Option<Self::Item>> {
+        self.pieces.poll_next(cx)
+    }
 }
 
 impl HttpTransportBuilder {
@@ -59,7 +80,7 @@ impl<R: Clone> HttpTransport<R> {
 }
 
 impl<R: Net + Clock + RandomSource + AllocGlobal + Clone + Drop> Transport for HttpTransport<R> {
-    type Stream = Retrying<HttpRequests<R>>;
+    type Stream = HttpStream<R>;
 
     ghost refuses = { λ _ url. RefusesHttp url.scheme (serialize url) };
 
@@ -67,13 +88,13 @@ impl<R: Net + Clock + RandomSource + AllocGlobal + Clone + Drop> Transport for H
         × ServesHttp ⟦<HttpRequests<R> as Requests>⟧.bodies ⟦<HttpRequests<R> as Requests>⟧.answers
         (retries_of (builder_of t)) (serialize url) xs last };
 
-    fn fetch(&self, url: &Url) -> Result<Retrying<HttpRequests<R>>, TransportError> {
+    fn fetch(&self, url: &Url) -> Result<HttpStream<R>, TransportError> {
         let alloc = self.rt.alloc();
         if url.scheme() == "http" {
             let text = String::from_str(alloc, url.as_str())?;
             let requests = self.requests(url)?;
             match Retrying::new(alloc, requests, text, self.settings.retries()) {
-                Some(stream) => Ok(stream),
+                Some(pieces) => Ok(HttpStream { pieces }),
                 None => Err(AllocError.into()),
             }
         } else {
