@@ -1,6 +1,6 @@
 -- Documents that are served are loaded.
-use Rattle.std.specs.Prelude.{◌≡◌, ◌≢◌, ℕ, suc, ℤ, ◌+◌, ◌-◌, ◌^◌, ◌<◌, ◌≤◌, ◌==◌, List, [], ◌∷◌, length, Option, Some, None, Bool, true, false, not, nat_lt, is_some, Result, Ok, Err, if◌then◌else◌}
-use Rattle.std.proofs.Common.{refl, sym, ◌∙◌, ap, subst, arith}
+use Rattle.std.specs.Prelude.{◌≡◌, ◌≢◌, ℕ, suc, ℤ, ◌+◌, ◌-◌, ◌^◌, ◌<◌, ◌≤◌, ◌==◌, List, [], ◌∷◌, ◌++◌, length, map, sum_by, Option, Some, None, option_and_then, Bool, true, false, not, nat_lt, is_some, Result, Ok, Err, if◌then◌else◌}
+use Rattle.std.proofs.Common.{refl, sym, ◌∙◌, ap, subst, arith, add-zero, zero-add}
 use Rattle.std.proofs.lemmas.Bool.{eq-eqb, lt-ltb}
 use Rattle.std.proofs.Math.Nat.{sub_self}
 use Rattle.serde_json.specs.Data.{Data}
@@ -28,13 +28,27 @@ use Rattle.tough_vault.specs.Files.{snapshot_file, targets_file}
 use Rattle.tough_update.specs.Failure.{Failure, ParseTrustedMetadata, VerifyTrustedMetadata, ParseMetadata, MaxUpdatesExceeded, Checked}
 use Rattle.tough_update.specs.Walk.{holds_json, if_read, if_verified, root_verdict, first_root}
 use Rattle.tough_update.specs.Outcomes.{unless, and_then}
-use Rattle.tough_update.specs.Requests.{RequestDoc, fits_request, root_request, timestamp_request, snapshot_request, targets_request}
+use Rattle.tough_update.specs.Requests.{RequestDoc, fits_request, root_request, timestamp_request, snapshot_request, targets_request, role_request}
 use Rattle.tough_update.specs.Rotation.{is_rotated}
-use Rattle.tough_update.specs.Listed.{by_root, targets_text, targets_checked, judged}
-use Rattle.tough_update.specs.Delegated.{metas_in, if_found, grown_on, roles_begun}
-use Rattle.tough_delegated.specs.Bare.{bare, top_page}
-use Rattle.tough_delegated.proofs.lemmas.Bare.{empty-bare, empty-grows}
-use Rattle.tough_update.specs.Stages.{WalkDoc, BaseDoc, ReceivedDoc, LoadedDoc, StageDoc, SettingDoc, CoreDoc}
+use Rattle.tough_update.specs.Listed.{by_root, by_delegations, targets_text, targets_verdict, targets_checked, judged}
+use Rattle.tough_update.specs.Delegated.{metas_in, role_holder, is_reserved, if_found, grown_on, roles_begun, role_given, role_stored, with_received}
+use Rattle.tough_delegated.specs.Bare.{bare, top_page, held_as}
+use Rattle.tough_delegated.specs.Full.{fetch_order}
+use Rattle.tough_delegated.specs.Growing.{Metas, listed_as, Fetched, OpenDoc, Progress, wants, grown, begun, go_on}
+use Rattle.tough_delegated.proofs.lemmas.Bare.{top-bare}
+use Rattle.tough_delegated.proofs.lemmas.Full.{work, grows-whole}
+use Rattle.tough_schema.specs.Delegations.{DelegationsDoc}
+use Rattle.tough_schema.specs.Tree.{Entry}
+use Rattle.tough_schema.specs.Search.{Names}
+use Rattle.tough_schema.specs.Verify.{ReachesDelegated}
+use Rattle.tough_schema.specs.Whole.{HeldDoc, top_doc}
+use Rattle.tough_schema.specs.Entries.{first_missing}
+use Rattle.std.proofs.lemmas.List.{append-nil, append_assoc, map-append}
+use Rattle.std.proofs.lemmas.List.Sums.{sum_by-append}
+use Rattle.std.specs.Cmp.Lexicographic.{slice_cmp}
+use Rattle.std.specs.Ordering.{nat_cmp}
+use Rattle.std.specs.BTreeMap.{insert_entry}
+use Rattle.tough_update.specs.Stages.{WalkDoc, BaseDoc, RolesDoc, ReceivedDoc, LoadedDoc, StageDoc, SettingDoc, CoreDoc}
 use Rattle.tough_update.specs.Stages as at
 use Rattle.tough_update.specs.Questions as ask
 use Rattle.tough_update.specs.declared.request.Fault.TheVariants as fault
@@ -42,7 +56,7 @@ use Rattle.tough_update.specs.Answered.{AnswerDoc}
 use Rattle.tough_update.specs.Answered as got
 use Rattle.tough_update.specs.Machine.{is_memory, fault_failure, question, question_at, settled, stage_after, walked, want_snapshot, known_of, want_targets, new_targets}
 use Rattle.tough_update.specs.Runs.{run, IsFresh}
-use Rattle.tough_update.specs.Loadable.{Files, Delivers, Gets, refusal_at_first, step_answer, Honest, AllHonest, Loadable, IsLoaded}
+use Rattle.tough_update.specs.Loadable.{Files, Delivers, Gets, refusal_at_first, step_answer, Honest, AllHonest, IsRoleServed, IsServedUnder, or_nothing, role_bytes, turns_as, role_turns, all_turns, Loadable, IsLoaded}
 use Rattle.tough_update.proofs.Alike.{not-rotated}
 
 signed-ok : {A : Type 0} (v : Verifies) (holder : RootDoc) (type : RoleType) (json : A → Option Data) (d : SignedDoc A) → ReachesUnder v holder type json d
@@ -152,15 +166,132 @@ module _ (v : Verifies) (files : Files) (s : SettingDoc) (l : LoadedDoc) (able :
 
   -- ---- turn after turn, from the last back to the first
 
-  -- the targets delegate to no role, so that their tree is complete
-  grows : settled (roles_begun s.limits l.known l.targets) ≡ at.Done (Ok l)
-  grows =
-      let done : List ReceivedDoc → StageDoc = λ r. at.Done (Ok (record { known = l.known; targets = l.targets; received = r })) in
-      ap (λ p. settled (grown_on s.limits l.known [] p)) (empty-grows (metas_in l.known) l.targets able.no_roles)
-      ∙ (ap (λ o. settled (if_found o (record { known = l.known; targets = l.targets; received = [] }))) able.found ∙ ap done (sym able.none_received))
+  abbrev metas : Metas
+  metas = metas_in l.known
 
-  leads-put_targets : Leads 1 (at.Step (at.PutTargets l.known l.targets))
-  leads-put_targets = leads-turn 0 (at.Step (at.PutTargets l.known l.targets)) (at.Done (Ok l)) (got.Step (Ok (tt {0}))) (λ e. cc) (passes (act.PutDocument targets_file (targets_text (top_page l.targets))) targets-pass) grows leads-done
+  abbrev U : Option DelegationsDoc → List ℕ → SignedDoc TargetsDoc → Type 0
+  U = IsServedUnder v files s l.known
+
+  -- from here the tree grows to its end
+  abbrev Grows : ℕ → List ReceivedDoc → Progress → Type 0
+  Grows n received p = Leads n (settled (grown_on s.limits l.known received p))
+
+  abbrev bytes_of : List (List ℕ) → List ReceivedDoc
+  bytes_of names = map (λ name. (name, role_bytes files s l.known name)) names
+
+  abbrev turns_of : List (List ℕ) → ℕ
+  turns_of names = sum_by (role_turns s l.known) names
+
+  -- the answers for these roles lead from the one to the other
+  abbrev Goes : List (List ℕ) → Progress → Progress → Type 0
+  Goes names p q = (n : ℕ) (received : List ReceivedDoc) → Grows n (received ++ bytes_of names) q → Grows (n + turns_of names) received p
+
+  goes-nowhere : (p : Progress) → Goes [] p p
+  goes-nowhere p n received h = subst (λ k. Grows k received p) (sym (add-zero n)) (subst (λ r. Grows n r p) (append-nil received) h)
+
+  goes-on : (xs ys : List (List ℕ)) (p q r : Progress) → Goes xs p q → Goes ys q r → Goes (xs ++ ys) p r
+  goes-on xs ys p q r first second n received h =
+      let all : received ++ bytes_of (xs ++ ys) ≡ (received ++ bytes_of xs) ++ bytes_of ys =
+      ap (λ (t : List ReceivedDoc). received ++ t) (map-append (λ (name : List ℕ). let x : ReceivedDoc = (name, role_bytes files s l.known name) in x) xs ys) ∙ sym (append_assoc received (bytes_of xs) (bytes_of ys)) in
+      let count : (n + turns_of ys) + turns_of xs ≡ n + turns_of (xs ++ ys) = omega (arith, sum_by-append (role_turns s l.known) xs ys) in
+      subst (λ k. Grows k received p) count (first (n + turns_of ys) received (second n (received ++ bytes_of xs) (subst (λ t. Grows n t r) all h)))
+
+  served-entry : (g : Option DelegationsDoc) (name : List ℕ) (page : SignedDoc TargetsDoc) → U g name page → (m : MetafileDoc) × (listed_as metas name ≡ Some m)
+  served-entry None name page u = absurd u
+  served-entry (Some g) name page u = (u.entry, u.listed)
+
+  served-keyed : (name : List ℕ) (page : SignedDoc TargetsDoc) → U None name page → ⊥
+  served-keyed name page u = u
+
+  -- ---- a delegated role
+
+  role-verified : (g : DelegationsDoc) (name : List ℕ) (page : SignedDoc TargetsDoc) → ReachesDelegated v g name targets_json page → targets_verdict v (by_delegations (Some g) name) page ≡ Ok (tt {0})
+  role-verified g name page r =
+      ap (λ p. verdict v p (text_by targets_json page.role) page.signatures) r.there ∙ (ap (λ t. verdict v (Some r.asked) t page.signatures) r.canonical ∙ reaches-to v r.asked r.text page.signatures r.reached)
+
+  role-checked : (g : DelegationsDoc) (name : List ℕ) (page : SignedDoc TargetsDoc) (u : IsRoleServed v files s l.known g name page) → targets_checked v s.enforced l.known.start (by_delegations (Some g) name) u.entry.version page ≡ Ok (tt {0})
+  role-checked g name page u =
+      let fault : Refused → Failure = λ r. Checked (VerifyMetadata role.Targets (Some r)) in
+      let expiring : Bool → Result Unit Failure = λ b. unless (Checked (ExpiredMetadata role.Targets page.role.head.expires l.known.start)) (not b) (Ok (tt {0})) in
+      let versioned : Bool → Result Unit Failure = λ b. unless (Checked (VersionMismatch role.Targets page.role.head.version u.entry.version)) b (expiring (is_expired s.enforced l.known.start page.role.head.expires)) in
+      ap (λ w. if_verified fault w (versioned (page.role.head.version == u.entry.version))) (role-verified g name page u.signed)
+      ∙ (ap versioned (eq-eqb _ _ u.version) ∙ ap expiring u.in_time)
+
+  role-read : (g : DelegationsDoc) (name : List ℕ) (page : SignedDoc TargetsDoc) (u : IsRoleServed v files s l.known g name page) → judged v s.enforced l.known.start (by_delegations (Some g) name) u.entry.version u.document.bytes ≡ Ok (bare page)
+  role-read g name page u =
+      ap (λ o. if_read (ParseMetadata role.Targets (holds_json u.document.bytes)) o (λ d. and_then (targets_checked v s.enforced l.known.start (by_delegations (Some g) name) u.entry.version d) (λ x. Ok (bare d)))) u.document.reading
+      ∙ ap (λ r. and_then r (λ x. Ok (bare page))) (role-checked g name page u)
+
+  -- the document is stored, unless its file has a name by which nothing is
+  role-stored : (n : ℕ) (r : RolesDoc) (file : List ℕ) (page : SignedDoc TargetsDoc) (reserved : Bool) → is_reserved file ≡ reserved → targets_text page ≢ None
+      → Leads n (settled (role_given s.limits l.known r (bare page)))
+      → Leads (n + (if reserved then 0 else 1)) (settled (role_stored s.limits l.known r file (bare page)))
+  role-stored n r file page true e text go =
+      subst (λ k. Leads k (settled (role_stored s.limits l.known r file (bare page)))) (sym (add-zero n))
+      (subst (λ b. Leads n (settled (if b then role_given s.limits l.known r (bare page) else Ok (at.Step (at.PutDelegated l.known r file (bare page)))))) (sym e) go)
+  role-stored n r file page false e text go =
+      let stored : targets_text (top_page (bare page)) ≢ None = subst (λ d. targets_text d ≢ None) (sym (top-bare page)) text in
+      let passed : refusal_at_first v (act.PutDocument file (targets_text (top_page (bare page)))) ≡ None = ap (λ o. or_else o None) (has-text (targets_text (top_page (bare page))) stored) in
+      subst (λ b. Leads (n + 1) (settled (if b then role_given s.limits l.known r (bare page) else Ok (at.Step (at.PutDelegated l.known r file (bare page)))))) (sym e)
+      (leads-turn n (at.Step (at.PutDelegated l.known r file (bare page))) (settled (role_given s.limits l.known r (bare page))) (got.Step (Ok (tt {0}))) (λ x. cc) (passes (act.PutDocument file (targets_text (top_page (bare page)))) passed) refl go)
+
+  count-turns : (n : ℕ) (reserved : Bool) → (n + (if reserved then 0 else 1)) + 1 ≡ n + (if reserved then 1 else 2)
+  count-turns n true = omega arith
+  count-turns n false = omega arith
+
+  role-taken : (g : DelegationsDoc) (outer : List OpenDoc) (seen : Names) (here : HeldDoc) (f : Fetched) (e : Entry) (rest : List Entry) (page : SignedDoc TargetsDoc) (u : IsRoleServed v files s l.known g e.name page) → (top_doc here.below).delegations ≡ Some g
+      → Goes (e.name ∷ []) (wants (work outer seen here f (e ∷ rest)) u.entry) (go_on metas (work outer seen here (insert_entry (slice_cmp nat_cmp) f e.name (held_as e.name (bare page))) rest))
+  role-taken g outer seen here f e rest page u is n received h =
+      let w = work outer seen here f (e ∷ rest) in
+      let q = go_on metas (work outer seen here (insert_entry (slice_cmp nat_cmp) f e.name (held_as e.name (bare page))) rest) in
+      let r = role_request s.limits l.known.root.role.consistent_snapshot e.name u.entry in
+      let bytes = u.document.bytes in
+      let roles : RolesDoc = record { work = w; received = received } in
+      let stage = at.Fetch (at.Role l.known roles u.entry.version) r in
+      let held : role_bytes files s l.known e.name ≡ bytes =
+      ap (λ (o : Option MetafileDoc). or_nothing (option_and_then (λ m. files (role_request s.limits l.known.root.role.consistent_snapshot e.name m).name) o)) u.listed ∙ ap or_nothing u.document.served in
+      let now : Grows n (received ++ (e.name, bytes) ∷ []) q = subst (λ b. Grows n (received ++ (e.name, b) ∷ []) q) held h in
+      let stored = role-stored n (with_received roles bytes) r.name page (is_reserved r.name) refl u.stored now in
+      let read : judged v s.enforced l.known.start (role_holder w) u.entry.version bytes ≡ Ok (bare page) =
+      ap (λ (o : Option DelegationsDoc). judged v s.enforced l.known.start (by_delegations o e.name) u.entry.version bytes) is ∙ role-read g e.name page u in
+      let moves : settled (stage_after v s stage (got.Bytes bytes)) ≡ settled (role_stored s.limits l.known (with_received roles bytes) r.name (bare page)) =
+      ap (λ x. settled (and_then x (role_stored s.limits l.known (with_received roles bytes) r.name))) read in
+      let turns : (n + (if is_reserved r.name then 0 else 1)) + 1 ≡ n + turns_of (e.name ∷ []) =
+      count-turns n (is_reserved r.name) ∙ ap (λ (o : Option MetafileDoc). n + turns_as s l.known e.name o) (sym u.listed) ∙ ap (λ k. n + k) (sym (zero-add (role_turns s l.known e.name))) in
+      subst (λ k. Leads k stage) turns
+      (leads-turn (n + (if is_reserved r.name then 0 else 1)) stage (settled (role_stored s.limits l.known (with_received roles bytes) r.name (bare page))) (got.Bytes bytes) (λ x. cc) (gets-bytes r _ bytes u.document.served u.document.fits) moves stored)
+
+  taken-under : (g : Option DelegationsDoc) (outer : List OpenDoc) (seen : Names) (here : HeldDoc) (f : Fetched) (e : Entry) (rest : List Entry) (page : SignedDoc TargetsDoc) (u : U g e.name page) → (top_doc here.below).delegations ≡ g
+      → Goes (e.name ∷ []) (wants (work outer seen here f (e ∷ rest)) (served-entry g e.name page u).0) (go_on metas (work outer seen here (insert_entry (slice_cmp nat_cmp) f e.name (held_as e.name (bare page))) rest))
+  unfolding served-entry
+  taken-under None outer seen here f e rest page u is = absurd u
+  taken-under (Some g) outer seen here f e rest page u is = role-taken g outer seen here f e rest page u is
+
+  goes-whole : Goes (fetch_order l.targets.role) (begun metas (held_as [] (bare (top_page l.targets)))) (grown l.targets)
+  goes-whole = grows-whole metas U Goes goes-nowhere goes-on served-entry served-keyed (λ outer seen here f e rest page u. taken-under (top_doc here.below).delegations outer seen here f e rest page u refl) l.targets able.full able.delegated able.once
+
+  -- the tree is complete
+  leads-grown : Grows 0 ([] ++ bytes_of (fetch_order l.targets.role)) (grown l.targets)
+  leads-grown =
+      let received = bytes_of (fetch_order l.targets.role) in
+      let done : List ReceivedDoc → StageDoc = λ r. at.Done (Ok (record { known = l.known; targets = l.targets; received = r })) in
+      let ends : settled (if_found (first_missing l.targets.role) (record { known = l.known; targets = l.targets; received = received })) ≡ at.Done (Ok l) =
+      ap (λ o. settled (if_found o (record { known = l.known; targets = l.targets; received = received }))) able.found ∙ ap done (sym able.received) in
+      subst (λ st. Leads 0 st) (sym ends) leads-done
+
+  -- how many answers the delegated roles take
+  abbrev more : ℕ
+  more = turns_of (fetch_order l.targets.role)
+
+  leads-roles : Leads more (settled (roles_begun s.limits l.known (bare (top_page l.targets))))
+  leads-roles = subst (λ k. Leads k (settled (roles_begun s.limits l.known (bare (top_page l.targets))))) (zero-add more) (goes-whole 0 [] leads-grown)
+
+  bare-text : targets_text (top_page (bare (top_page l.targets))) ≡ targets_text (top_page l.targets)
+  bare-text = ap targets_text (top-bare (top_page l.targets))
+
+  leads-put_targets : Leads (more + 1) (at.Step (at.PutTargets l.known (bare (top_page l.targets))))
+  leads-put_targets = leads-turn more (at.Step (at.PutTargets l.known (bare (top_page l.targets)))) (settled (roles_begun s.limits l.known (bare (top_page l.targets)))) (got.Step (Ok (tt {0}))) (λ e. cc)
+      (passes (act.PutDocument targets_file (targets_text (top_page (bare (top_page l.targets))))) (ap (λ t. refusal_at_first v (act.PutDocument targets_file t)) bare-text ∙ targets-pass)) refl leads-roles
 
   abbrev page : SignedDoc TargetsDoc
   page = top_page l.targets
@@ -173,46 +304,46 @@ module _ (v : Verifies) (files : Files) (s : SettingDoc) (l : LoadedDoc) (able :
       ap (λ w. if_verified fault w (versioned (page.role.head.version == able.targets_entry.version))) (signed-ok v l.known.root.role role.Targets targets_json page able.targets_signed)
       ∙ (ap versioned (eq-eqb _ _ able.targets_version) ∙ ap expiring able.targets_in_time)
 
-  read : judged v s.enforced l.known.start (by_root l.known.root.role) able.targets_entry.version able.targets.bytes ≡ Ok l.targets
+  read : judged v s.enforced l.known.start (by_root l.known.root.role) able.targets_entry.version able.targets.bytes ≡ Ok (bare page)
   read =
       ap (λ o. if_read (ParseMetadata role.Targets (holds_json able.targets.bytes)) o (λ d. and_then (targets_checked v s.enforced l.known.start (by_root l.known.root.role) able.targets_entry.version d) (λ u. Ok (bare d)))) able.targets.reading
-      ∙ (ap (λ r. and_then r (λ u. Ok (bare page))) checked ∙ ap Ok (empty-bare l.targets able.no_roles))
+      ∙ ap (λ r. and_then r (λ u. Ok (bare page))) checked
 
-  moves-targets : new_targets v s.enforced l.known able.targets_entry.version able.targets.bytes ≡ Ok (at.Step (at.PutTargets l.known l.targets))
+  moves-targets : new_targets v s.enforced l.known able.targets_entry.version able.targets.bytes ≡ Ok (at.Step (at.PutTargets l.known (bare page)))
   moves-targets = ap (λ r. and_then r (λ d. Ok (at.Step (at.PutTargets l.known d)))) read
 
   abbrev targets_wanted : StageDoc
   targets_wanted = at.Fetch (at.Targets l.known able.targets_entry.version) (targets_request s.limits l.known.root.role.consistent_snapshot able.targets_entry)
 
-  leads-fetch_targets : Leads 2 targets_wanted
-  leads-fetch_targets = leads-turn 1 targets_wanted (at.Step (at.PutTargets l.known l.targets)) (got.Bytes able.targets.bytes) (λ e. cc)
+  leads-fetch_targets : Leads (more + 1 + 1) targets_wanted
+  leads-fetch_targets = leads-turn (more + 1) targets_wanted (at.Step (at.PutTargets l.known (bare page))) (got.Bytes able.targets.bytes) (λ e. cc)
       (gets-bytes (targets_request s.limits l.known.root.role.consistent_snapshot able.targets_entry) _ able.targets.bytes able.targets.served able.targets.fits) (ap settled moves-targets) leads-put_targets
 
-  leads-put_snapshot : Leads 3 (at.Step (at.PutSnapshot l.known able.entry.version))
-  leads-put_snapshot = leads-turn 2 (at.Step (at.PutSnapshot l.known able.entry.version)) targets_wanted (got.Step (Ok (tt {0}))) (λ e. cc) (passes (act.AdvanceSnapshot l.known.root.role able.entry.version l.known.snapshot l.known.start s.enforced) snapshot-passes)
+  leads-put_snapshot : Leads (more + 1 + 1 + 1) (at.Step (at.PutSnapshot l.known able.entry.version))
+  leads-put_snapshot = leads-turn (more + 1 + 1) (at.Step (at.PutSnapshot l.known able.entry.version)) targets_wanted (got.Step (Ok (tt {0}))) (λ e. cc) (passes (act.AdvanceSnapshot l.known.root.role able.entry.version l.known.snapshot l.known.start s.enforced) snapshot-passes)
       (ap (λ o. settled (want_targets s.limits l.known o)) able.targets_listed) leads-fetch_targets
 
   abbrev snapshot_wanted : StageDoc
   snapshot_wanted = at.Fetch (at.Snapshot base l.known.timestamp able.entry.version) (snapshot_request s.limits l.known.root.role.consistent_snapshot able.entry)
 
-  leads-fetch_snapshot : Leads 4 snapshot_wanted
-  leads-fetch_snapshot = leads-turn 3 snapshot_wanted (at.Step (at.PutSnapshot l.known able.entry.version)) (got.Bytes able.snapshot.bytes) (λ e. cc)
+  leads-fetch_snapshot : Leads (more + 1 + 1 + 1 + 1) snapshot_wanted
+  leads-fetch_snapshot = leads-turn (more + 1 + 1 + 1) snapshot_wanted (at.Step (at.PutSnapshot l.known able.entry.version)) (got.Bytes able.snapshot.bytes) (λ e. cc)
       (gets-bytes (snapshot_request s.limits l.known.root.role.consistent_snapshot able.entry) _ able.snapshot.bytes able.snapshot.served able.snapshot.fits)
       (ap (λ o. settled (if_read (ParseMetadata role.Snapshot (holds_json able.snapshot.bytes)) o (λ d. Ok (at.Step (at.PutSnapshot (known_of base l.known.timestamp d) able.entry.version))))) able.snapshot.reading)
       leads-put_snapshot
 
-  leads-put_timestamp : Leads 5 (at.Step (at.PutTimestamp base l.known.timestamp))
-  leads-put_timestamp = leads-turn 4 (at.Step (at.PutTimestamp base l.known.timestamp)) snapshot_wanted (got.Step (Ok (tt {0}))) (λ e. cc) (passes (act.AdvanceTimestamp l.known.root.role l.known.timestamp l.known.start s.enforced) timestamp-passes)
+  leads-put_timestamp : Leads (more + 1 + 1 + 1 + 1 + 1) (at.Step (at.PutTimestamp base l.known.timestamp))
+  leads-put_timestamp = leads-turn (more + 1 + 1 + 1 + 1) (at.Step (at.PutTimestamp base l.known.timestamp)) snapshot_wanted (got.Step (Ok (tt {0}))) (λ e. cc) (passes (act.AdvanceTimestamp l.known.root.role l.known.timestamp l.known.start s.enforced) timestamp-passes)
       (ap (λ o. settled (want_snapshot s.limits base l.known.timestamp o)) able.listed) leads-fetch_snapshot
 
-  leads-fetch_timestamp : Leads 6 (at.Fetch (at.Timestamp base) (timestamp_request s.limits))
-  leads-fetch_timestamp = leads-turn 5 (at.Fetch (at.Timestamp base) (timestamp_request s.limits)) (at.Step (at.PutTimestamp base l.known.timestamp)) (got.Bytes able.timestamp.bytes) (λ e. cc)
+  leads-fetch_timestamp : Leads (more + 1 + 1 + 1 + 1 + 1 + 1) (at.Fetch (at.Timestamp base) (timestamp_request s.limits))
+  leads-fetch_timestamp = leads-turn (more + 1 + 1 + 1 + 1 + 1) (at.Fetch (at.Timestamp base) (timestamp_request s.limits)) (at.Step (at.PutTimestamp base l.known.timestamp)) (got.Bytes able.timestamp.bytes) (λ e. cc)
       (gets-bytes (timestamp_request s.limits) _ able.timestamp.bytes able.timestamp.served able.timestamp.fits)
       (ap (λ o. settled (if_read (ParseMetadata role.Timestamp (holds_json able.timestamp.bytes)) o (λ d. Ok (at.Step (at.PutTimestamp base d))))) able.timestamp.reading)
       leads-put_timestamp
 
-  leads-put_last : Leads 7 (at.Step (at.PutLast walk))
-  leads-put_last = leads-turn 6 (at.Step (at.PutLast walk)) (at.Fetch (at.Timestamp base) (timestamp_request s.limits)) (got.Step (Ok (tt {0}))) (λ e. cc) (passes (act.PutRoot l.known.root) root-passes)
+  leads-put_last : Leads (more + 1 + 1 + 1 + 1 + 1 + 1 + 1) (at.Step (at.PutLast walk))
+  leads-put_last = leads-turn (more + 1 + 1 + 1 + 1 + 1 + 1) (at.Step (at.PutLast walk)) (at.Fetch (at.Timestamp base) (timestamp_request s.limits)) (got.Step (Ok (tt {0}))) (λ e. cc) (passes (act.PutRoot l.known.root) root-passes)
       (let cleared : Result StageDoc Failure = Ok (at.Step (at.Clear base)) in
       let kept : Result StageDoc Failure = Ok (at.Fetch (at.Timestamp base) (timestamp_request s.limits)) in
       ap settled
@@ -229,8 +360,8 @@ module _ (v : Verifies) (files : Files) (s : SettingDoc) (l : LoadedDoc) (able :
       ap (λ y. settled (stage_after v s root_wanted y)) is
       ∙ ap (λ k. settled (if not (is_memory k) then Ok (at.Step (at.PutLast walk)) else Err (fault_failure name (fault.Transport e)))) missing
 
-  leads-fetch_root : Leads 8 root_wanted
-  leads-fetch_root = leads-on 7 root_wanted (at.Step (at.PutLast walk)) (λ e. cc) (λ x h. walk-ends x (gets-none (root_request s.limits (l.known.root.role.head.version + 1)) _ able.no_next x h)) leads-put_last
+  leads-fetch_root : Leads (more + 1 + 1 + 1 + 1 + 1 + 1 + 1 + 1) root_wanted
+  leads-fetch_root = leads-on (more + 1 + 1 + 1 + 1 + 1 + 1 + 1) root_wanted (at.Step (at.PutLast walk)) (λ e. cc) (λ x h. walk-ends x (gets-none (root_request s.limits (l.known.root.role.head.version + 1)) _ able.no_next x h)) leads-put_last
 
   first : first_root v s.trusted ≡ Ok l.known.root
   first =
@@ -245,14 +376,17 @@ module _ (v : Verifies) (files : Files) (s : SettingDoc) (l : LoadedDoc) (able :
       ap (λ b. unless (MaxUpdatesExceeded s.limits.max_root_updates) b (if l.known.root.role.head.version == 2 ^ 64 - 1 then ended else more)) (none-first l.known.root.role.head.version s.limits.max_root_updates able.one_update)
       ∙ ap (λ b. if b then ended else more) (not-equal l.known.root.role.head.version (2 ^ 64 - 1) able.root_low)
 
-  leads-note_time : Leads 9 (at.Step (at.NoteTime l.known.start))
-  leads-note_time = leads-turn 8 (at.Step (at.NoteTime l.known.start)) root_wanted (got.Step (Ok (tt {0}))) (λ e. cc) (passes (act.NoteTime l.known.start) time-passes)
+  leads-note_time : Leads (more + 1 + 1 + 1 + 1 + 1 + 1 + 1 + 1 + 1) (at.Step (at.NoteTime l.known.start))
+  leads-note_time = leads-turn (more + 1 + 1 + 1 + 1 + 1 + 1 + 1 + 1) (at.Step (at.NoteTime l.known.start)) root_wanted (got.Step (Ok (tt {0}))) (λ e. cc) (passes (act.NoteTime l.known.start) time-passes)
       (ap settled (ap (λ r. and_then r (λ root. walked s.limits (record { start = l.known.start; first = root; last = root }))) first ∙ begins)) leads-fetch_root
 
-  pub leads-moment : Leads 10 at.Moment
-  leads-moment = leads-turn 9 at.Moment (at.Step (at.NoteTime l.known.start)) (got.Moment l.known.start) (λ e. cc) (λ x h. h) refl leads-note_time
+  pub leads-moment : Leads (more + 1 + 1 + 1 + 1 + 1 + 1 + 1 + 1 + 1 + 1) at.Moment
+  leads-moment = leads-turn (more + 1 + 1 + 1 + 1 + 1 + 1 + 1 + 1 + 1) at.Moment (at.Step (at.NoteTime l.known.start)) (got.Moment l.known.start) (λ e. cc) (λ x h. h) refl leads-note_time
 
 pub loads : (v : Verifies) (c : CoreDoc) (files : Files) (l : LoadedDoc) (answers : List AnswerDoc) → IsFresh c → Loadable v files c.setting l → AllHonest v files l.known.start c answers → IsLoaded v c answers l
 loads v c files l answers fresh able h =
-    let r = (subst (λ st. Leads v files c.setting l able 10 st) (sym fresh) (leads-moment v files c.setting l able)) answers h in
+    let n = sum_by (role_turns c.setting l.known) (fetch_order l.targets.role) in
+    let count : n + 1 + 1 + 1 + 1 + 1 + 1 + 1 + 1 + 1 + 1 ≡ all_turns c.setting l = omega arith in
+    let from : Leads v files c.setting l able (all_turns c.setting l) at.Moment = subst (λ k. Leads v files c.setting l able k at.Moment) count (leads-moment v files c.setting l able) in
+    let r = (subst (λ st. Leads v files c.setting l able (all_turns c.setting l) st) (sym fresh) from) answers h in
     record { within = r.0; soon = r.1; ends = r.2 }

@@ -14,7 +14,7 @@ use Rattle.tough_update.specs.Listed.{HolderDoc, targets_in, targets_checked, ju
 use Rattle.tough_update.specs.Outcomes.{and_then}
 use Rattle.tough_update.specs.View.{stage_doc}
 use Rattle.tough_update.specs.Walk.{if_read, holds_json}
-use Rattle.tough_update.specs.declared.error.Error.{Error}
+use Rattle.tough_update.specs.declared.error.UpdateError.{UpdateError}
 use Rattle.tough_update.specs.declared.stage.Loaded.{Loaded}
 use Rattle.tough_update.specs.declared.stage.Stage.{Stage}
 use Rattle.tough_update.specs.declared.stage.Stage.TheVariants as in_stage
@@ -45,7 +45,7 @@ goes v old trusted stage a new t s (inl h) =
 goes v old trusted stage a new t s (inr h) = inr (ap (λ x. record { setting = old.setting; stage = x }) h)
 
 -- a stage that is no end
-pub unended : (s : Stage) → ((o : Result Loaded Error) → s ≡ in_stage.Done o → ⊥) → None ≡ ended (stage_doc s)
+pub unended : (s : Stage) → ((o : Result Loaded UpdateError) → s ≡ in_stage.Done o → ⊥) → None ≡ ended (stage_doc s)
 unended in_stage.Moment h = refl
 unended (in_stage.Fetch w r) h = refl
 unended (in_stage.Step p) h = refl

@@ -9,12 +9,11 @@ use Rattle.tough_roles.specs.declared.role_type.RoleType.{RoleType}
 use Rattle.tough_roles.specs.Verdict.{Refused}
 use Rattle.tough_roles.specs.declared.error.Error as schema
 use Rattle.tough_roles.specs.declared.error.Error.TheVariants as schemas
-use Rattle.tough_vault.specs.Checks as check
 use Rattle.tough_vault.specs.Checks.{Reason, refused, reason_of}
 use Rattle.tough_vault.specs.declared.checks.StepError.{StepError}
 use Rattle.tough_vault.specs.declared.checks.StepError.TheVariants as steps
-use Rattle.tough_update.specs.declared.error.Error.{Error}
-use Rattle.tough_update.specs.declared.error.Error.TheVariants as error
+use Rattle.tough_update.specs.declared.error.UpdateError.{UpdateError}
+use Rattle.tough_update.specs.declared.error.UpdateError.TheVariants as error
 
 pub data Failure : Type 0 where
   -- the bytes that were handed in are no signed root; whether they are JSON
@@ -51,7 +50,7 @@ abbrev pub name_missing : schema.Error → Option Named
 name_missing (schemas.TargetNotFound name) = Some name
 name_missing _ = None
 
-abbrev pub failure_of : Error → Failure
+abbrev pub failure_of : UpdateError → Failure
 failure_of (error.ParseTrustedMetadata source) = ParseTrustedMetadata (is_json source)
 failure_of (error.VerifyTrustedMetadata source) = VerifyTrustedMetadata (refused source)
 failure_of (error.ParseMetadata role source) = ParseMetadata role (is_json source)
@@ -60,18 +59,7 @@ failure_of (error.ParseUrl url source) = ParseUrl (string_bytes url) source
 failure_of (error.JoinUrl path source) = JoinUrl (string_bytes path) source
 failure_of (error.Transport source) = Transport source
 failure_of (error.InvalidPath source) = InvalidPath (name_missing source)
-failure_of (error.SystemTimeSteppedBackward now later) = Checked (check.SystemTimeSteppedBackward now.nanosecond later.nanosecond)
-failure_of error.DatastoreSerialize = Checked check.DatastoreSerialize
-failure_of (error.VerifyMetadata role source) = Checked (check.VerifyMetadata role (refused source))
-failure_of (error.VersionMismatch role fetched expected) = Checked (check.VersionMismatch role fetched expected)
-failure_of (error.TimestampMetaLength version count) = Checked (check.TimestampMetaLength version count)
-failure_of (error.MissingSnapshotMeta version) = Checked (check.MissingSnapshotMeta version)
-failure_of (error.SnapshotTargetsMetaMissing version) = Checked (check.SnapshotTargetsMetaMissing version)
-failure_of (error.OlderMetadata role current new) = Checked (check.OlderMetadata role current new)
-failure_of (error.OlderSnapshotInTimestamp a b c d) = Checked (check.OlderSnapshotInTimestamp a b c d)
-failure_of (error.SnapshotRoleMissing name old new) = Checked (check.SnapshotRoleMissing (string_bytes name) old new)
-failure_of (error.SnapshotRoleRollback name was old now new) = Checked (check.SnapshotRoleRollback (string_bytes name) was old now new)
-failure_of (error.ExpiredMetadata role expires now) = Checked (check.ExpiredMetadata role expires.nanosecond now.nanosecond)
+failure_of (error.Refused refusal) = Checked (reason_of refusal)
 failure_of (error.DatastoreOpen path) = DatastoreOpen (string_bytes path)
 failure_of (error.DatastoreCreate path) = DatastoreCreate (string_bytes path)
 failure_of (error.DatastoreRemove path) = DatastoreRemove (string_bytes path)
@@ -83,7 +71,7 @@ IsRefused Memory answer = ⊤
 IsRefused failure answer = answer ≡ Err failure
 
 -- what a call gives, seen by view, is the answer
-abbrev pub Gives : {X A : Type 0} → (X → A) → Result A Failure → Result X Error → Type 0
+abbrev pub Gives : {X A : Type 0} → (X → A) → Result A Failure → Result X UpdateError → Type 0
 Gives view answer (Ok x) = answer ≡ Ok (view x)
 Gives view answer (Err e) = IsRefused (failure_of e) answer
 

@@ -1,5 +1,5 @@
 -- Files that serve documents, and the answers of an honest transport, clock and store (TUF specification 1.0, section 5).
-use Rattle.std.specs.Prelude.{◌≡◌, ◌≢◌, ℕ, ℤ, ◌+◌, ◌-◌, ◌^◌, ◌<◌, ◌≤◌, List, [], ◌∷◌, length, Option, Some, None, Bool, true, false, ⊤, Ok, Err}
+use Rattle.std.specs.Prelude.{◌≡◌, ◌≢◌, ℕ, ℤ, ◌+◌, ◌-◌, ◌^◌, ◌<◌, ◌≤◌, List, [], ◌∷◌, length, map, sum_by, Option, Some, None, option_and_then, Bool, true, false, ⊤, Ok, Err, if◌then◌else◌}
 use Rattle.tough_net.specs.declared.error.TransportError.{TransportError}
 use Rattle.tough_net.specs.declared.error.TransportErrorKind.TheVariants as kind
 use Rattle.tough_net.specs.Errors.{error_kind}
@@ -9,7 +9,12 @@ use Rattle.tough_roles.specs.Timestamp.{MetafileDoc, timestamp_json}
 use Rattle.tough_roles.specs.Snapshot.{snapshot_json}
 use Rattle.tough_roles.specs.Chain.{ReachesUnder}
 use Rattle.tough_roles.specs.declared.role_type.RoleType.TheVariants as role
-use Rattle.tough_schema.specs.Targets.{targets_json}
+use Rattle.tough_roles.specs.Signature.{SignedDoc}
+use Rattle.tough_schema.specs.Targets.{TargetsDoc, targets_json}
+use Rattle.tough_schema.specs.Delegations.{DelegationsDoc}
+use Rattle.tough_schema.specs.Verify.{ReachesDelegated}
+use Rattle.tough_schema.specs.Fresh.{carriers_below}
+use Rattle.tough_schema.specs.Whole.{TreeDoc}
 use Rattle.tough_vault.specs.Checks.{Reason, or_else, is_expired}
 use Rattle.tough_vault.specs.Documents.{root_in, root_text, timestamp_in, snapshot_in, metafile_in}
 use Rattle.tough_vault.specs.Journal.{Last}
@@ -18,13 +23,17 @@ use Rattle.tough_vault.specs.Steps.{time_text, time_step, root_step, timestamp_s
 use Rattle.tough_vault.specs.Act.{Act}
 use Rattle.tough_vault.specs.Act as act
 use Rattle.tough_vault.specs.Files.{snapshot_file, targets_file}
-use Rattle.tough_update.specs.Requests.{RequestDoc, fits_request, root_request, timestamp_request, snapshot_request, targets_request}
-use Rattle.tough_schema.specs.Update.{listed_roles}
+use Rattle.tough_update.specs.Requests.{RequestDoc, fits_request, root_request, timestamp_request, snapshot_request, targets_request, role_request}
 use Rattle.tough_schema.specs.Entries.{first_missing}
 use Rattle.tough_delegated.specs.Bare.{top_page}
+use Rattle.tough_delegated.specs.Full.{IsFull, fetch_order}
+use Rattle.tough_delegated.specs.Growing.{listed_as}
+use Rattle.tough_delegated.specs.Once.{Distinct}
+use Rattle.tough_delegated.specs.Under.{Below}
+use Rattle.tough_update.specs.Delegated.{metas_in, is_reserved}
 use Rattle.tough_update.specs.Listed.{targets_in, targets_text}
 use Rattle.tough_update.specs.Failure.{Checked}
-use Rattle.tough_update.specs.Stages.{LoadedDoc, SettingDoc, CoreDoc, Done}
+use Rattle.tough_update.specs.Stages.{KnownDoc, ReceivedDoc, LoadedDoc, SettingDoc, CoreDoc, Done}
 use Rattle.tough_update.specs.Questions.{Question}
 use Rattle.tough_update.specs.Questions as ask
 use Rattle.tough_update.specs.declared.request.Fault.TheVariants as fault
@@ -92,8 +101,36 @@ pub record IsServed {D : Type 0} (files : Files) (r : RequestDoc) (reads : List 
   pub fits : fits_request r bytes ≡ true
   pub reading : reads bytes ≡ Some doc
 
--- Documents that are served, from one root, that vouch for one another and haven't expired, and that can be stored. The targets delegate to
--- no role.
+-- a delegated role's document is served as the snapshot lists it, has the listed version, hasn't expired, and can be stored; the delegations
+-- that the role stands in vouch for it
+pub record IsRoleServed (verifies : Verifies) (files : Files) (s : SettingDoc) (k : KnownDoc) (g : DelegationsDoc) (name : List ℕ) (page : SignedDoc TargetsDoc) : Type 0 where
+  pub entry : MetafileDoc
+  pub listed : listed_as (metas_in k) name ≡ Some entry
+  pub document : IsServed files (role_request s.limits k.root.role.consistent_snapshot name entry) targets_in page
+  pub signed : ReachesDelegated verifies g name targets_json page
+  pub version : page.role.head.version ≡ entry.version
+  pub in_time : is_expired s.enforced k.start page.role.head.expires ≡ false
+  pub stored : targets_text page ≢ None
+
+-- the same, where there are delegations
+abbrev pub IsServedUnder : Verifies → Files → SettingDoc → KnownDoc → Option DelegationsDoc → List ℕ → SignedDoc TargetsDoc → Type 0
+IsServedUnder verifies files s k None name page = ⊥
+IsServedUnder verifies files s k (Some g) name page = IsRoleServed verifies files s k g name page
+
+abbrev pub or_nothing : Option (List ℕ) → List ℕ
+or_nothing None = []
+or_nothing (Some bytes) = bytes
+
+-- what the files hold for a role
+abbrev pub role_bytes : Files → SettingDoc → KnownDoc → List ℕ → List ℕ
+role_bytes files s k name = or_nothing (option_and_then (λ m. files (role_request s.limits k.root.role.consistent_snapshot name m).name) (listed_as (metas_in k) name))
+
+-- the bytes of the delegated roles' documents, as they are received
+abbrev pub all_received : Files → SettingDoc → KnownDoc → TreeDoc → List ReceivedDoc
+all_received files s k t = map (λ name. (name, role_bytes files s k name)) (fetch_order t)
+
+-- Documents that are served, from one root, that vouch for one another and haven't expired, and that can be stored. Each delegated role has
+-- its document, and no two roles have one name.
 pub record Loadable (verifies : Verifies) (files : Files) (s : SettingDoc) (l : LoadedDoc) : Type 0 where
   pub start_text : time_text l.known.start ≢ None
   pub root : root_in s.trusted ≡ Some l.known.root
@@ -121,12 +158,26 @@ pub record Loadable (verifies : Verifies) (files : Files) (s : SettingDoc) (l : 
   pub targets_version : (top_page l.targets).role.head.version ≡ targets_entry.version
   pub targets_in_time : is_expired s.enforced l.known.start (top_page l.targets).role.head.expires ≡ false
   pub targets_stored : targets_text (top_page l.targets) ≢ None
-  pub no_roles : listed_roles l.targets.role ≡ []
-  pub none_received : l.received ≡ []
+  pub full : IsFull l.targets.role
+  pub once : Distinct (carriers_below l.targets.role)
+  pub delegated : Below (IsServedUnder verifies files s l.known) l.targets.role
+  pub received : l.received ≡ all_received files s l.known l.targets.role
   pub found : first_missing l.targets.role ≡ None
 
--- It is ready after ten answers, and not before; and then it has ended with these documents.
+-- How many answers a role's document takes: its bytes, and then a step, unless its file has a name by which nothing is stored.
+abbrev pub turns_as : SettingDoc → KnownDoc → List ℕ → Option MetafileDoc → ℕ
+turns_as s k name None = 0
+turns_as s k name (Some m) = if is_reserved (role_request s.limits k.root.role.consistent_snapshot name m).name then 1 else 2
+
+abbrev pub role_turns : SettingDoc → KnownDoc → List ℕ → ℕ
+role_turns s k name = turns_as s k name (listed_as (metas_in k) name)
+
+-- ten answers, and those for the delegated roles
+abbrev pub all_turns : SettingDoc → LoadedDoc → ℕ
+all_turns s l = 10 + sum_by (role_turns s l.known) (fetch_order l.targets.role)
+
+-- It is ready after so many answers, and not before; and then it has ended with these documents.
 pub record IsLoaded (verifies : Verifies) (c : CoreDoc) (answers : List AnswerDoc) (l : LoadedDoc) : Type 0 where
-  pub within : length answers ≤ 10
-  pub soon : length answers ≡ 10 → question (run verifies c answers) ≡ ask.Ready
+  pub within : length answers ≤ all_turns c.setting l
+  pub soon : length answers ≡ all_turns c.setting l → question (run verifies c answers) ≡ ask.Ready
   pub ends : question (run verifies c answers) ≡ ask.Ready → (run verifies c answers).stage ≡ Done (Ok l)

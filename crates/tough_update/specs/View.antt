@@ -21,7 +21,7 @@ use Rattle.tough_vault.specs.Files.{targets_file}
 use Rattle.tough_vault.specs.DocumentName.{name_of}
 use Rattle.tough_update.specs.Listed.{targets_text, HolderDoc, by_root, by_delegations}
 use Rattle.tough_update.specs.Failure.{Failure, failure_of, step_failure}
-use Rattle.tough_update.specs.declared.error.Error.{Error}
+use Rattle.tough_update.specs.declared.error.UpdateError.{UpdateError}
 use Rattle.tough_update.specs.declared.request.Request.{Request}
 use Rattle.tough_update.specs.declared.request.Act.{Act}
 use Rattle.tough_update.specs.declared.request.Act.TheVariants as to
@@ -136,7 +136,7 @@ holder_doc (holds.Delegations g name) = by_delegations (option_map (λ d. delega
 abbrev pub loaded_doc : Loaded → LoadedDoc
 loaded_doc l = record { known = known_doc l.known; targets = signed_doc tree_doc l.targets; received = received_docs l.received.items }
 
-abbrev pub outcome_doc : Result Loaded Error → Result LoadedDoc Failure
+abbrev pub outcome_doc : Result Loaded UpdateError → Result LoadedDoc Failure
 outcome_doc (Ok l) = Ok (loaded_doc l)
 outcome_doc (Err e) = Err (failure_of e)
 

@@ -11,7 +11,7 @@ use Rattle.tough_roles.specs.declared.role_type.RoleType.{RoleType}
 use Rattle.tough_roles.specs.declared.role_type.RoleType.TheVariants as role
 use Rattle.tough_vault.specs.Checks.{VerifyMetadata, OlderMetadata}
 use Rattle.tough_vault.specs.Documents.{root_in}
-use Rattle.tough_update.specs.declared.error.Error.{Error}
+use Rattle.tough_update.specs.declared.error.UpdateError.{UpdateError}
 use Rattle.tough_update.specs.Failure.{Failure, Memory, failure_of, ParseTrustedMetadata, VerifyTrustedMetadata, ParseMetadata, Checked}
 
 -- whether the bytes are JSON
@@ -48,5 +48,5 @@ next_root verifies old bytes = if_read (ParseMetadata role.Root (holds_json byte
     (if_next old d)))
 
 -- for private clauses: verification refused so, or memory was wanting
-abbrev pub IsUnverified : RoleType → Result Unit Refused → Error → Type 0
+abbrev pub IsUnverified : RoleType → Result Unit Refused → UpdateError → Type 0
 IsUnverified type v e = (failure_of e ≡ Memory) ⊎ ((r : Refused) × (v ≡ Err r) × (failure_of e ≡ Checked (VerifyMetadata type (Some r))))

@@ -12,13 +12,13 @@ ghost use Rattle.tough_update.specs.Walk.{IsUnverified};
 ghost use Rattle.tough_update.specs.Listed.{targets_verdict, targets_checked, judged};
 ghost use Rattle.tough_update.specs.View.{holder_doc};
 
-use crate::error::Error;
+use crate::error::UpdateError;
 use crate::turns::Setting;
 use jiff::Timestamp as Instant;
 use std::alloc::Global;
 use tough_roles::{self as schema, ReadError, RoleType, Root, Signed, Verify};
 use tough_schema::{Delegations, Targets};
-use tough_vault::ExpirationEnforcement;
+use tough_vault::{ExpirationEnforcement, Refusal};
 
 /// Who vouches for targets: a root, or the delegations that a role of this name stands in.
 #[derive(Drop)]
@@ -69,17 +69,17 @@ fn verify<V: Verify>(
     holder: &Holder<'_>,
     targets: &Signed<Targets>,
     verifier: &V,
-) -> Result<(), Error>
+) -> Result<(), UpdateError>
     ensures passed { OnOk result (targets_verdict (V.verifies verifier.now) (holder_doc holder.now) (signed_doc targets_doc targets.now) ≡ Ok (tt {0})) }
     ensures refused { IfErr result (λ e. IsUnverified types.Targets (targets_verdict (V.verifies verifier.now) (holder_doc holder.now) (signed_doc targets_doc targets.now)) e) }
 {
     match holder.verify(alloc, targets, verifier) {
         Ok(()) => Ok(()),
-        Err(schema::Error::Memory) => Err(Error::Memory),
-        Err(source) => Err(Error::VerifyMetadata {
+        Err(schema::Error::Memory) => Err(UpdateError::Memory),
+        Err(source) => Err(UpdateError::Refused(Refusal::VerifyMetadata {
             role: RoleType::Targets,
             source,
-        }),
+        })),
     }
 }
 
@@ -91,7 +91,7 @@ fn check<V: Verify>(
     listed: u64,
     targets: &Signed<Targets>,
     verifier: &V,
-) -> Result<(), Error>
+) -> Result<(), UpdateError>
     ensures { Gives (λ u. tt {0}) (targets_checked (V.verifies verifier.now) (enforces setting.now.enforcement) start.nanosecond (holder_doc holder.now) listed (signed_doc targets_doc targets.now)) result }
 {
     if let Err(error) = verify(setting.alloc, holder, targets, verifier) {
@@ -99,18 +99,18 @@ fn check<V: Verify>(
     }
     let fetched = targets.signed.version.get();
     if fetched != listed {
-        return Err(Error::VersionMismatch {
+        return Err(UpdateError::Refused(Refusal::VersionMismatch {
             role: RoleType::Targets,
             fetched,
             expected: listed,
-        });
+        }));
     }
     if is_expired(setting.enforcement, start, targets.signed.expires) {
-        return Err(Error::ExpiredMetadata {
+        return Err(UpdateError::Refused(Refusal::ExpiredMetadata {
             role: RoleType::Targets,
             expires: targets.signed.expires,
             now: start,
-        });
+        }));
     }
     Ok(())
 }
@@ -124,14 +124,14 @@ pub(crate) fn judge<V: Verify>(
     listed: u64,
     bytes: &[u8],
     verifier: &V,
-) -> Result<Signed<Targets>, Error>
+) -> Result<Signed<Targets>, UpdateError>
     ensures { Gives (signed_doc tree_doc) (judged (V.verifies verifier.now) (enforces setting.now.enforcement) start.nanosecond (holder_doc holder.now) listed bytes.now) result }
 {
     let targets = match Signed::<Targets>::read(setting.alloc, bytes) {
         Ok(targets) => targets,
-        Err(ReadError::Memory) => return Err(Error::Memory),
+        Err(ReadError::Memory) => return Err(UpdateError::Memory),
         Err(source) => {
-            return Err(Error::ParseMetadata {
+            return Err(UpdateError::ParseMetadata {
                 role: RoleType::Targets,
                 source,
             });

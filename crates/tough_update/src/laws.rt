@@ -20,8 +20,9 @@ pub fn trusts()
         → Loaded verifies c answers l }
 {}
 
-/// Documents without delegated roles that are served, that fit, are signed and unexpired, and that vouch for one another, are loaded: a
-/// transport that serves them, a clock, and a store that held nothing, give an update ten answers, and then it has ended with them.
+/// Documents that are served, that fit, are signed and unexpired, and that vouch for one another, are loaded, those of delegated roles
+/// included, where each role has one and no two have one name: a transport that serves them, a clock, and a store that held nothing, give an
+/// update ten answers and at most two for each delegated role, and then it has ended with them.
 pub fn loads()
     ensures { (verifies : Verifies) (c : CoreDoc) (files : Files) (l : LoadedDoc)
         (answers : List AnswerDoc) → IsFresh c → Loadable verifies files c.setting l

@@ -13,7 +13,7 @@ mod stage;
 mod turns;
 mod walk;
 
-pub use error::Error;
+pub use error::UpdateError;
 pub use limits::Limits;
 pub use machine::Core;
 pub use request::{Act, Answer, Ask, Fault, Request};

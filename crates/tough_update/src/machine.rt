@@ -8,7 +8,7 @@ ghost use Rattle.tough_update.specs.Failure.{Gives};
 ghost use Rattle.tough_update.specs.View.{core_doc, stage_doc, answer_doc, question_of, setting_doc, outcome_doc};
 ghost use Rattle.tough_update.specs.Promises.{Settles, Goes, fits, ended};
 
-use crate::error::Error;
+use crate::error::UpdateError;
 use crate::limits::Limits;
 use crate::request::{Answer, Ask};
 use crate::stage::{Loaded, Pending, Stage};
@@ -34,7 +34,7 @@ fn turn<V: Verify>(
     stage: Stage,
     answer: Answer,
     verifier: &V,
-) -> Result<Stage, Error>
+) -> Result<Stage, UpdateError>
     ensures { Gives stage_doc (stage_after (V.verifies verifier.now) (setting_doc setting.now) (stage_doc stage) (answer_doc answer)) result }
 {
     match answer {
@@ -110,7 +110,7 @@ impl Core {
     pub fn answer<V: Verify>(&mut self, alloc: Global, verifier: &V, answer: Answer)
         ensures { Goes (V.verifies verifier.now) (core_doc self.old) (answer_doc answer) (core_doc self.new) }
     {
-        let stage = mem::replace(&mut self.stage, Stage::Done(Err(Error::Memory)));
+        let stage = mem::replace(&mut self.stage, Stage::Done(Err(UpdateError::Memory)));
         let setting = Setting {
             alloc,
             trusted: &self.trusted,
@@ -121,7 +121,7 @@ impl Core {
     }
 
     /// How the update ended, once it has.
-    pub fn outcome(&self) -> Option<&Result<Loaded, Error>>
+    pub fn outcome(&self) -> Option<&Result<Loaded, UpdateError>>
         ensures { option_map outcome_doc (option_copied result) ≡ ended (core_doc self.now).stage }
     {
         match &self.stage {
@@ -131,7 +131,7 @@ impl Core {
     }
 
     /// Hands out how the update ended, once it has; then nothing more is asked.
-    pub fn take_outcome(&mut self) -> Option<Result<Loaded, Error>>
+    pub fn take_outcome(&mut self) -> Option<Result<Loaded, UpdateError>>
         ensures done { option_map outcome_doc result ≡ ended (core_doc self.old).stage }
         ensures taken { IsSome result → core_doc self.new ≡ record { setting = (core_doc self.old).setting; stage = at.Taken } }
         ensures not_yet { IsNone result → core_doc self.new ≡ core_doc self.old }
@@ -146,7 +146,7 @@ impl Core {
     }
 
     /// How the update ended, once it has.
-    pub fn into_outcome(self) -> Option<Result<Loaded, Error>>
+    pub fn into_outcome(self) -> Option<Result<Loaded, UpdateError>>
         ensures { option_map outcome_doc result ≡ ended (core_doc self).stage }
     {
         let Core { stage, .. } = self;

@@ -12,7 +12,7 @@ ghost use Rattle.tough_update.specs.Listed.{judged};
 ghost use Rattle.tough_update.specs.Delegated.{wanted_name, role_holder, metas_in, with_received, finished, grown_on, roles_begun, role_given, role_stored, new_role};
 ghost use Rattle.tough_update.specs.View.{known_doc, roles_doc, received_docs, stage_doc, setting_doc};
 
-use crate::error::Error;
+use crate::error::UpdateError;
 use crate::judge::{Holder, judge};
 use crate::limits::Limits;
 use crate::request::role_request;
@@ -40,7 +40,7 @@ fn finish(
     known: Known,
     targets: Signed<Targets>,
     received: Vec<Received>,
-) -> Result<Stage, Error>
+) -> Result<Stage, UpdateError>
     ensures { Gives stage_doc (finished (known_doc known) (received_docs received.items) (signed_doc tree_doc targets)) result }
 {
     match targets.signed.validate(alloc) {
@@ -49,8 +49,8 @@ fn finish(
             targets,
             received,
         }))),
-        Err(schema::Error::Memory) => Err(Error::Memory),
-        Err(source) => Err(Error::InvalidPath { source }),
+        Err(schema::Error::Memory) => Err(UpdateError::Memory),
+        Err(source) => Err(UpdateError::InvalidPath { source }),
     }
 }
 
@@ -61,7 +61,7 @@ fn grow_on(
     known: Known,
     growth: Growth,
     received: Vec<Received>,
-) -> Result<Stage, Error>
+) -> Result<Stage, UpdateError>
     ensures { Gives stage_doc (grown_on limits.now (known_doc known) (received_docs received.items) (go_on (metas_in (known_doc known)) (work_doc growth))) result }
 {
     let consistent = known.root.signed.consistent_snapshot;
@@ -82,7 +82,7 @@ pub(crate) fn begin_roles(
     limits: &Limits,
     known: Known,
     targets: Signed<Targets>,
-) -> Result<Stage, Error>
+) -> Result<Stage, UpdateError>
     ensures { Gives stage_doc (roles_begun limits.now (known_doc known) (signed_doc tree_doc targets)) result }
 {
     grow_on(
@@ -101,7 +101,7 @@ pub(crate) fn give_role(
     known: Known,
     roles: Roles,
     targets: Signed<Targets>,
-) -> Result<Stage, Error>
+) -> Result<Stage, UpdateError>
     ensures { Gives stage_doc (role_given limits.now (known_doc known) (roles_doc roles) (signed_doc tree_doc targets)) result }
 {
     let Roles { growth, received } = roles;
@@ -117,7 +117,7 @@ fn store_role(
     roles: Roles,
     file: String,
     targets: Signed<Targets>,
-) -> Result<Stage, Error>
+) -> Result<Stage, UpdateError>
     ensures { Gives stage_doc (role_stored (setting_doc setting.now).limits (known_doc known) (roles_doc roles) (string_bytes file) (signed_doc tree_doc targets)) result }
 {
     match DocumentName::delegated(file) {
@@ -148,7 +148,7 @@ pub(crate) fn take_role<V: Verify>(
     file: String,
     bytes: Vec<u8>,
     verifier: &V,
-) -> Result<Stage, Error>
+) -> Result<Stage, UpdateError>
     ensures { Gives stage_doc (new_role (V.verifies verifier.now) (setting_doc setting.now) (known_doc known) (roles_doc roles) listed (string_bytes file) bytes.items) result }
 {
     let holder = Holder::Delegations(roles.growth.holder(), wanted_name(&roles.growth));

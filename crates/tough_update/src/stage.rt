@@ -7,7 +7,7 @@ ghost use Rattle.tough_vault.specs.Checks.{enforces};
 ghost use Rattle.tough_update.specs.Machine.{base_of, act_at};
 ghost use Rattle.tough_update.specs.View.{last_of, walk_doc, base_doc, pending_doc, act_of, root_of, timestamp_of, snapshot_of, targets_of, received_of};
 
-use crate::error::Error;
+use crate::error::UpdateError;
 use crate::request::{Act, Request};
 use jiff::Timestamp as Instant;
 use tough_delegated::Growth;
@@ -97,7 +97,7 @@ pub(crate) enum Stage {
     Moment,
     Fetch(Wanted, Request),
     Step(Pending),
-    Done(Result<Loaded, Error>),
+    Done(Result<Loaded, UpdateError>),
     Taken,
 }
 

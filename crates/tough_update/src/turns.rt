@@ -17,7 +17,7 @@ ghost use Rattle.tough_update.specs.Answered as got;
 ghost use Rattle.tough_roles.specs.declared.role_type.RoleType.TheVariants as types;
 ghost use Rattle.tough_update.specs.View.{walk_doc, base_doc, known_doc, wanted_doc, pending_doc, stage_doc, setting_doc, step_doc, request_doc};
 
-use crate::error::Error;
+use crate::error::UpdateError;
 use crate::judge::{Holder, is_expired, judge};
 use crate::limits::Limits;
 use crate::request::{
@@ -32,7 +32,7 @@ use std::alloc::Global;
 use std::collections::BTreeMap;
 use tough_net::TransportErrorKind;
 use tough_roles::{Metafile, ReadError, RoleType, Signed, Snapshot, Timestamp, Verify};
-use tough_vault::{ExpirationEnforcement, StepError};
+use tough_vault::{ExpirationEnforcement, Refusal, StepError};
 use url::ParseError;
 
 /// What the caller set.
@@ -45,13 +45,13 @@ pub(crate) struct Setting<'a> {
 }
 
 /// The walk goes on from a root, or ends where there is no later version.
-fn go_on(alloc: Global, limits: &Limits, walk: Walk) -> Result<Stage, Error>
+fn go_on(alloc: Global, limits: &Limits, walk: Walk) -> Result<Stage, UpdateError>
     ensures { Gives stage_doc (walked limits.now (walk_doc walk)) result }
 {
     let version = walk.last().signed.version.get();
     let first = walk.first.signed.version.get();
     if version.saturating_sub(first) >= limits.max_root_updates {
-        return Err(Error::MaxUpdatesExceeded {
+        return Err(UpdateError::MaxUpdatesExceeded {
             max_root_updates: limits.max_root_updates,
         });
     }
@@ -69,7 +69,7 @@ fn begin<V: Verify>(
     trusted: &[u8],
     start: Instant,
     verifier: &V,
-) -> Result<Stage, Error>
+) -> Result<Stage, UpdateError>
     ensures { Gives stage_doc (began (V.verifies verifier.now) limits.now trusted.now start.nanosecond) result }
 {
     let first = match first_root(alloc, trusted, verifier) {
@@ -89,7 +89,7 @@ fn take_root<V: Verify>(
     walk: Walk,
     bytes: &[u8],
     verifier: &V,
-) -> Result<Stage, Error>
+) -> Result<Stage, UpdateError>
     ensures { Gives stage_doc (new_root (V.verifies verifier.now) (walk_doc walk) bytes.now) result }
 {
     let root = match next_root(alloc, &walk.last().signed, bytes, verifier) {
@@ -114,16 +114,16 @@ fn end_walk(
     limits: &Limits,
     enforcement: ExpirationEnforcement,
     walk: Walk,
-) -> Result<Stage, Error>
+) -> Result<Stage, UpdateError>
     ensures { Gives stage_doc (walk_ended limits.now (enforces enforcement) (walk_doc walk)) result }
 {
     let last = &walk.last().signed;
     if is_expired(enforcement, walk.start, last.expires) {
-        return Err(Error::ExpiredMetadata {
+        return Err(UpdateError::Refused(Refusal::ExpiredMetadata {
             role: RoleType::Root,
             expires: last.expires,
             now: walk.start,
-        });
+        }));
     }
     if is_rotated(&walk.first.signed, last) {
         return Ok(Stage::Step(Pending::Clear(walk.into_base())));
@@ -132,13 +132,13 @@ fn end_walk(
     Ok(Stage::Fetch(Wanted::Timestamp(walk.into_base()), request))
 }
 
-fn take_timestamp(alloc: Global, base: Base, bytes: &[u8]) -> Result<Stage, Error>
+fn take_timestamp(alloc: Global, base: Base, bytes: &[u8]) -> Result<Stage, UpdateError>
     ensures { Gives stage_doc (new_timestamp (base_doc base) bytes.now) result }
 {
     match Signed::<Timestamp>::read(alloc, bytes) {
         Ok(timestamp) => Ok(Stage::Step(Pending::PutTimestamp(base, timestamp))),
-        Err(ReadError::Memory) => Err(Error::Memory),
-        Err(source) => Err(Error::ParseMetadata {
+        Err(ReadError::Memory) => Err(UpdateError::Memory),
+        Err(source) => Err(UpdateError::ParseMetadata {
             role: RoleType::Timestamp,
             source,
         }),
@@ -158,13 +158,13 @@ fn go_to_snapshot(
     limits: &Limits,
     base: Base,
     timestamp: Signed<Timestamp>,
-) -> Result<Stage, Error>
+) -> Result<Stage, UpdateError>
     ensures { Gives stage_doc (want_snapshot limits.now (base_doc base) (signed_doc timestamp_doc timestamp) (metafile_in (timestamp_doc timestamp.signed).meta snapshot_file)) result }
 {
     let Some(meta) = listed(&timestamp.signed.meta, "snapshot.json") else {
-        return Err(Error::MissingSnapshotMeta {
+        return Err(UpdateError::Refused(Refusal::MissingSnapshotMeta {
             version: timestamp.signed.version.get(),
-        });
+        }));
     };
     let consistent = base.root.signed.consistent_snapshot;
     let request = snapshot_request(alloc, limits, consistent, meta)?;
@@ -178,7 +178,7 @@ fn take_snapshot(
     timestamp: Signed<Timestamp>,
     listed: u64,
     bytes: &[u8],
-) -> Result<Stage, Error>
+) -> Result<Stage, UpdateError>
     ensures { Gives stage_doc (new_snapshot (base_doc base) (signed_doc timestamp_doc timestamp) listed bytes.now) result }
 {
     match Signed::<Snapshot>::read(alloc, bytes) {
@@ -192,8 +192,8 @@ fn take_snapshot(
             };
             Ok(Stage::Step(Pending::PutSnapshot(known, listed)))
         }
-        Err(ReadError::Memory) => Err(Error::Memory),
-        Err(source) => Err(Error::ParseMetadata {
+        Err(ReadError::Memory) => Err(UpdateError::Memory),
+        Err(source) => Err(UpdateError::ParseMetadata {
             role: RoleType::Snapshot,
             source,
         }),
@@ -201,13 +201,13 @@ fn take_snapshot(
 }
 
 /// The snapshot was accepted.
-fn go_to_targets(alloc: Global, limits: &Limits, known: Known) -> Result<Stage, Error>
+fn go_to_targets(alloc: Global, limits: &Limits, known: Known) -> Result<Stage, UpdateError>
     ensures { Gives stage_doc (want_targets limits.now (known_doc known) (metafile_in (snapshot_doc known.snapshot.signed).meta targets_file)) result }
 {
     let Some(meta) = listed(&known.snapshot.signed.meta, "targets.json") else {
-        return Err(Error::SnapshotTargetsMetaMissing {
+        return Err(UpdateError::Refused(Refusal::SnapshotTargetsMetaMissing {
             version: known.snapshot.signed.version.get(),
-        });
+        }));
     };
     let consistent = known.root.signed.consistent_snapshot;
     let request = targets_request(alloc, limits, consistent, meta)?;
@@ -221,7 +221,7 @@ fn take_targets<V: Verify>(
     listed: u64,
     bytes: &[u8],
     verifier: &V,
-) -> Result<Stage, Error>
+) -> Result<Stage, UpdateError>
     ensures { Gives stage_doc (new_targets (V.verifies verifier.now) (enforces setting.now.enforcement) (known_doc known) listed bytes.now) result }
 {
     let holder = Holder::Root(&known.root.signed);
@@ -232,15 +232,15 @@ fn take_targets<V: Verify>(
 }
 
 // What a fault is where the file of this name is needed.
-fn fault_error(path: String, fault: Fault) -> Error
+fn fault_error(path: String, fault: Fault) -> UpdateError
     ensures { failure_of result ≡ fault_failure (string_bytes path) fault }
 {
     match fault {
-        Fault::JoinUrl(ParseError::OutOfMemory) => Error::Memory,
-        Fault::JoinUrl(source) => Error::JoinUrl { path, source },
+        Fault::JoinUrl(ParseError::OutOfMemory) => UpdateError::Memory,
+        Fault::JoinUrl(source) => UpdateError::JoinUrl { path, source },
         Fault::Transport(source) => match source.kind() {
-            TransportErrorKind::Memory => Error::Memory,
-            _ => Error::Transport { source },
+            TransportErrorKind::Memory => UpdateError::Memory,
+            _ => UpdateError::Transport { source },
         },
     }
 }
@@ -271,7 +271,7 @@ fn end_fetch(
     request: Request,
     ends_walk: bool,
     fault: Fault,
-) -> Result<Stage, Error>
+) -> Result<Stage, UpdateError>
     ensures { Gives stage_doc (unfetched (wanted_doc wanted) ends_walk (string_bytes request.name) fault) result }
 {
     match wanted {
@@ -290,7 +290,11 @@ fn end_fetch(
 }
 
 /// A fetch that didn't start.
-pub(crate) fn end_unstarted(wanted: Wanted, request: Request, fault: Fault) -> Result<Stage, Error>
+pub(crate) fn end_unstarted(
+    wanted: Wanted,
+    request: Request,
+    fault: Fault,
+) -> Result<Stage, UpdateError>
     ensures { Gives stage_doc (unfetched (wanted_doc wanted) (ends_start fault) (string_bytes request.name) fault) result }
 {
     let ends = ends_start(&fault);
@@ -298,7 +302,7 @@ pub(crate) fn end_unstarted(wanted: Wanted, request: Request, fault: Fault) -> R
 }
 
 /// A stream that failed.
-pub(crate) fn end_cut(wanted: Wanted, request: Request, fault: Fault) -> Result<Stage, Error>
+pub(crate) fn end_cut(wanted: Wanted, request: Request, fault: Fault) -> Result<Stage, UpdateError>
     ensures { Gives stage_doc (unfetched (wanted_doc wanted) (ends_stream fault) (string_bytes request.name) fault) result }
 {
     let ends = ends_stream(&fault);
@@ -312,7 +316,7 @@ pub(crate) fn read_wanted<V: Verify>(
     request: Request,
     bytes: Vec<u8>,
     verifier: &V,
-) -> Result<Stage, Error>
+) -> Result<Stage, UpdateError>
     ensures { Gives stage_doc (read_wanted (V.verifies verifier.now) (setting_doc setting.now) (wanted_doc wanted) (request_doc request) bytes.items) result }
 {
     let alloc = setting.alloc;
@@ -331,7 +335,11 @@ pub(crate) fn read_wanted<V: Verify>(
 }
 
 // A step that was taken.
-fn after<V: Verify>(setting: &Setting<'_>, pending: Pending, verifier: &V) -> Result<Stage, Error>
+fn after<V: Verify>(
+    setting: &Setting<'_>,
+    pending: Pending,
+    verifier: &V,
+) -> Result<Stage, UpdateError>
     ensures { Gives stage_doc (after (V.verifies verifier.now) (setting_doc setting.now) (pending_doc pending)) result }
 {
     let alloc = setting.alloc;
@@ -359,11 +367,11 @@ pub(crate) fn take_step<V: Verify>(
     pending: Pending,
     taken: Result<(), StepError>,
     verifier: &V,
-) -> Result<Stage, Error>
+) -> Result<Stage, UpdateError>
     ensures { Gives stage_doc (stage_after (V.verifies verifier.now) (setting_doc setting.now) (Step (pending_doc pending)) (got.Step (step_doc taken))) result }
 {
     match taken {
         Ok(()) => after(setting, pending, verifier),
-        Err(error) => Err(Error::from(error)),
+        Err(error) => Err(UpdateError::from(error)),
     }
 }

@@ -1,0 +1,4 @@
+pub mod Trails
+pub mod Loads
+pub mod Trusts
+pub mod Stepping

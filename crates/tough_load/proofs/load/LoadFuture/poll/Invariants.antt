@@ -1,0 +1,10 @@
+use Rattle.futures.specs.Task.{Keeps}
+use Rattle.tough_load.specs.Advancing.{Advances}
+use Rattle.tough_load.specs.Running.{CanPoll}
+use Rattle.tough_load.proofs.load.LoadFuture.poll.Given as goal
+
+abbrev pub invariant-loop : goal.invariant-loop
+invariant-loop g l =
+    CanPoll g.T.Stream.Stream.can_poll l.self.fetch
+    × Keeps l.initial.cx l.cx
+    × Advances g.T.Transport.refuses g.T.Transport.serves g.K.Keeper.keeps g.T.Stream.Stream.yields g.V.Verify.verifies l.initial.self l.self

@@ -1,0 +1,44 @@
+-- How a load goes on.
+use Rattle.std.specs.Prelude.{◌≡◌, Result}
+use Rattle.url.specs.Parts.{Parts}
+use Rattle.futures.specs.Runs.{Runs}
+use Rattle.tough_keys.specs.Same.{Verifies}
+use Rattle.tough_vault.specs.declared.entry.Receipt.{Receipt}
+use Rattle.tough_vault.specs.declared.checks.StepError.{StepError}
+use Rattle.tough_vault.specs.Act.{Act}
+use Rattle.tough_net.specs.declared.error.TransportError.{TransportError}
+use Rattle.tough_net.specs.Items.{Item}
+use Rattle.tough_update.specs.Failure.{Failure}
+use Rattle.tough_update.specs.Stages.{LoadedDoc, CoreDoc}
+use Rattle.tough_update.specs.View.{core_doc}
+use Rattle.tough_load.specs.declared.load.Load.{Load}
+use Rattle.tough_load.specs.Loading.{Reaches, Ends, Gives, Walks}
+use Rattle.tough_load.specs.Words.{transport_of, base_of, verifier_of, settings_of, keeper_of, core_of, fetch_of}
+
+module _ {T K C V S : Type 0} (refuses : T → Parts → TransportError → Type 0) (serves : T → Parts → Runs Item) (keeps : Verifies → K → Act → Result Receipt StepError → K → Type 0) (yields : S → Runs Item)
+    (verifies : V → Verifies) where
+  -- the machine and the keeper that a load may come to
+  abbrev pub MayReach : Load T K C V S → CoreDoc → K → Type 0
+  MayReach l = Reaches refuses serves keeps yields (verifies (verifier_of l)) (base_of l) (transport_of l) (fetch_of l) (core_doc (core_of l)) (keeper_of l)
+
+  -- the outcomes that it may give
+  abbrev pub MayGive : Load T K C V S → Result LoadedDoc Failure → Type 0
+  MayGive l = Gives refuses serves keeps yields (verifies (verifier_of l)) (base_of l) (transport_of l) (fetch_of l) (core_doc (core_of l)) (keeper_of l)
+
+  -- what it was given is still there, and steps led its keeper on
+  pub record Stays (old new : Load T K C V S) : Type 0 where
+    pub transport : transport_of new ≡ transport_of old
+    pub base : base_of new ≡ base_of old
+    pub verifier : verifier_of new ≡ verifier_of old
+    pub settings : settings_of new ≡ settings_of old
+    pub walked : Walks keeps (verifies (verifier_of old)) (keeper_of old) (keeper_of new)
+
+  -- what it may come to now, it might have come to before
+  pub record Advances (old new : Load T K C V S) : Type 0 where
+    pub stays : Stays old new
+    pub follows : (c : CoreDoc) (k : K) → MayReach new c k → MayReach old c k
+
+  -- it came to this outcome
+  pub record Finishes (old : Load T K C V S) (outcome : Result LoadedDoc Failure) (new : Load T K C V S) : Type 0 where
+    pub stays : Stays old new
+    pub ends : Ends refuses serves keeps yields (verifies (verifier_of old)) (base_of old) (transport_of old) (fetch_of old) (core_doc (core_of old)) (keeper_of old) outcome (core_doc (core_of new)) (keeper_of new)

@@ -1,0 +1,24 @@
+//! Loads repositories (TUF specification 5): what is fetched, verified, compared and stored, in which order.
+#![tactic(auto)]
+
+mod driving;
+mod keeper;
+pub mod laws;
+mod load;
+mod loader;
+mod run;
+mod steps;
+
+pub use driving::drive;
+pub use keeper::Keeper;
+pub use load::{Load, LoadParts};
+pub use loader::{RepositoryLoader, Unset};
+pub use run::LoadRun;
+pub use tough_update::{
+    Act, Answer, Ask, Core, Fault, Limits, Loaded, Received, Request, UpdateError,
+};
+pub use tough_vault::{
+    Clock, DirStore, DocumentName, Entry, ExpirationEnforcement, FixedClock, ListedVersion,
+    MemoryStore, Receipt, Refusal, SnapshotVersions, StepError, Store, StoreError, SystemClock,
+    TimestampVersions, Tip, Vault,
+};

@@ -1,0 +1,236 @@
+//! What a load is made from.
+
+ghost use Rattle.std.specs.Prelude.{◌≡◌, ◌⊎◌, true, Ok, IfOk, IfErr};
+ghost use Rattle.tough_vault.specs.Checks.{enforces};
+ghost use Rattle.tough_load.specs.Base.{with_slash, IsUnbegun};
+
+use crate::keeper::Keeper;
+use crate::load::Load;
+use std::alloc::Global;
+use tough_net::Transport;
+use tough_roles::Verify;
+use tough_update::{Core, Limits, UpdateError};
+use tough_vault::{Clock, ExpirationEnforcement};
+use url::{ParseError, Url};
+
+/// A part of a loader that isn't given yet.
+#[derive(Clone, Copy, Drop)]
+pub struct Unset;
+
+// What every loader has, whichever of its other parts are given.
+#[derive(Drop)]
+struct Settings<'a> {
+    alloc: Global,
+    root: &'a [u8],
+    metadata_base_url: Url,
+    targets_base_url: Url,
+    limits: Limits,
+    enforcement: ExpirationEnforcement,
+}
+
+/// Loads a repository (TUF specification 5), from the bytes of a root that is trusted and two URLs. `load` is there once the transport, the
+/// verifier, the clock and the keeper are given.
+#[derive(Drop)]
+pub struct RepositoryLoader<'a, T, V, C, K> {
+    settings: Settings<'a>,
+    transport: T,
+    verifier: V,
+    clock: C,
+    keeper: K,
+}
+
+impl<'a> RepositoryLoader<'a, Unset, Unset, Unset, Unset> {
+    ghost use Rattle.tough_load.specs.Loader.{settings_of, default_limits};
+
+    /// A loader with the default limits, that refuses expired documents.
+    pub fn new(
+        alloc: Global,
+        root: &'a [u8],
+        metadata_base_url: Url,
+        targets_base_url: Url,
+    ) -> RepositoryLoader<'a, Unset, Unset, Unset, Unset>
+        ensures { settings_of result ≡ record { root = root.now; metadata_base = metadata_base_url; targets_base = targets_base_url; limits = default_limits; enforced = true } }
+    {
+        RepositoryLoader {
+            settings: Settings {
+                alloc,
+                root,
+                metadata_base_url,
+                targets_base_url,
+                limits: Limits::default(),
+                enforcement: ExpirationEnforcement::Safe,
+            },
+            transport: Unset,
+            verifier: Unset,
+            clock: Unset,
+            keeper: Unset,
+        }
+    }
+}
+
+impl<'a, V, C, K> RepositoryLoader<'a, Unset, V, C, K> {
+    ghost use Rattle.tough_load.specs.Loader.{settings_of, transport_of, verifier_of, clock_of, keeper_of};
+
+    /// What fetches the files.
+    pub fn transport<T>(self, transport: T) -> RepositoryLoader<'a, T, V, C, K>
+        ensures given { transport_of result ≡ transport }
+        ensures settings { settings_of result ≡ settings_of self.entry }
+        ensures others { (verifier_of result ≡ verifier_of self.entry) × (clock_of result ≡ clock_of self.entry) × (keeper_of result ≡ keeper_of self.entry) }
+    {
+        RepositoryLoader {
+            settings: self.settings,
+            transport,
+            verifier: self.verifier,
+            clock: self.clock,
+            keeper: self.keeper,
+        }
+    }
+}
+
+impl<'a, T, C, K> RepositoryLoader<'a, T, Unset, C, K> {
+    ghost use Rattle.tough_load.specs.Loader.{settings_of, transport_of, verifier_of, clock_of, keeper_of};
+
+    /// What verifies signatures.
+    pub fn verifier<V>(self, verifier: V) -> RepositoryLoader<'a, T, V, C, K>
+        ensures given { verifier_of result ≡ verifier }
+        ensures settings { settings_of result ≡ settings_of self.entry }
+        ensures others { (transport_of result ≡ transport_of self.entry) × (clock_of result ≡ clock_of self.entry) × (keeper_of result ≡ keeper_of self.entry) }
+    {
+        RepositoryLoader {
+            settings: self.settings,
+            transport: self.transport,
+            verifier,
+            clock: self.clock,
+            keeper: self.keeper,
+        }
+    }
+}
+
+impl<'a, T, V, K> RepositoryLoader<'a, T, V, Unset, K> {
+    ghost use Rattle.tough_load.specs.Loader.{settings_of, transport_of, verifier_of, clock_of, keeper_of};
+
+    /// What tells the time.
+    pub fn clock<C>(self, clock: C) -> RepositoryLoader<'a, T, V, C, K>
+        ensures given { clock_of result ≡ clock }
+        ensures settings { settings_of result ≡ settings_of self.entry }
+        ensures others { (transport_of result ≡ transport_of self.entry) × (verifier_of result ≡ verifier_of self.entry) × (keeper_of result ≡ keeper_of self.entry) }
+    {
+        RepositoryLoader {
+            settings: self.settings,
+            transport: self.transport,
+            verifier: self.verifier,
+            clock,
+            keeper: self.keeper,
+        }
+    }
+}
+
+impl<'a, T, V, C> RepositoryLoader<'a, T, V, C, Unset> {
+    ghost use Rattle.tough_load.specs.Loader.{settings_of, transport_of, verifier_of, clock_of, keeper_of};
+
+    /// What keeps what is accepted, in place of a datastore.
+    pub fn keeper<K>(self, keeper: K) -> RepositoryLoader<'a, T, V, C, K>
+        ensures given { keeper_of result ≡ keeper }
+        ensures settings { settings_of result ≡ settings_of self.entry }
+        ensures others { (transport_of result ≡ transport_of self.entry) × (verifier_of result ≡ verifier_of self.entry) × (clock_of result ≡ clock_of self.entry) }
+    {
+        RepositoryLoader {
+            settings: self.settings,
+            transport: self.transport,
+            verifier: self.verifier,
+            clock: self.clock,
+            keeper,
+        }
+    }
+}
+
+impl<'a, T, V, C, K> RepositoryLoader<'a, T, V, C, K> {
+    ghost use Rattle.tough_load.specs.Loader.{settings_of, transport_of, verifier_of, clock_of, keeper_of};
+
+    /// What an update takes at most.
+    pub fn limits(self, limits: Limits) -> RepositoryLoader<'a, T, V, C, K>
+        ensures settings { settings_of result ≡ record (settings_of self.entry) { limits = limits } }
+        ensures others { (transport_of result ≡ transport_of self.entry) × (verifier_of result ≡ verifier_of self.entry) × (clock_of result ≡ clock_of self.entry) × (keeper_of result ≡ keeper_of self.entry) }
+    {
+        let settings = Settings {
+            limits,
+            ..self.settings
+        };
+        RepositoryLoader { settings, ..self }
+    }
+
+    /// Whether documents that have expired are refused.
+    pub fn expiration_enforcement(
+        self,
+        enforcement: ExpirationEnforcement,
+    ) -> RepositoryLoader<'a, T, V, C, K>
+        ensures settings { settings_of result ≡ record (settings_of self.entry) { enforced = enforces enforcement } }
+        ensures others { (transport_of result ≡ transport_of self.entry) × (verifier_of result ≡ verifier_of self.entry) × (clock_of result ≡ clock_of self.entry) × (keeper_of result ≡ keeper_of self.entry) }
+    {
+        let settings = Settings {
+            enforcement,
+            ..self.settings
+        };
+        RepositoryLoader { settings, ..self }
+    }
+}
+
+// The URL with a slash at its end.
+fn with_slash(alloc: Global, url: Url) -> Result<Url, UpdateError>
+    ensures given { IfOk result (λ u. with_slash url ≡ Ok u) }
+    ensures refused { IfErr result (IsUnbegun url) }
+{
+    if url.as_str().as_bytes().ends_with(b"/") {
+        return Ok(url);
+    }
+    let mut text = String::from_str(alloc, url.as_str())?;
+    text.push_str("/")?;
+    match Url::parse(alloc, text.as_str()) {
+        Ok(url) => Ok(url),
+        Err(ParseError::OutOfMemory) => Err(UpdateError::Memory),
+        Err(source) => Err(UpdateError::ParseUrl { url: text, source }),
+    }
+}
+
+impl<T: Transport, V: Verify + Drop, C: Clock + Drop, K: Keeper> RepositoryLoader<'_, T, V, C, K> {
+    ghost use Rattle.tough_load.specs.Loader.{settings_of, IsBegun};
+
+    /// The load, which hasn't begun: the future of what it comes to. A base URL without a slash at its end gets one, and `ParseUrl` is
+    /// where it then can't be parsed, that of the metadata first.
+    pub fn load(self) -> Result<Load<T, K, C, V>, UpdateError>
+        ensures begun { IfOk result (IsBegun self.entry) }
+        ensures refused { IfErr result (λ e. IsUnbegun (settings_of self.entry).metadata_base e ⊎ IsUnbegun (settings_of self.entry).targets_base e) }
+    {
+        let RepositoryLoader {
+            settings,
+            transport,
+            verifier,
+            clock,
+            keeper,
+        } = self;
+        let alloc = settings.alloc;
+        let base = match with_slash(alloc, settings.metadata_base_url) {
+            Ok(base) => base,
+            Err(error) => return Err(error),
+        };
+        let targets_base = match with_slash(alloc, settings.targets_base_url) {
+            Ok(base) => base,
+            Err(error) => return Err(error),
+        };
+        let trusted = Vec::from_slice(alloc, settings.root)?;
+        Ok(Load {
+            alloc,
+            transport,
+            base,
+            targets_base,
+            limits: settings.limits,
+            enforcement: settings.enforcement,
+            keeper,
+            clock,
+            verifier,
+            core: Core::new(trusted, settings.limits, settings.enforcement),
+            fetch: None,
+            receipts: Vec::new(alloc),
+        })
+    }
+}
