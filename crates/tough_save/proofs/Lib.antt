@@ -1,0 +1,4 @@
+mod Opening
+mod Grows
+mod Misplaced
+mod Digests
