@@ -1,4 +1,3 @@
-pub mod Trails
-pub mod Loads
-pub mod Trusts
-pub mod Stepping
+mod Savings
+mod Starting
+mod Vouched

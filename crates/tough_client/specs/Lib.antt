@@ -1,8 +1,4 @@
-pub mod Fetching
-pub mod Loading
-pub mod Running
-pub mod Words
-pub mod Advancing
-pub mod Base
-pub mod Loader
-pub mod Vouching
+pub mod Futures
+pub mod Reading
+pub mod Repositories
+pub mod Saving

@@ -1,53 +1,67 @@
-//! Runs a load on this thread, with nothing to wait for.
+//! Runs futures on this thread, with nothing to wait for.
 
-ghost use Rattle.std.specs.Prelude.{◌≡◌, Ok, IfOk, IfErr};
-ghost use Rattle.tough_update.specs.View.{core_doc, outcome_doc};
-ghost use Rattle.tough_client.specs.Loader.{IsBegun, first_core, settings_of, transport_of, verifier_of, keeper_of};
-ghost use Rattle.tough_client.specs.Advancing.{Advances, Finishes};
-ghost use Rattle.tough_client.specs.Running.{CanPoll};
-ghost use Rattle.tough_client.specs.Vouching.{Vouches};
-ghost use Rattle.tough_client.specs.Words as part;
+ghost use Rattle.std.specs.Prelude.{IfOk};
+ghost use Rattle.tough_load.specs.Loader.{IsBegun, first_core, settings_of, transport_of, verifier_of};
+ghost use Rattle.tough_load.specs.Loader as loader;
+ghost use Rattle.tough_load.specs.Running.{CanPoll};
+ghost use Rattle.tough_load.specs.Vouching.{Vouches};
+ghost use Rattle.tough_load.specs.Words as part;
+ghost use Rattle.tough_client.specs.Repositories.{documents_of, keeper_of};
 
-use crate::keeper::Keeper;
-use crate::load::Load;
+use crate::repository::Repository;
 use futures::Future;
 use futures::task::{Doorbell, Poll, Solo};
 use std::alloc::AllocGlobal;
 use std::io;
 use std::random::RandomSource;
+use tough_error::Error;
+use tough_load::{Clock, Keeper, Load};
 use tough_net::Transport;
 use tough_roles::Verify;
-use tough_update::{Error, Loaded};
-use tough_vault::Clock;
 
-/// Polls a load until it is ready, at once again where it is pending: for transports that never wait, as those over memory and files.
+/// Runs a load, and gives the repository that it loaded, or why it didn't: for transports that never wait, as those over memory and files.
 pub fn drive<R, T, K, C, V>(
     rt: &R,
-    load: &mut Load<T, K, C, V>,
-) -> io::Result<Result<Loaded, Error>>
+    load: Load<T, K, C, V>,
+) -> io::Result<Result<Repository<T, K, C>, Error>>
 where
     R: RandomSource + AllocGlobal,
     T: Transport,
     K: Keeper,
     C: Clock + Drop,
     V: Verify + Drop,
-    requires { CanPoll T.Stream.can_poll (part.fetch_of load.old) }
-    ensures done { IfOk result (λ r. Finishes T.refuses T.serves K.keeps T.Stream.yields V.verifies load.old (outcome_doc r) load.new) }
-    ensures goes { IfErr result (λ e. Advances T.refuses T.serves K.keeps T.Stream.yields V.verifies load.old load.new) }
-    ensures trusted { (from : _) → IsBegun from load.old → IfOk result (λ r. IfOk (outcome_doc r) (Vouches T.refuses T.serves K.keeps T.Stream.yields
-        (V.verifies (verifier_of from)) (part.base_of load.old) (transport_of from) (first_core (settings_of from)) (keeper_of from)
-        (core_doc (part.core_of load.new)) (part.keeper_of load.new))) }
+    requires { CanPoll T.Stream.can_poll (part.fetch_of load) }
+    ensures trusted { (from : _) → IsBegun from load → IfOk result (λ r. IfOk r (λ repository. (left : _) × Vouches T.refuses T.serves K.keeps T.Stream.yields
+        (V.verifies (verifier_of from)) (part.base_of load) (transport_of from) (first_core (settings_of from)) (loader.keeper_of from)
+        left (keeper_of repository) (documents_of repository))) }
 {
+    let mut load = load;
+    match tough_load::drive(rt, &mut load) {
+        Ok(Ok(loaded)) => Ok(Ok(Repository::new(load, loaded))),
+        Ok(Err(error)) => Ok(Err(Error::from(error))),
+        Err(error) => Err(error),
+    }
+}
+
+/// Runs a future, at once again where it is pending: for those over transports that never wait.
+pub fn finish<R, F>(rt: &R, future: F) -> io::Result<F::Output>
+where
+    R: RandomSource + AllocGlobal,
+    F: Future,
+    requires { F.can_poll future }
+    ensures { IfOk result (F.gives future) }
+{
+    let mut future = future;
     let solo = Solo::new(rt, Doorbell::spinning())?;
     for _ in 0..u64::MAX {
         let mut cx = solo.begin();
-        match load.poll(&mut cx) {
-            Poll::Ready(outcome) => {
+        match future.poll(&mut cx) {
+            Poll::Ready(output) => {
                 cx.cancel();
-                return Ok(outcome);
+                return Ok(output);
             }
             Poll::Pending => cx.park(),
         }
     }
-    Err(io::Error::other("the load waits"))
+    Err(io::Error::other("the future waits"))
 }

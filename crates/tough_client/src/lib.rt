@@ -1,22 +1,22 @@
-//! Loads repositories (TUF specification 5): what is fetched, verified, compared and stored, in which order.
+//! A repository that was loaded: its documents, and the targets that are read and saved by them (TUF specification 5.7).
 #![tactic(auto)]
 
 mod driving;
-mod keeper;
-pub mod laws;
-mod load;
-mod loader;
-mod steps;
+mod failure;
+mod read;
+mod repository;
+mod save;
+mod unverified;
 
-pub use driving::drive;
-pub use keeper::Keeper;
-pub use load::Load;
-pub use loader::{RepositoryLoader, Unset};
-pub use tough_update::{
-    Act, Answer, Ask, Core, Error, Fault, Limits, Loaded as Repository, Request,
+pub use driving::{drive, finish};
+pub use read::ReadTarget;
+pub use repository::{Repository, RepositoryParts};
+pub use save::{Prefix, SaveTarget};
+pub use tough_error::{Error, Result};
+pub use tough_load::{
+    Act, Answer, Ask, Clock, Core, DirStore, DocumentName, Entry, ExpirationEnforcement, Fault,
+    FixedClock, Keeper, Limits, ListedVersion, Load, LoadParts, LoadRun, Loaded, MemoryStore,
+    Receipt, Received, Refusal, RepositoryLoader, Request, SnapshotVersions, StepError, Store,
+    StoreError, SystemClock, TimestampVersions, Tip, Unset, UpdateError, Vault,
 };
-pub use tough_vault::{
-    Clock, DirStore, DocumentName, Entry, ExpirationEnforcement, FixedClock, ListedVersion,
-    MemoryStore, Receipt, Refusal, SnapshotVersions, StepError, Store, StoreError, SystemClock,
-    TimestampVersions, Tip, Vault,
-};
+pub use tough_save::TargetStream;

@@ -1,21 +1,15 @@
-use Rattle.std.proofs.Common.{rules, refl}
-use Rattle.tough_update.specs.View.{core_doc, outcome_doc}
-use Rattle.tough_client.specs.Loader.{first_core, settings_of, transport_of, verifier_of, keeper_of}
-use Rattle.tough_client.proofs.Loads.{advances-trans, finishes-after}
-use Rattle.tough_client.proofs.Trusts.{vouched}
+use Rattle.tough_update.specs.View.{core_doc}
+use Rattle.tough_load.specs.Loader.{first_core, settings_of, transport_of, verifier_of, keeper_of}
+use Rattle.tough_client.proofs.Vouched.{vouched-same}
 use Rattle.tough_client.proofs.driving.drive.Goals as goal
 
-pub returns-in-Ready-clause-done : goal.returns-in-Ready-clause-done
-returns-in-Ready-clause-done g c = finishes-after g.T.Transport.refuses g.T.Transport.serves g.K.Keeper.keeps g.T.Stream.Stream.yields g.V.Verify.verifies c.args.load.now c.loop.load c.poll.new.self (outcome_doc c.in-Ready.outcome) c.loop.invariant.1 c.in-Ready.ensures.done
-
-pub returns-in-Ready-clause-trusted : goal.returns-in-Ready-clause-trusted
-returns-in-Ready-clause-trusted g c = λ from begun.
-    let f = finishes-after g.T.Transport.refuses g.T.Transport.serves g.K.Keeper.keeps g.T.Stream.Stream.yields g.V.Verify.verifies c.args.load.now c.loop.load c.poll.new.self (outcome_doc c.in-Ready.outcome) c.loop.invariant.1 c.in-Ready.ensures.done in
-    vouched g.T.Transport.refuses g.T.Transport.serves g.K.Keeper.keeps g.T.Stream.Stream.yields g.met.K.Keeper.checks
-    g.V.Verify.verifies c.args.load.now.base c.args.load.now.verifier (verifier_of from) c.args.load.now.transport (transport_of from)
-    (core_doc c.args.load.now.core) (first_core (settings_of from)) c.args.load.now.keeper (keeper_of from) c.args.load.now.fetch
-    (outcome_doc c.in-Ready.outcome) (core_doc c.poll.new.self.core) c.poll.new.self.keeper
-    begun.verifier begun.transport begun.core begun.keeper begun.fetch refl f.ends
-
-pub loop-preserved : goal.loop-preserved
-loop-preserved g c = (search rules, advances-trans g.T.Transport.refuses g.T.Transport.serves g.K.Keeper.keeps g.T.Stream.Stream.yields g.V.Verify.verifies c.args.load.now c.loop.load c.poll.new.self c.loop.invariant.1 c.in-Pending.ensures.goes)
+pub returns-in-Ok-Ok : goal.returns-in-Ok-Ok
+returns-in-Ok-Ok g c = record {
+  trusted = λ from begun. (
+    core_doc c.drive.new.load.core,
+    vouched-same g.T.Transport.refuses g.T.Transport.serves g.K.Keeper.keeps g.T.Stream.Stream.yields (g.V.Verify.verifies (verifier_of from)) c.args.load.base
+        (transport_of from) (first_core (settings_of from)) (keeper_of from)
+        c.in-Ok-Ok.field-0 (core_doc c.drive.new.load.core) c.drive.new.load.keeper c.new.result.keeper c.in-Ok-Ok.loaded c.new.result.loaded
+        c.in-Ok-Ok.field-0-is c.new.ensures.keeper c.new.ensures.loaded (c.in-Ok-Ok.ensures.trusted from begun),
+  );
+}

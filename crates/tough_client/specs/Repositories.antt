@@ -1,0 +1,74 @@
+-- A repository that was loaded, by its parts.
+use Rattle.std.specs.Prelude.{◌≡◌, Bool, List}
+use Rattle.url.specs.Parts.{Parts}
+use Rattle.tough_vault.specs.Checks.{enforces}
+use Rattle.tough_vault.specs.declared.entry.Receipt.{Receipt}
+use Rattle.tough_update.specs.declared.limits.Limits.{Limits}
+use Rattle.tough_update.specs.declared.stage.Loaded.{Loaded}
+use Rattle.tough_update.specs.Stages.{LoadedDoc}
+use Rattle.tough_update.specs.View.{loaded_doc}
+use Rattle.tough_load.specs.declared.load.Load.{Load}
+use Rattle.tough_load.specs.Words as load
+use Rattle.tough_client.specs.declared.repository.Repository.{Repository}
+use Rattle.tough_client.specs.declared.repository.RepositoryParts.{RepositoryParts}
+
+module _ {T K C : Type 0} where
+  abbrev pub loaded_of : Repository T K C → Loaded
+  loaded_of r = r.loaded
+
+  -- the documents that were loaded
+  abbrev pub documents_of : Repository T K C → LoadedDoc
+  documents_of r = loaded_doc r.loaded
+
+  abbrev pub transport_of : Repository T K C → T
+  transport_of r = r.transport
+
+  abbrev pub keeper_of : Repository T K C → K
+  keeper_of r = r.keeper
+
+  abbrev pub clock_of : Repository T K C → C
+  clock_of r = r.clock
+
+  -- the URL that the names of metadata files are joined to
+  abbrev pub metadata_base_of : Repository T K C → Parts
+  metadata_base_of r = r.metadata_base_url
+
+  -- the URL that the names of targets' files are joined to
+  abbrev pub targets_base_of : Repository T K C → Parts
+  targets_base_of r = r.targets_base_url
+
+  abbrev pub limits_of : Repository T K C → Limits
+  limits_of r = r.limits
+
+  -- whether documents that have expired are refused
+  abbrev pub enforced_of : Repository T K C → Bool
+  enforced_of r = enforces r.enforcement
+
+  -- what the steps were told
+  abbrev pub receipts_of : Repository T K C → List Receipt
+  receipts_of r = r.receipts.items
+
+  -- every part of the load is handed on, with these documents
+  pub record IsMadeOf {V S : Type 0} (l : Load T K C V S) (documents : Loaded) (r : Repository T K C) : Type 0 where
+    pub loaded : loaded_of r ≡ documents
+    pub transport : transport_of r ≡ load.transport_of l
+    pub keeper : keeper_of r ≡ load.keeper_of l
+    pub clock : clock_of r ≡ load.clock_of l
+    pub metadata_base : metadata_base_of r ≡ load.base_of l
+    pub settings : load.settings_of l ≡ record { targets_base = targets_base_of r; limits = limits_of r; enforced = enforced_of r }
+    pub receipts : receipts_of r ≡ load.receipts_of l
+
+  -- what an editor is given of a repository
+  pub record IsLeftOf (r : Repository T K C) (p : RepositoryParts T) : Type 0 where
+    pub transport : p.transport ≡ transport_of r
+    pub limits : p.limits ≡ limits_of r
+    pub documents : p.documents ≡ loaded_of r
+
+  -- all is as it was, but for the keeper, the clock and the receipts
+  pub record IsKept (old new : Repository T K C) : Type 0 where
+    pub loaded : loaded_of new ≡ loaded_of old
+    pub transport : transport_of new ≡ transport_of old
+    pub metadata_base : metadata_base_of new ≡ metadata_base_of old
+    pub targets_base : targets_base_of new ≡ targets_base_of old
+    pub limits : limits_of new ≡ limits_of old
+    pub enforced : enforced_of new ≡ enforced_of old

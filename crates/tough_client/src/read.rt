@@ -1,0 +1,213 @@
+//! Targets are read.
+
+ghost use Rattle.std.specs.Prelude.{◌≡◌, ◌⊎◌, ⊤, IfOk, IfErr, OnOk, option_map};
+ghost use Rattle.futures.specs.Poll.{IfReady, OnPending};
+ghost use Rattle.futures.specs.Task.{Covers, Keeps};
+ghost use Rattle.tough_schema.specs.Target.{target_doc};
+ghost use Rattle.tough_client.specs.Futures.{repository_in, name_in};
+ghost use Rattle.tough_client.specs.Reading.{HasNoted, IsRefused, IsUnasked, InTime, NotInTime, IsStreamOf, IsUnfetched, Reads, expiry_doc, target_at};
+ghost use Rattle.tough_client.specs.Reading as spec;
+ghost use Rattle.tough_client.specs.Repositories.{IsKept, documents_of, transport_of, keeper_of, targets_base_of, enforced_of};
+
+use crate::failure::unfetched;
+use crate::repository::Repository;
+use crate::unverified::Unverified;
+use futures::Future;
+use futures::task::{Context, Poll};
+use jiff::Timestamp as Instant;
+use tough_error::Error;
+use tough_load::{Act, Clock, ExpirationEnforcement, Keeper};
+use tough_names::TargetName;
+use tough_net::Transport;
+use tough_roles::{self as schema, RoleType};
+use tough_save::{TargetStream, fetch_target, file_name};
+use tough_schema::Target;
+
+// A role, and when its document expires.
+#[derive(Clone, Copy, Drop)]
+struct Dated {
+    role: RoleType,
+    expires: Instant,
+}
+
+// The one that comes first; of two that come at once, the first of them.
+fn sooner(first: Dated, second: Dated) -> Dated
+    ensures { expiry_doc result ≡ spec.sooner (expiry_doc first) (expiry_doc second) }
+{
+    if second.expires < first.expires {
+        second
+    } else {
+        first
+    }
+}
+
+// A role whose document expires then.
+fn expiring(role: RoleType, expires: Instant) -> Dated
+    ensures { expiry_doc result ≡ record { role = role; time = expires.nanosecond } }
+{
+    Dated { role, expires }
+}
+
+impl<T: Transport, K: Keeper, C: Clock + Drop> Repository<T, K, C> {
+    // The role whose document expires first, and when.
+    fn earliest(&self) -> Dated
+        ensures { expiry_doc result ≡ spec.earliest (documents_of self.now) }
+    {
+        let root = expiring(RoleType::Root, self.loaded.root().signed.expires);
+        let timestamp = expiring(RoleType::Timestamp, self.loaded.timestamp().signed.expires);
+        let snapshot = expiring(RoleType::Snapshot, self.loaded.snapshot().signed.expires);
+        let targets = expiring(RoleType::Targets, self.loaded.targets().signed.expires);
+        sooner(sooner(sooner(root, timestamp), snapshot), targets)
+    }
+
+    // Has the keeper note the time, and puts its receipt by.
+    fn note_time(&mut self) -> Result<Instant, Error>
+        ensures noted { IfOk result (λ now. HasNoted K.keeps now.nanosecond (keeper_of self.old) (keeper_of self.new)) }
+        ensures refused { IfErr result (λ e. IsRefused K.keeps (keeper_of self.old) e (keeper_of self.new) ⊎ IsUnasked K.keeps (keeper_of self.old) e (keeper_of self.new)) }
+        ensures kept { IsKept self.old self.new }
+    {
+        let now = self.clock.now();
+        if self.receipts.reserve(1).is_err() {
+            return Err(Error::Memory);
+        }
+        match self
+            .keeper
+            .take(self.alloc, &Act::NoteTime(now), &Unverified)
+        {
+            Ok(receipt) => {
+                self.receipts.push_reserved(receipt);
+                Ok(now)
+            }
+            Err(error) => Err(Error::from(error)),
+        }
+    }
+
+    // Notes the time, which must be before any of the documents expires, where that counts.
+    fn be_in_time(&mut self) -> Result<(), Error>
+        ensures timely { OnOk result (InTime K.keeps (enforced_of self.old) (documents_of self.old) (keeper_of self.old) (keeper_of self.new)) }
+        ensures late { IfErr result (λ e. NotInTime K.keeps (enforced_of self.old) (documents_of self.old) (keeper_of self.old) e (keeper_of self.new)) }
+        ensures kept { IsKept self.old self.new }
+    {
+        match self.enforcement {
+            ExpirationEnforcement::Unsafe => Ok(()),
+            ExpirationEnforcement::Safe => match self.note_time() {
+                Ok(now) => {
+                    let Dated { role, expires } = self.earliest();
+                    if now < expires {
+                        Ok(())
+                    } else {
+                        Err(Error::ExpiredMetadata { role, expires, now })
+                    }
+                }
+                Err(error) => Err(error),
+            },
+        }
+    }
+
+    // What is listed under the name.
+    pub(crate) fn find(&self, name: &TargetName) -> Result<Option<&Target>, Error>
+        ensures found { IfOk result (λ o. option_map (λ t. target_doc t.now) o ≡ target_at (documents_of self.now) name.now) }
+        ensures memory { IfErr result (λ e. e ≡ Error.Memory) }
+    {
+        match self
+            .loaded
+            .targets()
+            .signed
+            .find_target(self.alloc, name, false)
+        {
+            Ok(target) => Ok(Some(target)),
+            Err(schema::Error::Memory) => Err(Error::Memory),
+            Err(_) => Ok(None),
+        }
+    }
+
+    // Starts to fetch a target that is listed under the name.
+    fn fetch(&self, name: &TargetName, target: &Target) -> Result<TargetStream<T::Stream>, Error>
+        ensures begun { IfOk result (IsStreamOf T.refuses T.serves T.Stream.yields T.Stream.can_poll (documents_of self.now) (transport_of self.now) (targets_base_of self.now) name.now (target_doc target.now)) }
+        ensures refused { IfErr result (λ e. (e ≡ Error.Memory) ⊎ IsUnfetched T.refuses T.serves T.Stream.yields T.Stream.can_poll (documents_of self.now) (transport_of self.now) (targets_base_of self.now) name.now (target_doc target.now) e) }
+    {
+        let digest = target.hashes.sha256.as_slice();
+        let prefixed = self.loaded.root().signed.consistent_snapshot;
+        let file = match file_name(self.alloc, name.resolved(), digest, prefixed) {
+            Ok(file) => file,
+            Err(_) => return Err(Error::Memory),
+        };
+        let base = &self.targets_base_url;
+        match fetch_target(
+            self.alloc,
+            &self.transport,
+            base,
+            file.as_str(),
+            target.length,
+            digest,
+        ) {
+            Ok(stream) => Ok(stream),
+            Err(error) => Err(unfetched(file, error)),
+        }
+    }
+
+    // What `read_target` answers.
+    pub(crate) fn open_target(
+        &mut self,
+        name: &TargetName,
+    ) -> Result<Option<TargetStream<T::Stream>>, Error>
+        ensures reads { Reads T.refuses T.serves T.Stream.yields T.Stream.can_poll K.keeps self.old name.now result (keeper_of self.new) }
+        ensures kept { IsKept self.old self.new }
+    {
+        if let Err(error) = self.be_in_time() {
+            return Err(error);
+        }
+        match self.find(name) {
+            Ok(None) => Ok(None),
+            Ok(Some(target)) => match self.fetch(name, target) {
+                Ok(stream) => Ok(Some(stream)),
+                Err(error) => Err(error),
+            },
+            Err(error) => Err(error),
+        }
+    }
+
+    /// The future of a stream of the target of this name (TUF specification 5.7), or of none where no document that the search comes to lists
+    /// it. The stream gives no more bytes than are listed, and ends without an error only where they have the digest that is listed.
+    ///
+    /// Where expiry counts, the keeper first notes the time, which must be before the earliest expiry of root, timestamp, snapshot and
+    /// targets (`ExpiredMetadata`, with the first of these roles that has it). `JoinUrl` is where the name of the file can't be joined to the
+    /// URL of the targets, `InvalidTargetName` where it leads out of it, `Transport` where it can't be fetched.
+    pub fn read_target<'a>(&'a mut self, name: &'a TargetName) -> ReadTarget<'a, T, K, C>
+        ensures lent { (repository_in result).ghost_name ≡ self.entry.ghost_name }
+        ensures begins { (repository_in result).now ≡ self.old }
+        ensures named { name_in result ≡ name.now }
+    {
+        ReadTarget {
+            repository: self,
+            name,
+        }
+    }
+}
+
+/// The future of `Repository::read_target`.
+#[derive(Drop)]
+pub struct ReadTarget<'a, T, K, C> {
+    repository: &'a mut Repository<T, K, C>,
+    name: &'a TargetName,
+}
+
+impl<T: Transport, K: Keeper, C: Clock + Drop> Future for ReadTarget<'_, T, K, C> {
+    type Output = Result<Option<TargetStream<T::Stream>>, Error>;
+
+    ghost gives = { λ m r. (next : K) × Reads T.refuses T.serves T.Stream.yields T.Stream.can_poll K.keeps m.repository.now m.name.now r next };
+
+    fn poll(&mut self, _cx: &mut Context<'_>) -> Poll<Self::Output>
+        ensures value { IfReady result (λ r. (next : K) × Reads T.refuses T.serves T.Stream.yields T.Stream.can_poll K.keeps (repository_in self.old).now (name_in self.old) r next) }
+        ensures reads { IfReady result (λ r. Reads T.refuses T.serves T.Stream.yields T.Stream.can_poll K.keeps (repository_in self.old).now (name_in self.old) r (keeper_of (repository_in self.new).now)) }
+        ensures again { OnPending result ⊤ }
+        ensures same { OnPending result ((x : _)
+            → ((next : K) × Reads T.refuses T.serves T.Stream.yields T.Stream.can_poll K.keeps (repository_in self.new).now (name_in self.new) x next)
+            → ((next : K) × Reads T.refuses T.serves T.Stream.yields T.Stream.can_poll K.keeps (repository_in self.old).now (name_in self.old) x next)) }
+        ensures registered { OnPending result (Covers _cx.new (λ _. ⊥)) }
+        ensures kept { Keeps _cx.old _cx.new }
+        ensures lent { (repository_in self.new).ghost_name ≡ (repository_in self.old).ghost_name }
+    {
+        Poll::Ready(self.repository.open_target(self.name))
+    }
+}
