@@ -8,22 +8,28 @@ pub mod files;
 mod program;
 pub mod schema;
 pub mod sign;
+mod waiting;
 
 pub use bytes::Bytes;
 pub use error::Error;
-pub use futures::Future;
 pub use futures::task::{Context, Poll};
+pub use futures::{Future, Stream};
 pub use jiff;
 pub use program::run;
+pub use tokio::runtime::LocalRuntime;
 pub use tough_base::{
     FileKind, Files, FilesError, MemoryFiles, NameError, OsFiles, SafeUrlPath, TargetName,
     encode_filename,
 };
 pub use tough_client::{
     Act, Answer, Ask, Clock, Core, DirStore, DocumentName, Entry, ExpirationEnforcement, Fault,
-    FixedClock, Keeper, Limits, ListedVersion, Load, MemoryStore, Receipt, Refusal, Repository,
-    RepositoryLoader, Request, SnapshotVersions, StepError, Store, StoreError, SystemClock,
-    TimestampVersions, Tip, Unset, Vault, drive,
+    FixedClock, Keeper, Limits, ListedVersion, Load, LoadParts, LoadRun, Loaded, MemoryStore,
+    Prefix, ReadTarget, Receipt, Received, Refusal, Repository, RepositoryLoader, RepositoryParts,
+    Request, Result, SaveTarget, SnapshotVersions, StepError, Store, StoreError, SystemClock,
+    TargetStream, TimestampVersions, Tip, Unset, UpdateError, Vault, drive, finish,
+};
+pub use tough_http::{
+    DefaultStream, DefaultTransport, HttpStream, HttpTransport, HttpTransportBuilder,
 };
 pub use tough_net::{
     AnswerClass, Cause, DigestCheck, FileStream, FilesystemTransport, HttpError, IntoVec,
@@ -32,3 +38,4 @@ pub use tough_net::{
     fetch_sha256,
 };
 pub use url::Url;
+pub use waiting::drive_on;

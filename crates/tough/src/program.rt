@@ -7,14 +7,18 @@ ghost use Rattle.tough_update.specs.Stages.{LoadedDoc};
 ghost use Rattle.tough_update.specs.View.{loaded_doc};
 ghost use Rattle.tough.specs.Program.{IsVouchedFor, version_line, versions_text};
 
-use crate::Error;
+use crate::{Error, drive_on};
 use std::alloc::{AllocError, AllocGlobal, Global};
 use std::io::{self, Write};
+use std::net::Net;
 use std::num::NonZeroU64;
 use std::random::RandomSource;
+use std::sync::Wait;
 use std::{fs, rt};
-use tough_client::{DirStore, Repository, RepositoryLoader, SystemClock, Vault, drive};
-use tough_net::FilesystemTransport;
+use tokio::runtime::LocalRuntime;
+use tough_http::DefaultTransport;
+use tough_load::{DirStore, Loaded, RepositoryLoader, SystemClock, Vault};
+use tough_net::Transport;
 use tough_schema::DemoVerify;
 use url::{ParseError, Url};
 
@@ -55,21 +59,22 @@ fn url(alloc: Global, word: &str) -> Result<Url, Fault> {
     }
 }
 
-// Loads a repository from files into a folder.
-fn load<R>(
+// Loads a repository into a folder, over a transport that the runtime serves.
+fn load_by<R, T>(
     rt: &R,
+    runtime: &mut LocalRuntime,
+    transport: T,
     root: &str,
-    metadata: &str,
-    targets: &str,
+    metadata: Url,
+    targets: Url,
     store: &str,
-) -> Result<Repository, Fault>
+) -> Result<Loaded, Fault>
 where
-    R: rt::Files + rt::Clock + RandomSource + AllocGlobal + Clone + Drop,
+    R: rt::Files + Wait + rt::Clock + RandomSource + AllocGlobal + Clone + Drop,
+    T: Transport,
     ensures { IfOk result (λ l. IsVouchedFor (loaded_doc l)) }
 {
     let alloc = rt.alloc();
-    let metadata = url(alloc, metadata)?;
-    let targets = url(alloc, targets)?;
     let bytes = match fs::read(rt, root) {
         Ok(bytes) => bytes,
         Err(error) => return Err(Fault::FileRead(error)),
@@ -77,21 +82,40 @@ where
     let folder = String::from_str(alloc, store)?;
     let mut vault = Vault::new(alloc, DirStore::new(rt.clone()?, folder));
     let loader = RepositoryLoader::new(alloc, bytes.as_slice(), metadata, targets)
-        .transport(FilesystemTransport::new(rt.clone()?))
+        .transport(transport)
         .verifier(DemoVerify)
         .clock(SystemClock::new(rt.clone()?))
         .keeper(&mut vault);
-    let mut load = match loader.load() {
+    let load = match loader.load() {
         Ok(load) => load,
-        Err(error) => return Err(Fault::Load(error, None)),
+        Err(error) => return Err(Fault::Load(Error::from(error), None)),
     };
-    let outcome = drive(rt, &mut load);
+    let (outcome, load) = match drive_on(rt, runtime, load) {
+        Ok(both) => both,
+        Err(error) => return Err(Fault::Run(error)),
+    };
     drop(load);
     match outcome {
-        Ok(Ok(loaded)) => Ok(loaded),
-        Ok(Err(error)) => Err(Fault::Load(error, vault.into_store().into_fault())),
-        Err(error) => Err(Fault::Run(error)),
+        Ok(loaded) => Ok(loaded),
+        Err(error) => Err(Fault::Load(Error::from(error), vault.into_store().into_fault())),
     }
+}
+
+// Loads a repository over files or HTTP into a folder.
+fn load<R>(rt: &R, root: &str, metadata: &str, targets: &str, store: &str) -> Result<Loaded, Fault>
+where
+    R: rt::Files + Net + Wait + rt::Clock + RandomSource + AllocGlobal + Clone + Drop,
+    ensures { IfOk result (λ l. IsVouchedFor (loaded_doc l)) }
+{
+    let alloc = rt.alloc();
+    let metadata = url(alloc, metadata)?;
+    let targets = url(alloc, targets)?;
+    let mut runtime = match LocalRuntime::new(rt) {
+        Ok(runtime) => runtime,
+        Err(error) => return Err(Fault::Run(error)),
+    };
+    let transport = DefaultTransport::new(rt.clone()?, runtime.handle().clone()?)?;
+    load_by(rt, &mut runtime, transport, root, metadata, targets, store)
 }
 
 // A role and its version.
@@ -102,7 +126,7 @@ fn print_version<O: Write>(out: &mut O, role: &str, version: NonZeroU64) -> io::
 }
 
 // The versions of what was loaded.
-fn print<O: Write>(out: &mut O, loaded: &Repository) -> io::Result<()>
+fn print<O: Write>(out: &mut O, loaded: &Loaded) -> io::Result<()>
     ensures { OnOk result (Appends (O.contents out.old) (O.contents out.new) (versions_text (loaded_doc loaded.now))) }
 {
     print_version(out, "root", loaded.root().signed.version)?;
@@ -125,7 +149,7 @@ fn tell<E: Write>(err: &mut E, fault: &Fault, root: &str, store: &str) -> io::Re
 // Runs the words, and tells whether that succeeded.
 fn work<R, O, E>(rt: &R, words: &[String], out: &mut O, err: &mut E) -> io::Result<bool>
 where
-    R: rt::Files + rt::Clock + RandomSource + AllocGlobal + Clone + Drop,
+    R: rt::Files + Net + Wait + rt::Clock + RandomSource + AllocGlobal + Clone + Drop,
     O: Write,
     E: Write,
     ensures { IfOk result (λ done. done ≡ true → (l : LoadedDoc) × IsVouchedFor l × Appends (O.contents out.old) (O.contents out.new) (versions_text l)) }
@@ -159,12 +183,12 @@ where
 
 /// Runs the program on its words, without its name, over two writers, and answers its status: 0, or 1 where it failed.
 ///
-/// `load ROOT METADATA TARGETS STORE` loads the repository whose metadata and targets lie at the two URLs (of the scheme `file`), from the
+/// `load ROOT METADATA TARGETS STORE` loads the repository whose metadata and targets lie at the two URLs (of the scheme `file` or `http`), from the
 /// root in the file ROOT into the folder STORE, and prints the versions of its root, timestamp, snapshot and targets, a line each. A fault
 /// is a line on `err`. Other words print how the program is used there. Each run first says there that its verifier proves nothing.
 pub fn run<R, O, E>(rt: &R, words: &[String], out: &mut O, err: &mut E) -> u8
 where
-    R: rt::Files + rt::Clock + RandomSource + AllocGlobal + Clone + Drop,
+    R: rt::Files + Net + Wait + rt::Clock + RandomSource + AllocGlobal + Clone + Drop,
     O: Write,
     E: Write,
     ensures status { result ≤ 1 }

@@ -1,4 +1,4 @@
-//! The program `tough`: loads a repository from files.
+//! The program `tough`: loads a repository over files or HTTP.
 #![tactic(auto)]
 
 use std::process::ExitCode;
