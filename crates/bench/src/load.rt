@@ -140,7 +140,6 @@ fn load<T: Transport, K: Keeper>(
     .verifier(DemoVerify)
     .clock(FixedClock(Timestamp::UNIX_EPOCH))
     .keeper(keeper);
-    let mut load = loader.load()?;
-    drive(rt, &mut load)??;
+    drive(rt, loader.load()?)??;
     Ok(())
 }

@@ -7,8 +7,8 @@ use serde_json::Value;
 use std::alloc::Global;
 use tough::schema::DemoVerify;
 use tough::{
-    Error, ExpirationEnforcement, FixedClock, Limits, MemoryTransport, Repository,
-    RepositoryLoader, TargetName, Vault, drive,
+    Error, ExpirationEnforcement, FixedClock, Limits, Loaded, MemoryTransport, RepositoryLoader,
+    TargetName, Vault, drive,
 };
 use trials_values::case::{flag, list, number, text, text_of_either};
 use url::Url;
@@ -52,7 +52,7 @@ fn run(
     case: &Value,
     load: &Value,
     vault: &mut Vault<Shelf>,
-) -> anyhow::Result<Result<Repository, Error>> {
+) -> anyhow::Result<Result<Loaded, Error>> {
     let alloc = rt.alloc();
     let mut transport = MemoryTransport::in_pieces(alloc, 100);
     serve(alloc, case, &mut transport)?;
@@ -69,8 +69,10 @@ fn run(
     .keeper(vault)
     .limits(limits(load))
     .expiration_enforcement(enforcement(load));
-    let mut load = loader.load()?;
-    Ok(drive(rt, &mut load)?)
+    match drive(rt, loader.load()?)? {
+        Ok(repository) => Ok(Ok(repository.into_parts().documents)),
+        Err(error) => Ok(Err(error)),
+    }
 }
 
 // Adds to what is told what the store holds, and opens a vault on it anew.
@@ -89,7 +91,7 @@ fn reopen(
 // Adds what the searches for these names find, the plain one and the permissive one: the length of the target.
 fn search(
     alloc: Global,
-    repository: &Repository,
+    repository: &Loaded,
     names: &[Value],
     told: &mut String,
 ) -> anyhow::Result<()> {

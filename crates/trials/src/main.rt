@@ -8,6 +8,7 @@
 mod errors;
 mod files;
 mod folder;
+mod http;
 mod judge;
 mod load;
 mod outcome;
@@ -21,6 +22,12 @@ mod vault;
 use crate::judge::misses;
 use anyhow::Result;
 use serde_json::Value;
+use std::alloc::AllocGlobal;
+use std::net::Net;
+use std::random::RandomSource;
+use std::rt::{Clock, Files};
+use std::sync::Wait;
+use std::thread::Threads;
 use std::{env, fs};
 use trials_values::case::text;
 
@@ -34,7 +41,6 @@ fn of_devices(rt: &HostRuntime, call: &str, case: &Value) -> Result<String> {
         "vault" => vault::steps(rt.alloc(), case),
         "DirStore" => folder::play(rt, case),
         "SystemClock::now" => folder::clock(rt, case),
-        "tough" => program::play(rt, case),
         "RetryCore" => retries::play(rt.alloc(), case),
         "Error" => errors::told(rt.alloc(), case),
         "schema::Error" => errors::told_of_schema(rt.alloc(), case),
@@ -44,9 +50,15 @@ fn of_devices(rt: &HostRuntime, call: &str, case: &Value) -> Result<String> {
     }
 }
 
-// What the call of a case answers.
-fn answer(rt: &HostRuntime, case: &Value) -> Result<String> {
+// What the call of a case answers. The program waits by the second runtime.
+fn answer<R>(rt: &HostRuntime, waiting: &R, case: &Value) -> Result<String>
+where
+    R: Files + Net + Threads + Wait + Clock + RandomSource + AllocGlobal + Clone + Drop,
+{
     let (alloc, call) = (rt.alloc(), text(case, "call"));
+    if call == "tough" {
+        return program::play(rt, waiting, case);
+    }
     if let Some(told) = trials_values::answer(alloc, call, case)? {
         return Ok(told);
     }
@@ -60,8 +72,11 @@ fn answer(rt: &HostRuntime, case: &Value) -> Result<String> {
 }
 
 // Answers a case, and tells whether that is what is wanted.
-fn is_answered(rt: &HostRuntime, case: &Value) -> Result<bool> {
-    let told = answer(rt, case)?;
+fn is_answered<R>(rt: &HostRuntime, waiting: &R, case: &Value) -> Result<bool>
+where
+    R: Files + Net + Threads + Wait + Clock + RandomSource + AllocGlobal + Clone + Drop,
+{
+    let told = answer(rt, waiting, case)?;
     let gap = if told.starts_with("\n") { "" } else { " " };
     println!(rt; "{} {}:{gap}{told}", text(case, "call"), text(case, "name"))?;
     match misses(case, told.as_str()) {
@@ -74,14 +89,17 @@ fn is_answered(rt: &HostRuntime, case: &Value) -> Result<bool> {
 }
 
 // Answers the cases of a file.
-fn try_file(rt: &HostRuntime, file: &str) -> Result<()> {
+fn try_file<R>(rt: &HostRuntime, waiting: &R, file: &str) -> Result<()>
+where
+    R: Files + Net + Threads + Wait + Clock + RandomSource + AllocGlobal + Clone + Drop,
+{
     let bytes = fs::read(rt, file)?;
     let read = Value::from_slice(rt.alloc(), bytes.as_slice())?;
     let (mut count, mut others) = (0usize, 0usize);
     if let Some(cases) = read.as_array() {
         for case in cases {
             count = count.saturating_add(1);
-            if !is_answered(rt, case)? {
+            if !is_answered(rt, waiting, case)? {
                 others = others.saturating_add(1);
             }
         }
@@ -92,7 +110,7 @@ fn try_file(rt: &HostRuntime, file: &str) -> Result<()> {
 
 fn main(rt: HostRuntime) -> Result<()> {
     for file in env::args(&rt)?.skip(1) {
-        try_file(&rt, file.as_str())?;
+        try_file(&rt, &rt, file.as_str())?;
     }
     Ok(())
 }

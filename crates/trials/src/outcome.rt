@@ -2,13 +2,10 @@
 
 use std::alloc::{AllocError, Global};
 use tough::schema::{self, Targets};
-use tough::{Cause, Error, Repository, TransportError};
+use tough::{Cause, Error, Loaded, TransportError};
 
 /// What a load came to.
-pub(crate) fn tell(
-    alloc: Global,
-    outcome: &Result<Repository, Error>,
-) -> Result<String, AllocError> {
+pub(crate) fn tell(alloc: Global, outcome: &Result<Loaded, Error>) -> Result<String, AllocError> {
     match outcome {
         Ok(loaded) => {
             let targets = &loaded.targets().signed;
@@ -55,7 +52,7 @@ fn tell_roles(
 }
 
 // Why a load was refused, but for a version that is lower than another.
-fn told(alloc: Global, error: &Error) -> Result<String, AllocError> {
+pub(crate) fn told(alloc: Global, error: &Error) -> Result<String, AllocError> {
     match error {
         Error::ParseTrustedMetadata { .. } => format!(in alloc; "ParseTrustedMetadata"),
         Error::VerifyTrustedMetadata { source } => {
@@ -126,8 +123,24 @@ fn missing(alloc: Global, error: &Error) -> Result<String, AllocError> {
         } => format!(in alloc;
             "SnapshotRoleRollback {role} {old_role_version} in {old_snapshot_version} {new_role_version} in {new_snapshot_version}"
         ),
-        other => format!(in alloc; "{other}"),
+        other => unsaved(alloc, other),
     }
+}
+
+// That a target wasn't saved.
+fn unsaved(alloc: Global, error: &Error) -> Result<String, AllocError> {
+    let name = match error {
+        Error::InvalidTargetName { .. } => "InvalidTargetName",
+        Error::CacheTargetMissing { .. } => "CacheTargetMissing",
+        Error::SaveTargetNotFound { .. } => "SaveTargetNotFound",
+        Error::SaveTargetOutdirCanonicalize { .. } => "SaveTargetOutdirCanonicalize",
+        Error::SaveTargetOutdir { .. } => "SaveTargetOutdir",
+        Error::SaveTargetUnsafePath { .. } => "SaveTargetUnsafePath",
+        Error::DirCreate { .. } => "DirCreate",
+        Error::AbsolutePath { .. } => "AbsolutePath",
+        other => return format!(in alloc; "{other}"),
+    };
+    String::from_str(alloc, name)
 }
 
 // Why a document wasn't verified.

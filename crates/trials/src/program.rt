@@ -1,8 +1,15 @@
 //! Runs of the program over files in a folder of its own, which the case calls `DIR`.
 
+use crate::http::run_beside_server;
 use crate::shelf::held;
 use anyhow::Result;
 use serde_json::Value;
+use std::alloc::AllocGlobal;
+use std::net::Net;
+use std::random::RandomSource;
+use std::rt::{Clock, Files};
+use std::sync::Wait;
+use std::thread::Threads;
 use std::{env, fs, process};
 use trials_values::case::{list, number, text};
 
@@ -25,16 +32,22 @@ fn without_moment(text: &str) -> &str {
     }
 }
 
-// Runs the program on the words of the step, and tells its status and what it wrote on its output and beside it.
-fn run(rt: &HostRuntime, folder: &str, step: &Value) -> Result<String> {
+/// Runs the program on the words of the step, in which `HOST` stands for a server, and tells its status and what it wrote on its output and
+/// beside it.
+pub(crate) fn run<R>(rt: &R, folder: &str, host: &str, step: &Value) -> Result<String>
+where
+    R: Files + Net + Wait + Clock + RandomSource + AllocGlobal + Clone + Drop,
+{
     let alloc = rt.alloc();
     let (mut words, mut out, mut err) = (Vec::new(alloc), Vec::new(alloc), Vec::new(alloc));
     for word in list(step, "words") {
-        words.push(word.as_str().unwrap_or("").replace(alloc, "DIR", folder)?)?;
+        let word = word.as_str().unwrap_or("").replace(alloc, "DIR", folder)?;
+        words.push(word.replace(alloc, "HOST", host)?)?;
     }
     let status = tough::run(rt, words.as_slice(), &mut out, &mut err);
     let out = String::from_utf8(out)?;
     let err = String::from_utf8(err)?.replace(alloc, folder, "DIR")?;
+    let err = err.replace(alloc, host, "HOST")?;
     Ok(format!(in alloc; "{status}\n{out}{}", without_moment(err.as_str()))?)
 }
 
@@ -50,11 +63,15 @@ fn names(rt: &HostRuntime, at: &str) -> Result<String> {
 }
 
 // Takes a step below the folder, and tells what it came to.
-fn take(rt: &HostRuntime, folder: &str, step: &Value) -> Result<String> {
+fn take<R>(rt: &HostRuntime, waiting: &R, folder: &str, step: &Value) -> Result<String>
+where
+    R: Files + Net + Threads + Wait + Clock + RandomSource + AllocGlobal + Clone + Drop,
+{
     let alloc = rt.alloc();
     let at = format!(in alloc; "{folder}/{}", text(step, "path"))?;
     match text(step, "step") {
-        "run" => run(rt, folder, step),
+        "run" => run(waiting, folder, "HOST", step),
+        "run over HTTP" => run_beside_server(rt, waiting, folder, step),
         "names" => names(rt, at.as_str()),
         "held" => held(alloc, fs::read(rt, at.as_str())?.as_slice()),
         "make folder" => {
@@ -82,15 +99,18 @@ fn prepare(rt: &HostRuntime, folder: &str, case: &Value) -> Result<()> {
     Ok(())
 }
 
-/// Takes the steps of a case in a new folder with the case's files, and tells what each came to.
-pub(crate) fn play(rt: &HostRuntime, case: &Value) -> Result<String> {
+/// Takes the steps of a case in a new folder with the case's files, and tells what each came to. The program waits by the second runtime.
+pub(crate) fn play<R>(rt: &HostRuntime, waiting: &R, case: &Value) -> Result<String>
+where
+    R: Files + Net + Threads + Wait + Clock + RandomSource + AllocGlobal + Clone + Drop,
+{
     let alloc = rt.alloc();
     let number = process::id(rt.process());
     let folder = format!(in alloc; "{}/tough_trials_{number}", env::temp_dir(rt)?.display())?;
     let mut told = String::new(alloc);
     prepare(rt, folder.as_str(), case)?;
     for step in list(case, "steps") {
-        let line = take(rt, folder.as_str(), step)?;
+        let line = take(rt, waiting, folder.as_str(), step)?;
         told.push_str(format!(in alloc; "\n  {line}")?.as_str())?;
     }
     fs::remove_dir_all(rt, folder.as_str())?;

@@ -7,7 +7,9 @@ use jiff::Timestamp as Instant;
 use serde_json::Value;
 use std::alloc::{AllocError, Global};
 use tough::schema::DemoVerify;
-use tough::{Act, Answer, Ask, Core, Fault, Limits, StepError, TransportError, TransportErrorKind};
+use tough::{
+    Act, Answer, Ask, Core, Error, Fault, Limits, StepError, TransportError, TransportErrorKind,
+};
 use trials_values::case::{list, text};
 
 // A step on the store.
@@ -48,7 +50,8 @@ fn asked(alloc: Global, core: &Core) -> Result<String, AllocError> {
 fn ended(alloc: Global, core: Core) -> Result<String, AllocError> {
     match core.into_outcome() {
         None => format!(in alloc; "not ended"),
-        Some(outcome) => tell(alloc, &outcome),
+        Some(Ok(loaded)) => tell(alloc, &Ok(loaded)),
+        Some(Err(error)) => tell(alloc, &Err(Error::from(error))),
     }
 }
 

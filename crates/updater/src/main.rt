@@ -24,13 +24,13 @@ fn main(rt: HostRuntime) -> anyhow::Result<()> {
     let targets = Url::parse(alloc, targets.as_str())?;
     let folder = String::from_str(alloc, store.as_str())?;
     let mut vault = Vault::new(alloc, DirStore::new(rt.clone()?, folder));
-    let mut load = RepositoryLoader::new(alloc, trusted.as_slice(), metadata, targets)
+    let load = RepositoryLoader::new(alloc, trusted.as_slice(), metadata, targets)
         .transport(FilesystemTransport::new(rt.clone()?))
         .verifier(DemoVerify) // put your own verifier here: this one proves nothing
         .clock(SystemClock::new(rt.clone()?))
         .keeper(&mut vault)
         .load()?;
-    let repository = drive(&rt, &mut load)??;
+    let repository = drive(&rt, load)??;
     let name = TargetName::from_str(alloc, name.as_str())?;
     let target = repository
         .targets()
