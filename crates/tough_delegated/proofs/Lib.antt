@@ -1,3 +1,4 @@
 pub mod lemmas
 pub mod Listing
 pub mod Turning
+pub mod Tallying

@@ -4,3 +4,4 @@ pub mod Once
 pub mod Under
 pub mod Listed
 pub mod Full
+pub mod Tallied

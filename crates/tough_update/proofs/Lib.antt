@@ -11,3 +11,5 @@ pub mod Prefixes
 pub mod History
 pub mod Noting
 pub mod Counting
+pub mod Bounds
+pub mod Keeping

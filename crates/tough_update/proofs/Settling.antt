@@ -1,5 +1,5 @@
 -- How a turn of the program ends.
-use Rattle.std.proofs.Common.{◌≡◌, List, ℕ, ℤ, Bool, Some, None, Result, Ok, Err, refl, sym, ap, ◌∙◌, inl, inr}
+use Rattle.std.proofs.Common.{◌≡◌, ◌⊎◌, List, ℕ, ℤ, Bool, Some, None, Result, Ok, Err, refl, sym, ap, ◌∙◌, inl, inr}
 use Rattle.tough_keys.specs.Same.{Verifies}
 use Rattle.tough_update.specs.Failure.{Failure, ParseTrustedMetadata, VerifyTrustedMetadata, ParseMetadata, MaxUpdatesExceeded, ParseUrl, JoinUrl, Transport, InvalidPath, Checked, DatastoreOpen, DatastoreCreate, DatastoreRemove, Memory, IsRefused}
 use Rattle.tough_update.specs.Stages.{StageDoc, CoreDoc, Done}
@@ -43,6 +43,12 @@ pub goes : (v : Verifies) (old : CoreDoc) (trusted : List ℕ) (stage : StageDoc
 goes v old trusted stage a new t s (inl h) =
     inl (ap (λ x. record { setting = old.setting; stage = x }) (h ∙ (ap (λ x. settled (stage_after v (record { trusted = x; limits = old.setting.limits; enforced = old.setting.enforced }) stage a)) t ∙ ap (λ x. settled (stage_after v old.setting x a)) s)))
 goes v old trusted stage a new t s (inr h) = inr (ap (λ x. record { setting = old.setting; stage = x }) h)
+
+-- the same, where memory may be wanting for what is counted
+pub counted-on : (r : Result StageDoc Failure) (x y : StageDoc) → Settles r x → (y ≡ x) ⊎ (y ≡ Done (Err Memory)) → Settles r y
+counted-on r x y (inl h) (inl e) = inl (e ∙ h)
+counted-on r x y (inr h) (inl e) = inr (e ∙ h)
+counted-on r x y h (inr e) = inr e
 
 -- a stage that is no end
 pub unended : (s : Stage) → ((o : Result Loaded UpdateError) → s ≡ in_stage.Done o → ⊥) → None ≡ ended (stage_doc s)

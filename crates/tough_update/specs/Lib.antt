@@ -15,3 +15,5 @@ pub mod Trusted
 pub mod Runs
 pub mod Loadable
 pub mod Asking
+pub mod Counts
+pub mod Counted

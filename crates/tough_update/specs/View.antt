@@ -44,6 +44,7 @@ use Rattle.tough_update.specs.declared.stage.Pending.TheVariants as pending
 use Rattle.tough_update.specs.declared.stage.Stage.{Stage}
 use Rattle.tough_update.specs.declared.stage.Stage.TheVariants as in_stage
 use Rattle.tough_update.specs.declared.turns.Setting.{Setting}
+use Rattle.tough_update.specs.declared.counts.Counts.{Counts}
 use Rattle.tough_update.specs.declared.machine.Core.{Core}
 use Rattle.tough_update.specs.Requests.{RequestDoc}
 use Rattle.tough_update.specs.Stages.{WalkDoc, BaseDoc, KnownDoc, ReceivedDoc, RolesDoc, LoadedDoc, WantedDoc, PendingDoc, StageDoc, SettingDoc, CoreDoc}
@@ -166,6 +167,10 @@ stage_doc in_stage.Taken = at.Taken
 
 abbrev pub setting_doc : Setting → SettingDoc
 setting_doc s = record { trusted = s.trusted.now; limits = s.limits; enforced = enforces s.enforcement }
+
+-- how much it fetched and keeps
+abbrev pub counts_of : Core → Counts
+counts_of c = c.counts
 
 abbrev pub core_doc : Core → CoreDoc
 core_doc c = record { setting = record { trusted = c.trusted.items; limits = c.limits; enforced = enforces c.enforcement }; stage = stage_doc c.stage }

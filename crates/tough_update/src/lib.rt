@@ -1,6 +1,7 @@
 //! The client's workflow (TUF specification 5): from the bytes of a trusted root to what it vouches for.
 #![tactic(auto)]
 
+mod counts;
 mod error;
 mod judge;
 pub mod laws;
@@ -13,6 +14,7 @@ mod stage;
 mod turns;
 mod walk;
 
+pub use counts::Counts;
 pub use error::UpdateError;
 pub use limits::Limits;
 pub use machine::Core;

@@ -2,12 +2,14 @@
 
 ghost use Rattle.std.specs.Prelude.{◌≡◌, IsSome, IsNone, option_map, option_copied};
 ghost use Rattle.tough_vault.specs.Checks.{enforces};
+ghost use Rattle.tough_update.specs.Counts.{none_yet, with_fetch, with_tree};
 ghost use Rattle.tough_update.specs.Stages as at;
 ghost use Rattle.tough_update.specs.Machine.{question, stage_after};
 ghost use Rattle.tough_update.specs.Failure.{Gives};
-ghost use Rattle.tough_update.specs.View.{core_doc, stage_doc, answer_doc, question_of, setting_doc, outcome_doc};
+ghost use Rattle.tough_update.specs.View.{core_doc, counts_of, stage_doc, answer_doc, question_of, setting_doc, outcome_doc};
 ghost use Rattle.tough_update.specs.Promises.{Settles, Goes, fits, ended};
 
+use crate::counts::{Counts, count_tree};
 use crate::error::UpdateError;
 use crate::limits::Limits;
 use crate::request::{Answer, Ask};
@@ -26,6 +28,7 @@ pub struct Core {
     limits: Limits,
     enforcement: ExpirationEnforcement,
     stage: Stage,
+    counts: Counts,
 }
 
 // What an answer makes of a stage.
@@ -74,13 +77,20 @@ fn next<V: Verify>(setting: &Setting<'_>, stage: Stage, answer: Answer, verifier
 impl Core {
     /// An update from a root that is trusted, given as its bytes.
     pub fn new(trusted: Vec<u8>, limits: Limits, enforcement: ExpirationEnforcement) -> Core
-        ensures { core_doc result ≡ record { setting = record { trusted = trusted.items; limits = limits; enforced = enforces enforcement }; stage = at.Moment } }
+        ensures core { core_doc result ≡ record { setting = record { trusted = trusted.items; limits = limits; enforced = enforces enforcement }; stage = at.Moment } }
+        ensures counts { counts_of result ≡ none_yet }
     {
         Core {
             trusted,
             limits,
             enforcement,
             stage: Stage::Moment,
+            counts: Counts {
+                roots: 0,
+                delegated: 0,
+                kept: 0,
+                entries: 0,
+            },
         }
     }
 
@@ -108,7 +118,8 @@ impl Core {
 
     /// Takes an answer. One of a kind that isn't asked for changes nothing. Where memory is wanting, the update ends with `Memory`.
     pub fn answer<V: Verify>(&mut self, alloc: Global, verifier: &V, answer: Answer)
-        ensures { Goes (V.verifies verifier.now) (core_doc self.old) (answer_doc answer) (core_doc self.new) }
+        ensures goes { Goes (V.verifies verifier.now) (core_doc self.old) (answer_doc answer) (core_doc self.new) }
+        ensures counted { counts_of self.new ≡ with_tree (core_doc self.new).stage (with_fetch (core_doc self.old).stage (answer_doc answer) (counts_of self.old)) }
     {
         let stage = mem::replace(&mut self.stage, Stage::Done(Err(UpdateError::Memory)));
         let setting = Setting {
@@ -117,7 +128,18 @@ impl Core {
             limits: self.limits,
             enforcement: self.enforcement,
         };
-        self.stage = next(&setting, stage, answer, verifier);
+        let counts = self.counts.with_fetch(&stage, &answer);
+        let stage = next(&setting, stage, answer, verifier);
+        let (counts, stage) = count_tree(alloc, counts, stage);
+        self.counts = counts;
+        self.stage = stage;
+    }
+
+    /// How much was fetched by now, and how much of it stands in the tree of delegated roles.
+    pub fn counts(&self) -> Counts
+        ensures { result ≡ counts_of self.now }
+    {
+        self.counts
     }
 
     /// How the update ended, once it has.
@@ -135,6 +157,7 @@ impl Core {
         ensures done { option_map outcome_doc result ≡ ended (core_doc self.old).stage }
         ensures taken { IsSome result → core_doc self.new ≡ record { setting = (core_doc self.old).setting; stage = at.Taken } }
         ensures not_yet { IsNone result → core_doc self.new ≡ core_doc self.old }
+        ensures counts { counts_of self.new ≡ counts_of self.old }
     {
         match mem::replace(&mut self.stage, Stage::Taken) {
             Stage::Done(outcome) => Some(outcome),

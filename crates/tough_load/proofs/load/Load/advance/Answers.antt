@@ -26,17 +26,17 @@ returns-clause-goes g c = λ _.
       | in-Moment w ↦
           let asked : question (core_doc c.args.self.now.core) ≡ ask.Moment = search rules in
           rw w.self-is (by-answer g.T.Transport.refuses g.T.Transport.serves g.K.Keeper.keeps g.T.Stream.Stream.yields g.V.Verify.verifies c.args.self.now _ refl refl refl refl
-          (answer_doc c.match-ask.answer) c.requires.idle c.requires.idle (rw asked ((w.now.result.nanosecond, ap answer_doc w.answer-is), refl)) (rw w.self-is at c.answer.ensures))
+          (answer_doc c.match-ask.answer) c.requires.idle c.requires.idle (rw asked ((w.now.result.nanosecond, ap answer_doc w.answer-is), refl)) (rw w.self-is at c.answer.ensures.goes))
       | in-Fetch+in-Err w ↦
           let asked : question (core_doc c.args.self.now.core) ≡ ask.Fetch (request_doc w.in-Fetch.request.now) = search rules in
           rw w.self-is (by-answer g.T.Transport.refuses g.T.Transport.serves g.K.Keeper.keeps g.T.Stream.Stream.yields g.V.Verify.verifies c.args.self.now _ refl refl refl refl
           (answer_doc c.match-ask.answer) c.requires.idle c.requires.idle
           (rw asked (subst (λ a. Fetches g.T.Transport.refuses g.T.Transport.serves c.args.self.now.transport c.args.self.now.base (request_doc w.in-Fetch.request.now) a) (sym (ap answer_doc w.answer-is)) w.in-Err.ensures.refused, refl))
-          (rw w.self-is at c.answer.ensures))
+          (rw w.self-is at c.answer.ensures.goes))
       | in-Step w ↦
           let asked : question (core_doc c.args.self.now.core) ≡ ask.Step (act_of w.in-Step.act) = search rules in
           rw w.self-is (by-answer g.T.Transport.refuses g.T.Transport.serves g.K.Keeper.keeps g.T.Stream.Stream.yields g.V.Verify.verifies c.args.self.now _ refl refl refl refl
           (answer_doc c.match-ask.answer) c.requires.idle c.requires.idle
           (rw asked (subst (λ a. Steps g.K.Keeper.keeps (g.V.Verify.verifies c.args.self.now.verifier) (act_of w.in-Step.act) c.args.self.now.keeper a w.take_step-answer.new.keeper) (sym (ap answer_doc w.answer-is)) w.take_step-answer.ensures))
-          (rw w.self-is at c.answer.ensures))
+          (rw w.self-is at c.answer.ensures.goes))
     ]

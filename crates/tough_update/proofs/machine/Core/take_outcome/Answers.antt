@@ -1,4 +1,4 @@
-use Rattle.std.proofs.Common.{ap, ◌∙◌}
+use Rattle.std.proofs.Common.{refl, ap, ◌∙◌}
 use Rattle.tough_vault.specs.Checks.{enforces}
 use Rattle.tough_update.specs.Promises.{ended}
 use Rattle.tough_update.specs.Stages.{CoreDoc, SettingDoc}
@@ -13,5 +13,6 @@ returns-in_default c =
     record {
       done = unended c.replace.result c.in_default.not-Done ∙ ap (λ s. ended (stage_doc s)) c.replace.ensures.value;
       taken = λ h. cc;
+      counts = refl;
       not_yet = λ h. ap (λ s. let d : CoreDoc = record { setting = setting; stage = stage_doc s } in d) c.replace.ensures.value;
     }

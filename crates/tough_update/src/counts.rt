@@ -1,0 +1,99 @@
+//! How much an update fetched and keeps.
+
+ghost use Rattle.std.specs.Prelude.{◌≡◌, ◌⊎◌, IfOk, Err};
+ghost use Rattle.tough_update.specs.Counts.{one_more, ends_fetch, with_fetch, with_tree};
+ghost use Rattle.tough_update.specs.Failure.{Memory};
+ghost use Rattle.tough_update.specs.Stages.{Done};
+ghost use Rattle.tough_update.specs.View.{stage_doc, answer_doc};
+
+use crate::error::UpdateError;
+use crate::request::Answer;
+use crate::stage::{Stage, Wanted};
+use std::alloc::{AllocError, Global};
+use tough_delegated::Tally;
+
+/// How much an update fetched, and how much of it stands in the tree of delegated roles. After a failure it is what stood there before the
+/// answer that failed, which is counted where it answered a fetch.
+#[derive(Clone, Copy, Debug, PartialEq, Eq, Drop)]
+pub struct Counts {
+    /// The fetches of roots that were answered.
+    pub roots: u64,
+    /// The fetches of delegated documents that were answered.
+    pub delegated: u64,
+    /// The documents of delegated roles that have their place in the tree.
+    pub kept: u64,
+    /// The roles that the targets and these documents list.
+    pub entries: u64,
+}
+
+// One more, up to the largest number.
+fn one_more(count: u64) -> u64
+    ensures { result ≡ one_more count }
+{
+    count.saturating_add(1)
+}
+
+// Whether it answers a fetch.
+fn ends_fetch(answer: &Answer) -> bool
+    ensures { result ≡ ends_fetch (answer_doc answer.now) }
+{
+    match answer {
+        Answer::Bytes(_) | Answer::NotStarted(_) | Answer::Cut(_) => true,
+        Answer::Moment(_) | Answer::Step(_) => false,
+    }
+}
+
+impl Counts {
+    // With the fetch that the answer ends.
+    pub(crate) fn with_fetch(self, stage: &Stage, answer: &Answer) -> Counts
+        ensures { result ≡ with_fetch (stage_doc stage.now) (answer_doc answer.now) self }
+    {
+        match stage {
+            Stage::Fetch(Wanted::Root(_), _) if ends_fetch(answer) => Counts {
+                roots: one_more(self.roots),
+                ..self
+            },
+            Stage::Fetch(Wanted::Role(_, _, _), _) if ends_fetch(answer) => Counts {
+                delegated: one_more(self.delegated),
+                ..self
+            },
+            _ => self,
+        }
+    }
+
+    fn with_tally(self, tally: Tally) -> Counts
+        ensures { result ≡ record self { kept = tally.kept; entries = tally.entries } }
+    {
+        Counts {
+            kept: tally.kept,
+            entries: tally.entries,
+            ..self
+        }
+    }
+
+    // With the tree, where the stage tells of it.
+    fn with_tree(self, alloc: Global, stage: &Stage) -> Result<Counts, AllocError>
+        ensures { IfOk result (λ n. n ≡ with_tree (stage_doc stage.now) self) }
+    {
+        match stage {
+            Stage::Fetch(Wanted::Role(_, roles, _), _) => {
+                Ok(self.with_tally(roles.growth.tally(alloc)?))
+            }
+            Stage::Done(Ok(loaded)) => {
+                Ok(self.with_tally(Tally::of(alloc, &loaded.targets.signed)?))
+            }
+            _ => Ok(self),
+        }
+    }
+}
+
+/// The stage, and the counts with what it tells of the tree; where memory is wanting, the update ends with `Memory`.
+pub(crate) fn count_tree(alloc: Global, counts: Counts, stage: Stage) -> (Counts, Stage)
+    ensures counts { result.0 ≡ with_tree (stage_doc result.1) counts }
+    ensures stage { (stage_doc result.1 ≡ stage_doc stage) ⊎ (stage_doc result.1 ≡ Done (Err Memory)) }
+{
+    match counts.with_tree(alloc, &stage) {
+        Ok(more) => (more, stage),
+        Err(_) => (counts, Stage::Done(Err(UpdateError::Memory))),
+    }
+}
