@@ -5,3 +5,4 @@ pub mod Under
 pub mod Listed
 pub mod Full
 pub mod Tallied
+pub mod Kept

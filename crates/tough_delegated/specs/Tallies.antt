@@ -1,6 +1,6 @@
 -- How many documents stand in a tree as far as it has grown, and how many roles these documents and the targets list
 -- (TUF specification 1.0, section 5.6.7).
-use Rattle.std.specs.Prelude.{ℕ, ◌+◌, List, [], ◌∷◌, length, Option, Some, None}
+use Rattle.std.specs.Prelude.{◌+◌, List, [], ◌∷◌, length, Some, None}
 use Rattle.tough_schema.specs.Whole.{TreeDoc, RoleTree}
 use Rattle.tough_schema.specs.Entries.{entries, documents_below}
 use Rattle.tough_schema.specs.Update.{listed_roles}

@@ -80,18 +80,18 @@ once-first (x ∷ xs) ys loaded h =
 
 -- ---- the names that carry a document
 
-abbrev at_role : RoleTree → List (List ℕ)
+abbrev pub at_role : RoleTree → List (List ℕ)
 at_role (e, None) = []
 at_role (e, Some h) = e.name ∷ carriers_below h.below
 
-abbrev in_roles : List RoleTree → List (List ℕ)
+abbrev pub in_roles : List RoleTree → List (List ℕ)
 in_roles rs = carriers (branches_from rs)
 
-put-carriers : (r : RoleTree) (bs : Branches) → carriers (put_branch r bs) ≡ at_role r ++ carriers bs
+pub put-carriers : (r : RoleTree) (bs : Branches) → carriers (put_branch r bs) ≡ at_role r ++ carriers bs
 put-carriers (e, None) bs = refl
 put-carriers (e, Some h) bs = refl
 
-roles-last : (rs : List RoleTree) (r : RoleTree) → in_roles (rs ++ r ∷ []) ≡ in_roles rs ++ at_role r
+pub roles-last : (rs : List RoleTree) (r : RoleTree) → in_roles (rs ++ r ∷ []) ≡ in_roles rs ++ at_role r
 roles-last [] r = put-carriers r (branches_from []) ∙ append-nil (at_role r)
 roles-last (x ∷ rs) r =
     put-carriers x (branches_from (rs ++ r ∷ [])) ∙ ap (λ l. at_role x ++ l) (roles-last rs r) ∙ sym (append_assoc (at_role x) (in_roles rs) (at_role r))
@@ -160,7 +160,7 @@ inserted-bare n h (f ∷ fs) x y = put-bare (slice_cmp nat_cmp n f.0) f n h fs (
 -- ---- the work
 
 -- the names that carry a document, in the open documents
-abbrev in_open : List OpenDoc → List (List ℕ)
+abbrev pub in_open : List OpenDoc → List (List ℕ)
 in_open [] = []
 in_open (o ∷ os) = (in_open os ++ in_roles o.done) ++ o.role.name ∷ []
 
@@ -176,7 +176,7 @@ abbrev TurnsFine : List (List ℕ) → Turns → Type 0
 TurnsFine xs (all_past h loaded) = Once (xs ++ carriers_below h.below) loaded
 TurnsFine xs (stopped_at o here waiting m loaded) = Once ((xs ++ in_roles o.done) ++ o.role.name ∷ []) loaded × BareRoles o.left × IsBare o.document × IsBare here
 
-abbrev ProgressFine : Progress → Type 0
+abbrev pub ProgressFine : Progress → Type 0
 ProgressFine (wants w m) = Once (in_open w.outer) w.loaded × BareOpen w.outer × IsBare w.here × BareFetched w.fetched
 ProgressFine (grown t) = Distinct (carriers_below t.role)
 
@@ -237,7 +237,7 @@ settle-fine metas (o ∷ outer) h loaded bo k =
     (λ d l n. settle-fine metas outer d l bo.2 n)
 
 -- the work on a list
-abbrev WorkFine : WorkDoc → Type 0
+abbrev pub WorkFine : WorkDoc → Type 0
 WorkFine w = Once (in_open w.outer) w.loaded × BareOpen w.outer × IsBare w.here × BareFetched w.fetched
 
 unfilled : (xs : List (List ℕ)) (ys : List (List ℕ)) (loaded : Names) → ys ≡ [] → Once xs loaded → Once (xs ++ ys) loaded
@@ -260,10 +260,10 @@ kept-fine : (w : WorkDoc) (waiting : List Entry) (h : HeldDoc) → IsBare h → 
 kept-fine w [] h bare k = k
 kept-fine w (e ∷ rest) h bare k = (k.0, k.1, k.2, inserted-bare e.name h w.fetched bare k.3)
 
-taken-fine : (metas : Metas) (w : WorkDoc) (h : HeldDoc) → IsBare h → WorkFine w → ProgressFine (taken metas w h)
+pub taken-fine : (metas : Metas) (w : WorkDoc) (h : HeldDoc) → IsBare h → WorkFine w → ProgressFine (taken metas w h)
 taken-fine metas w h bare k = let v = with_taken w w.waiting h in by_look-fine metas v (look metas v.loaded v.waiting) (kept-fine w w.waiting h bare k)
 
-begun-fine : (metas : Metas) (top : HeldDoc) → IsBare top → ProgressFine (begun metas top)
+pub begun-fine : (metas : Metas) (top : HeldDoc) → IsBare top → ProgressFine (begun metas top)
 begun-fine metas top bare = by_look-fine metas (first_work top) (look metas no_names (listed_roles top.below))
     ((tt, tt), tt, bare, tt)
 

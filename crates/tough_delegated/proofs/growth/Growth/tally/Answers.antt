@@ -1,14 +1,11 @@
-use Rattle.std.proofs.Common.{◌≡◌, ◌++◌, ℕ, List, length, ap, sym, ◌∙◌}
+use Rattle.std.proofs.Common.{◌≡◌, ℕ, length, ap, sym, ◌∙◌}
 use Rattle.std.proofs.lemmas.List.{map-append, length-map}
 use Rattle.tough_schema.specs.Update.{listed_roles}
 use Rattle.tough_schema.specs.Whole.{role_tree, held_doc}
-use Rattle.tough_schema.specs.Tree.{Entry}
 use Rattle.tough_schema.specs.declared.delegations.DelegatedRole.{DelegatedRole}
-use Rattle.tough_delegated.specs.Growing.{OpenDoc}
-use Rattle.tough_delegated.specs.declared.turns.Open.{Open}
 use Rattle.tough_delegated.specs.declared.tally.Tally.{Tally}
-use Rattle.tough_delegated.specs.Tallies.{plus, tally_opens, tally_work}
-use Rattle.tough_delegated.specs.View.{open_doc, opens_doc, work_doc, listed_in, entries_of}
+use Rattle.tough_delegated.specs.Tallies.{plus, tally_opens}
+use Rattle.tough_delegated.specs.View.{open_doc, opens_doc, listed_in}
 use Rattle.tough_delegated.proofs.Listing.{listed-held}
 use Rattle.tough_delegated.proofs.Tallying.{opens-append}
 use Rattle.tough_delegated.proofs.growth.Growth.tally.Goals as goal
