@@ -1,5 +1,5 @@
 -- How far what an update counts may go.
-use Rattle.std.specs.Prelude.{◌≡◌, ◌≤◌, ◌<◌, ◌⊎◌, ℕ, ◌+◌, ◌-◌, ◌^◌, ◌==◌, List, [], length, min, Option, Some, None, Bool, true, false, IsTrue, Result, Ok, Err, nat_lt, not, if◌then◌else◌}
+use Rattle.std.specs.Prelude.{◌≡◌, ◌≤◌, ◌<◌, ℕ, ◌+◌, ◌-◌, ◌^◌, ◌==◌, List, [], length, Option, Some, None, Bool, true, false, IsTrue, Result, Ok, Err, nat_lt, not, if◌then◌else◌}
 use Rattle.std.proofs.Common.{refl, sym, ◌∙◌, ap, subst, inl, inr, arith}
 use Rattle.std.proofs.Math.Nat.{min-le_left}
 use Rattle.std.proofs.lemmas.Bool.{ltb-true}
@@ -18,7 +18,7 @@ use Rattle.tough_delegated.specs.Bare.{held_as}
 use Rattle.tough_delegated.specs.Tallies.{tally_work}
 use Rattle.tough_delegated.proofs.lemmas.Tallied.{IsKeyed, bare-keyed, WorkKeyed, ProgressGrows, begun-grows, taken-grows}
 use Rattle.tough_update.specs.declared.counts.Counts.{Counts}
-use Rattle.tough_update.specs.Failure.{Failure, ParseMetadata, MaxUpdatesExceeded, Checked, Memory}
+use Rattle.tough_update.specs.Failure.{Failure, ParseMetadata, MaxUpdatesExceeded, Checked}
 use Rattle.tough_update.specs.Walk.{holds_json, if_read, first_root, next_root}
 use Rattle.tough_update.specs.Requests.{RequestDoc, root_request, timestamp_request}
 use Rattle.tough_update.specs.Rotation.{is_rotated}
@@ -28,14 +28,14 @@ use Rattle.tough_update.specs.Stages.{WalkDoc, BaseDoc, KnownDoc, WantedDoc, Pen
 use Rattle.tough_update.specs.Stages as at
 use Rattle.tough_update.specs.Answered.{AnswerDoc}
 use Rattle.tough_update.specs.Answered as got
-use Rattle.tough_update.specs.Machine.{answered, walked, base_of, walk_ended, want_snapshot, known_of, want_targets, read_wanted, after, settled, stage_after}
+use Rattle.tough_update.specs.Machine.{walked, base_of, walk_ended, want_snapshot, known_of, want_targets, read_wanted, after, stage_after}
 use Rattle.tough_update.specs.Promises.{Goes}
-use Rattle.tough_update.specs.Runs.{IsFresh, EndsWalk}
 use Rattle.tough_update.specs.Counts.{none_yet, one_more, ends_fetch, with_fetch, with_tree}
-use Rattle.tough_update.specs.Counted.{Counted, FetchesFew, KeepsFew}
+use Rattle.tough_update.specs.Counted.{Counted, FetchesFew, KeepsAll}
 use Rattle.tough_update.specs.Counted as counted
 use Rattle.tough_update.proofs.Turning.{Fine, unless-fine, if-fine, and_then-fine, waits, keeps-answer}
 use Rattle.tough_update.proofs.Sound.{next-fine, judged-ok}
+use Rattle.tough_update.proofs.Keeping.{kept_listed}
 
 one-more : (n : ℕ) → one_more n ≤ n + 1
 one-more n = min-le_left (n + 1) (2 ^ 64 - 1)
@@ -287,5 +287,5 @@ bounded v c n (counted.turned b d k a h g) = goes-bounded v b d k a (bounded v b
 pub fetches_few : (v : Verifies) (c : CoreDoc) (n : Counts) → Counted v c n → FetchesFew c n
 fetches_few v c n h = let t = late-at v c.setting n c.stage (bounded v c n h) in record { roots = t.0; delegated = t.1 }
 
-pub keeps_few : (v : Verifies) (c : CoreDoc) (n : Counts) (l : LoadedDoc) → Counted v c n → c.stage ≡ at.Done (Ok l) → KeepsFew l n
-keeps_few v c n l h is = let t = subst (Bounded v c.setting n) is (bounded v c n h) in record { kept = t.1; entries = t.2 }
+pub keeps_all : (v : Verifies) (c : CoreDoc) (n : Counts) (l : LoadedDoc) → Counted v c n → c.stage ≡ at.Done (Ok l) → KeepsAll l n
+keeps_all v c n l h is = let t = subst (Bounded v c.setting n) is (bounded v c n h) in record { kept = t.1; few = kept_listed v c n l h is; entries = t.2 }

@@ -1,127 +1,226 @@
--- That a trusted tree has at most as many delegated documents as the snapshot lists names.
-use Rattle.std.specs.Prelude.{◌≡◌, ◌≤◌, ⊤, ℕ, suc, ◌+◌, List, [], ◌∷◌, ◌++◌, length, map, codes, Option, Some, None, Bool, true, false, ◌||◌}
-use Rattle.std.proofs.Common.{refl, sym, ◌∙◌, ap, subst, cond, arith}
-use Rattle.std.specs.Map.{lookup, remove_entry}
-use Rattle.std.specs.Str.{bytes_eq}
-use Rattle.std.proofs.lemmas.List.{append_cancel_right, length-append, map-append}
-use Rattle.std.proofs.lemmas.List.Elements.{filter_map-append}
-use Rattle.std.proofs.lemmas.Slice.Eq.{bytes_eq-Decides}
+-- That an update keeps at most as many delegated documents as the snapshot lists names.
+use Rattle.std.specs.Prelude.{◌≡◌, ◌≤◌, ◌⊎◌, ⊤, ℕ, ◌+◌, ◌-◌, ◌^◌, ◌==◌, List, [], length, Option, Some, None, Bool, true, false, Result, Ok, Err, nat_lt, not, if◌then◌else◌}
+use Rattle.std.proofs.Common.{refl, sym, ◌∙◌, ap, subst, inl, inr, arith}
 use Rattle.tough_keys.specs.Same.{Verifies}
 use Rattle.tough_roles.specs.Signature.{SignedDoc}
-use Rattle.tough_roles.specs.Timestamp.{MetafileDoc}
-use Rattle.tough_vault.specs.Documents.{metafile_in}
-use Rattle.tough_schema.specs.Delegations.{DelegationsDoc}
-use Rattle.tough_schema.specs.Targets.{TargetsDoc}
-use Rattle.tough_schema.specs.Whole.{TreeDoc, tree, Branches, no_branches, unloaded, loaded, RoleTree, HeldDoc, top_doc}
-use Rattle.tough_schema.specs.Entries.{documents_of, documents_below}
-use Rattle.tough_schema.specs.Fresh.{carriers, carriers_below}
-use Rattle.tough_schema.specs.Preorder.{Occurrence, preorder, preorder_below}
-use Rattle.tough_delegated.specs.Once.{is_among, Distinct}
-use Rattle.tough_delegated.specs.Under.{Under, Below}
-use Rattle.tough_update.specs.Trusted.{IsVouched, Trusted}
-use Rattle.tough_update.specs.Stages.{KnownDoc}
+use Rattle.tough_roles.specs.Timestamp.{TimestampDoc, MetafileDoc}
+use Rattle.tough_roles.specs.declared.role_type.RoleType.TheVariants as role
+use Rattle.tough_vault.specs.Checks.{ExpiredMetadata, is_expired}
+use Rattle.tough_vault.specs.Documents.{timestamp_in, snapshot_in, metafile_in}
+use Rattle.tough_vault.specs.Files.{snapshot_file, targets_file}
+use Rattle.tough_names.specs.Named.{Named}
+use Rattle.tough_schema.specs.Whole.{TreeDoc}
+use Rattle.tough_schema.specs.Entries.{documents_below, first_missing}
+use Rattle.tough_schema.specs.Fresh.{IsUnloaded}
+use Rattle.tough_delegated.specs.Growing.{Progress, wants, grown, go_on, begun}
+use Rattle.tough_delegated.specs.Bare.{held_as}
+use Rattle.tough_delegated.specs.Tallies.{tally_work}
+use Rattle.tough_delegated.proofs.lemmas.Bare.{bare-none}
+use Rattle.tough_delegated.proofs.lemmas.Kept.{WorkKeeps, ProgressKeeps, begun-keeps, taken-keeps, work-few, tree-few}
+use Rattle.tough_update.specs.declared.counts.Counts.{Counts}
+use Rattle.tough_update.specs.Failure.{Failure, ParseMetadata, MaxUpdatesExceeded, Checked}
+use Rattle.tough_update.specs.Walk.{holds_json, if_read, first_root, next_root}
+use Rattle.tough_update.specs.Requests.{RequestDoc, root_request, timestamp_request}
+use Rattle.tough_update.specs.Rotation.{is_rotated}
+use Rattle.tough_update.specs.Listed.{by_root, judged}
+use Rattle.tough_update.specs.Delegated.{wanted_name, role_holder, metas_in, is_reserved, if_found, grown_on, given, role_given, role_stored, with_received}
+use Rattle.tough_update.specs.Stages.{WalkDoc, BaseDoc, KnownDoc, WantedDoc, PendingDoc, ReceivedDoc, RolesDoc, LoadedDoc, StageDoc, SettingDoc, CoreDoc}
+use Rattle.tough_update.specs.Stages as at
+use Rattle.tough_update.specs.Answered.{AnswerDoc}
+use Rattle.tough_update.specs.Answered as got
+use Rattle.tough_update.specs.Machine.{walked, base_of, walk_ended, want_snapshot, known_of, want_targets, read_wanted, after, stage_after}
+use Rattle.tough_update.specs.Promises.{Goes}
+use Rattle.tough_update.specs.Counts.{none_yet, one_more, ends_fetch, with_fetch, with_tree}
+use Rattle.tough_update.specs.Counted.{Counted, here, further, accepted_at, KeepsListed, KeepsFew}
+use Rattle.tough_update.specs.Counted as counted
+use Rattle.tough_update.proofs.Turning.{Fine, unless-fine, if-fine, and_then-fine, keeps-answer}
+use Rattle.tough_update.proofs.Sound.{judged-ok}
 
--- ---- each document has a name that carries it
+-- a fetch leaves what is kept
+kept-if : (b : Bool) (x n : Counts) → x.kept ≡ n.kept → (if b then x else n).kept ≡ n.kept
+kept-if true x n h = h
+kept-if false x n h = refl
 
-abbrev kept : List Occurrence → List HeldDoc
-kept os = documents_of (map (λ o. o.role) os)
+fetch-kept : (st : StageDoc) (a : AnswerDoc) (n : Counts) → (with_fetch st a n).kept ≡ n.kept
+fetch-kept (at.Fetch (at.Root w) r) a n = kept-if (ends_fetch a) (record n { roots = one_more n.roots }) n refl
+fetch-kept (at.Fetch (at.Role k roles listed) r) a n = kept-if (ends_fetch a) (record n { delegated = one_more n.delegated }) n refl
+fetch-kept at.Moment a n = refl
+fetch-kept (at.Step p) a n = refl
+fetch-kept (at.Fetch (at.Timestamp b) r) a n = refl
+fetch-kept (at.Fetch (at.Snapshot b t listed) r) a n = refl
+fetch-kept (at.Fetch (at.Targets k listed) r) a n = refl
+fetch-kept (at.Done r) a n = refl
+fetch-kept at.Taken a n = refl
 
-kept-append : (xs ys : List Occurrence) → length (kept (xs ++ ys)) ≡ length (kept xs) + length (kept ys)
-kept-append xs ys =
-    let roles : List Occurrence → List RoleTree = λ os. map (λ o. o.role) os in
-    ap (λ rs. length (documents_of rs)) (map-append (λ (o : Occurrence). o.role) xs ys)
-    ∙ (ap (λ hs. length hs) (filter_map-append (λ (r : RoleTree). r.1) (roles xs) (roles ys)) ∙ length-append (kept xs) (kept ys))
+abbrev Keeps : Counts → StageDoc → Type 0
+Keeps n (at.Step (at.PutTargets k d)) = (n.kept ≡ 0) × IsUnloaded d.role
+Keeps n (at.Fetch (at.Role k roles listed) r) = (n.kept ≡ (tally_work roles.work).kept) × WorkKeeps (metas_in k) roles.work
+Keeps n (at.Step (at.PutDelegated k roles name d)) = (n.kept ≤ length (metas_in k)) × WorkKeeps (metas_in k) roles.work × IsUnloaded d.role
+Keeps n (at.Done (Ok l)) = (n.kept ≡ length (documents_below l.targets.role)) × (length (documents_below l.targets.role) ≤ length (metas_in l.known))
+Keeps n (at.Done (Err f)) = ⊤
+Keeps n at.Taken = ⊤
+Keeps n at.Moment = n.kept ≡ 0
+Keeps n (at.Step (at.NoteTime now)) = n.kept ≡ 0
+Keeps n (at.Step (at.PutRoot w)) = n.kept ≡ 0
+Keeps n (at.Step (at.PutLast w)) = n.kept ≡ 0
+Keeps n (at.Step (at.Clear b)) = n.kept ≡ 0
+Keeps n (at.Step (at.PutTimestamp b t)) = n.kept ≡ 0
+Keeps n (at.Step (at.PutSnapshot k listed)) = n.kept ≡ 0
+Keeps n (at.Fetch (at.Root w) r) = n.kept ≡ 0
+Keeps n (at.Fetch (at.Timestamp b) r) = n.kept ≡ 0
+Keeps n (at.Fetch (at.Snapshot b t listed) r) = n.kept ≡ 0
+Keeps n (at.Fetch (at.Targets k listed) r) = n.kept ≡ 0
 
-mutual
-  kept-carriers : (k : ℕ) (bs : Branches) → length (kept (preorder k bs)) ≡ length (carriers bs)
-  kept-carriers k no_branches = refl
-  kept-carriers k (unloaded e bs) = kept-carriers (k + 1) bs
-  kept-carriers k (loaded e name signatures t bs) =
-      let inside = preorder_below (k + 1) t in
-      let rest = preorder (k + 1 + length inside) bs in
-      let sum : length (kept (inside ++ rest)) ≡ length (carriers_below t ++ carriers bs) = omega (arith, kept-append inside rest, kept-below (k + 1) t, kept-carriers (k + 1 + length inside) bs, length-append (carriers_below t) (carriers bs)) in
-      ap suc sum
+-- an answer: n was counted before it, and m with the fetch that it ends
+module _ (v : Verifies) (s : SettingDoc) (n m : Counts) (same : m.kept ≡ n.kept) where
+  abbrev Next : StageDoc → Type 0
+  Next st = Keeps (with_tree st m) st
 
-  kept-below : (k : ℕ) (t : TreeDoc) → length (kept (preorder_below k t)) ≡ length (carriers_below t)
-  kept-below k (tree o bs) = kept-carriers k bs
+  bad : (f : Failure) → Next (at.Done (Err f))
+  bad f = tt
 
--- ---- different names that are listed
+  abbrev Well : Result StageDoc Failure → Type 0
+  Well = Fine Next bad
 
-module _ {X : Type 0} (end : List ℕ) where
-  abbrev Finds : List (List ℕ × X) → List ℕ → Type 0
-  Finds es name = (x : X) × (lookup (bytes_eq (name ++ end)) es ≡ Some x)
+  abbrev Heard : StageDoc → AnswerDoc → Type 0
+  Heard st a = ⊤
 
-  abbrev AllFind : List (List ℕ × X) → List (List ℕ) → Type 0
-  AllFind es [] = ⊤
-  AllFind es (n ∷ ns) = Finds es n × AllFind es ns
+  walked-keeps : (w : WalkDoc) → m.kept ≡ 0 → Well (walked s.limits w)
+  walked-keeps w h =
+      let ended : Result StageDoc Failure = Ok (at.Step (at.PutLast w)) in
+      let further : Result StageDoc Failure = Ok (at.Fetch (at.Root w) (root_request s.limits (w.last.role.head.version + 1))) in
+      unless-fine Next bad (MaxUpdatesExceeded s.limits.max_root_updates) (nat_lt (w.last.role.head.version - w.first.role.head.version) s.limits.max_root_updates) (if w.last.role.head.version == 2 ^ 64 - 1 then ended else further) (λ _.
+      if-fine Next bad (w.last.role.head.version == 2 ^ 64 - 1) ended further (λ _. h) h)
 
-  size-at : (b : Bool) (e : List ℕ × X) (es less : List (List ℕ × X)) → (b ≡ false → length es ≡ suc (length less)) → length (e ∷ es) ≡ suc (length (cond b es (e ∷ less)))
-  size-at true e es less f = refl
-  size-at false e es less f = ap suc (f refl)
+  walk_ended-keeps : (w : WalkDoc) → m.kept ≡ 0 → Well (walk_ended s.limits s.enforced w)
+  walk_ended-keeps w h =
+      let cleared : Result StageDoc Failure = Ok (at.Step (at.Clear (base_of w))) in
+      let kept : Result StageDoc Failure = Ok (at.Fetch (at.Timestamp (base_of w)) (timestamp_request s.limits)) in
+      unless-fine Next bad (Checked (ExpiredMetadata role.Root w.last.role.head.expires w.start)) (not (is_expired s.enforced w.start w.last.role.head.expires)) (if is_rotated w.first.role w.last.role then cleared else kept) (λ _.
+      if-fine Next bad (is_rotated w.first.role w.last.role) cleared kept (λ _. h) h)
 
-  removed-size : (test : List ℕ → Bool) (es : List (List ℕ × X)) (x : X) → lookup test es ≡ Some x → length es ≡ suc (length (remove_entry test es))
-  removed-size test [] x h = absurd (cc h)
-  removed-size test (e ∷ es) x h = size-at (test e.0) e es (remove_entry test es) (λ k. removed-size test es x (sym (ap (λ b. cond b (Some e.1) (lookup test es)) k) ∙ h))
+  if_read-keeps : {D : Type 0} (f : Failure) (o : Option D) (to : D → StageDoc) → ((d : D) → Next (to d)) → Well (if_read f o (λ d. Ok (to d)))
+  if_read-keeps f None to t = tt
+  if_read-keeps f (Some d) to t = t d
 
-  -- one entry's name isn't found under two names
-  differs : (n p key : List ℕ) (b : Bool) → bytes_eq p n ≡ false → bytes_eq (n ++ end) key ≡ true → bytes_eq (p ++ end) key ≡ b → b ≡ false
-  differs n p key false h k e = refl
-  differs n p key true h k e =
-      let same : p ≡ n = append_cancel_right p n end ((bytes_eq-Decides (p ++ end) key).0 e ∙ sym ((bytes_eq-Decides (n ++ end) key).0 k)) in
-      absurd (cc ((bytes_eq-Decides p n).1 same, h))
+  want_snapshot-keeps : (b : BaseDoc) (t : SignedDoc TimestampDoc) (o : Option MetafileDoc) → m.kept ≡ 0 → Well (want_snapshot s.limits b t o)
+  want_snapshot-keeps b t None h = tt
+  want_snapshot-keeps b t (Some e) h = h
 
-  other-at : (test : List ℕ → Bool) (b : Bool) (e : List ℕ × X) (es less : List (List ℕ × X)) → (b ≡ true → test e.0 ≡ false) → lookup test less ≡ lookup test es
-      → lookup test (cond b es (e ∷ less)) ≡ lookup test (e ∷ es)
-  other-at test true e es less off same = sym (ap (λ c. cond c (Some e.1) (lookup test es)) (off refl))
-  other-at test false e es less off same = ap (λ o. cond (test e.0) (Some e.1) o) same
+  want_targets-keeps : (k : KnownDoc) (o : Option MetafileDoc) → m.kept ≡ 0 → Well (want_targets s.limits k o)
+  want_targets-keeps k None h = tt
+  want_targets-keeps k (Some e) h = h
 
-  found-other : (n p : List ℕ) (es : List (List ℕ × X)) → bytes_eq p n ≡ false → lookup (bytes_eq (p ++ end)) (remove_entry (bytes_eq (n ++ end)) es) ≡ lookup (bytes_eq (p ++ end)) es
-  found-other n p [] h = refl
-  found-other n p (e ∷ es) h =
-      other-at (bytes_eq (p ++ end)) (bytes_eq (n ++ end) e.0) e es (remove_entry (bytes_eq (n ++ end)) es) (λ k. differs n p e.0 (bytes_eq (p ++ end) e.0) h k refl) (found-other n p es h)
+  found-keeps : (o : Option Named) (l : LoadedDoc) → length (documents_below l.targets.role) ≤ length (metas_in l.known) → Well (if_found o l)
+  found-keeps None l le = (refl, le)
+  found-keeps (Some name) l le = tt
 
-  halves : (a b : Bool) → (a || b) ≡ false → (a ≡ false) × (b ≡ false)
-  halves true b h = absurd (cc h)
-  halves false b h = (refl, h)
+  grown-keeps : (k : KnownDoc) (received : List ReceivedDoc) (p : Progress) → ProgressKeeps (metas_in k) p → Well (grown_on s.limits k received p)
+  grown-keeps k received (wants w e) g = (refl, g)
+  grown-keeps k received (grown t) g = found-keeps (first_missing t.role) (record { known = k; targets = t; received = received }) (tree-few (metas_in k) t.role g.0 g.1)
 
-  find-others : (n : List ℕ) (ns : List (List ℕ)) (es : List (List ℕ × X)) → is_among n ns ≡ false → AllFind es ns → AllFind (remove_entry (bytes_eq (n ++ end)) es) ns
-  find-others n [] es d h = tt
-  find-others n (p ∷ ns) es d h =
-      let both = halves (bytes_eq p n) (is_among n ns) d in
-      ((h.0.0, found-other n p es both.0 ∙ h.0.1), find-others n ns es both.1 h.1)
+  given-keeps : (k : KnownDoc) (roles : RolesDoc) (d : SignedDoc TreeDoc) → WorkKeeps (metas_in k) roles.work → IsUnloaded d.role → Well (role_given s.limits k roles d)
+  given-keeps k roles d g bare =
+      grown-keeps k roles.received (go_on (metas_in k) (given roles.work d)) (taken-keeps (metas_in k) roles.work (held_as (wanted_name roles.work) d) bare g)
 
-  few : (ns : List (List ℕ)) (es : List (List ℕ × X)) → Distinct ns → AllFind es ns → length ns ≤ length es
-  few [] es d h = omega arith
-  few (n ∷ ns) es d h =
-      let less = remove_entry (bytes_eq (n ++ end)) es in
-      omega (arith, removed-size (bytes_eq (n ++ end)) es h.0.0 h.0.1, few ns less d.1 (find-others n ns es d.0 h.1))
+  read-keeps : (w : WantedDoc) (r : RequestDoc) (bytes : List ℕ) → Keeps n (at.Fetch w r) → Heard (at.Fetch w r) (got.Bytes bytes) → Well (read_wanted v s w r bytes)
+  read-keeps (at.Root w) r bytes t _ = and_then-fine Next bad (next_root v w.last.role bytes) (λ root. Ok (at.Step (at.PutRoot (record { start = w.start; first = w.first; last = root })))) (λ root is. same ∙ t)
+  read-keeps (at.Timestamp b) r bytes t _ = if_read-keeps (ParseMetadata role.Timestamp (holds_json bytes)) (timestamp_in bytes) (λ d. at.Step (at.PutTimestamp b d)) (λ d. same ∙ t)
+  read-keeps (at.Snapshot b x listed) r bytes t _ = if_read-keeps (ParseMetadata role.Snapshot (holds_json bytes)) (snapshot_in bytes) (λ d. at.Step (at.PutSnapshot (known_of b x d) listed)) (λ d. same ∙ t)
+  read-keeps (at.Targets k listed) r bytes t _ = and_then-fine Next bad (judged v s.enforced k.start (by_root k.root.role) listed bytes) (λ d. Ok (at.Step (at.PutTargets k d))) (λ d is.
+      let p = judged-ok v s.enforced k.start (by_root k.root.role) listed bytes d is in
+      (same ∙ t, subst (λ (x : SignedDoc TreeDoc). IsUnloaded x.role) (sym p.is) (bare-none p.page)))
+  read-keeps (at.Role k roles listed) r bytes t _ =
+      let kept = with_received roles bytes in
+      let le : m.kept ≤ length (metas_in k) = omega (arith, same, t.0, work-few (metas_in k) roles.work t.1) in
+      and_then-fine Next bad (judged v s.enforced k.start (role_holder roles.work) listed bytes) (role_stored s.limits k kept r.name) (λ d is.
+      let p = judged-ok v s.enforced k.start (role_holder roles.work) listed bytes d is in
+      let bare : IsUnloaded d.role = subst (λ (x : SignedDoc TreeDoc). IsUnloaded x.role) (sym p.is) (bare-none p.page) in
+      if-fine Next bad (is_reserved r.name) (role_given s.limits k kept d) (Ok (at.Step (at.PutDelegated k kept r.name d))) (λ _. given-keeps k kept d t.1 bare) (le, t.1, bare))
 
-  find-both : (xs ys : List (List ℕ)) (es : List (List ℕ × X)) → AllFind es xs → AllFind es ys → AllFind es (xs ++ ys)
-  find-both [] ys es h k = k
-  find-both (x ∷ xs) ys es h k = (h.0, find-both xs ys es h.1 k)
+  step-keeps : (p : PendingDoc) → Keeps n (at.Step p) → Heard (at.Step p) (got.Step (Ok (tt {0}))) → Well (after v s p)
+  step-keeps (at.NoteTime now) t _ = and_then-fine Next bad (first_root v s.trusted) (λ root. walked s.limits (record { start = now; first = root; last = root })) (λ root is.
+      walked-keeps (record { start = now; first = root; last = root }) (same ∙ t))
+  step-keeps (at.PutRoot w) t _ = walked-keeps w (same ∙ t)
+  step-keeps (at.PutLast w) t _ = walk_ended-keeps w (same ∙ t)
+  step-keeps (at.Clear b) t _ = same ∙ t
+  step-keeps (at.PutTimestamp b x) t _ = want_snapshot-keeps b x (metafile_in x.role.meta snapshot_file) (same ∙ t)
+  step-keeps (at.PutSnapshot k listed) t _ = want_targets-keeps k (metafile_in k.snapshot.role.meta targets_file) (same ∙ t)
+  step-keeps (at.PutTargets k d) t _ = let top = held_as [] d in grown-keeps k [] (begun (metas_in k) top) (begun-keeps (metas_in k) top t.1)
+  step-keeps (at.PutDelegated k roles name d) t _ = given-keeps k roles d t.1 t.2
 
--- ---- the names of a trusted tree
+  -- an answer that isn't waited for
+  same-keeps : (st : StageDoc) → Keeps n st → Next st
+  same-keeps (at.Step (at.PutTargets k d)) t = (same ∙ t.0, t.1)
+  same-keeps (at.Fetch (at.Role k roles listed) r) t = (refl, t.1)
+  same-keeps (at.Step (at.PutDelegated k roles name d)) t = (omega (arith, same, t.0), t.1, t.2)
+  same-keeps (at.Done (Ok l)) t = (refl, t.1)
+  same-keeps (at.Done (Err f)) t = tt
+  same-keeps at.Taken t = tt
+  same-keeps at.Moment t = same ∙ t
+  same-keeps (at.Step (at.NoteTime now)) t = same ∙ t
+  same-keeps (at.Step (at.PutRoot w)) t = same ∙ t
+  same-keeps (at.Step (at.PutLast w)) t = same ∙ t
+  same-keeps (at.Step (at.Clear b)) t = same ∙ t
+  same-keeps (at.Step (at.PutTimestamp b x)) t = same ∙ t
+  same-keeps (at.Step (at.PutSnapshot k listed)) t = same ∙ t
+  same-keeps (at.Fetch (at.Root w) r) t = same ∙ t
+  same-keeps (at.Fetch (at.Timestamp b) r) t = same ∙ t
+  same-keeps (at.Fetch (at.Snapshot b x listed) r) t = same ∙ t
+  same-keeps (at.Fetch (at.Targets k listed) r) t = same ∙ t
 
-module _ (v : Verifies) (metas : List (List ℕ × MetafileDoc)) where
-  abbrev Listed : List (List ℕ) → Type 0
-  Listed ns = AllFind (codes ".json") metas ns
+  turn-keeps : (st : StageDoc) (a : AnswerDoc) → Keeps n st → Well (stage_after v s st a)
+  turn-keeps st a t = keeps-answer v s (Keeps n) Next bad Heard (record {
+    moment = λ now t _. same ∙ t;
+    read = read-keeps;
+    ends = λ w r a _ t _. same ∙ t;
+    step = step-keeps;
+    same = λ st a _ _ t _. same-keeps st t;
+  }) st a t tt
 
-  vouched-listed : (g : Option DelegationsDoc) (name : List ℕ) (d : SignedDoc TargetsDoc) → IsVouched v metas g name d → Finds (codes ".json") metas name
-  vouched-listed None name d h = absurd h
-  vouched-listed (Some g) name d h = (h.1.0, h.1.1)
+-- after each answer
+goes-keeps : (v : Verifies) (c d : CoreDoc) (n : Counts) (a : AnswerDoc) → Keeps n c.stage → Goes v c a d → Keeps (with_tree d.stage (with_fetch c.stage a n)) d.stage
+goes-keeps v c d n a t (inl e) =
+    let m = with_fetch c.stage a n in
+    subst (λ (x : CoreDoc). Keeps (with_tree x.stage m) x.stage) (sym e) (turn-keeps v c.setting n m (fetch-kept c.stage a n) c.stage a t)
+goes-keeps v c d n a t (inr e) =
+    let m = with_fetch c.stage a n in
+    subst (λ (x : CoreDoc). Keeps (with_tree x.stage m) x.stage) (sym e) tt
 
-  mutual
-    under-listed : (g : Option DelegationsDoc) (bs : Branches) → Under (IsVouched v metas) g bs → Listed (carriers bs)
-    under-listed g no_branches h = tt
-    under-listed g (unloaded e bs) h = under-listed g bs h
-    under-listed g (loaded e name signatures t bs) h =
-        let page : SignedDoc TargetsDoc = record { role = top_doc t; signatures = signatures } in
-        (vouched-listed g e.name page h.0, find-both (codes ".json") (carriers_below t) (carriers bs) metas (below-listed t h.1) (under-listed g bs h.2))
+pub keeps : (v : Verifies) (c : CoreDoc) (n : Counts) → Counted v c n → Keeps n c.stage
+keeps v c n (counted.begun d fresh) = subst (Keeps none_yet) (sym fresh) refl
+keeps v c n (counted.turned b d k a h g) = goes-keeps v b d k a (keeps v b k h) g
 
-    below-listed : (t : TreeDoc) → Below (IsVouched v metas) t → Listed (carriers_below t)
-    below-listed (tree o bs) h = under-listed (top_doc (tree o bs)).delegations bs h
+-- ---- the snapshot that was accepted
 
-pub documents_few : (v : Verifies) (bytes : List ℕ) (k : KnownDoc) (t : SignedDoc TreeDoc) → Trusted v bytes k t → length (documents_below t.role) ≤ length k.snapshot.role.meta
-documents_few v bytes k t trusted =
-    let metas = k.snapshot.role.meta in
-    omega (arith, kept-below 0 t.role, few (codes ".json") (carriers_below t.role) metas trusted.once (below-listed v metas t.role trusted.delegated))
+-- a stage that tells of the tree knows the snapshot, and every other one leaves what is kept
+few-at : (v : Verifies) (c : CoreDoc) (n m : Counts) (st : StageDoc) → c.stage ≡ st → n ≡ with_tree st m → Keeps n st → (m.kept ≡ 0) ⊎ KeepsListed v c m → KeepsFew v c n
+few-at v c n m (at.Fetch (at.Role k roles listed) r) e is t h =
+    let le : n.kept ≤ length k.snapshot.role.meta = omega (arith, t.0, work-few (metas_in k) roles.work t.1) in
+    inr (record { earlier = c; known = k; accepted = ap accepted_at e; since = here; few = le })
+few-at v c n m (at.Done (Ok l)) e is t h =
+    let le : n.kept ≤ length l.known.snapshot.role.meta = omega (arith, t.0, t.1) in
+    inr (record { earlier = c; known = l.known; accepted = ap accepted_at e; since = here; few = le })
+few-at v c n m (at.Done (Err f)) e is t h = subst (KeepsFew v c) (sym is) h
+few-at v c n m (at.Step p) e is t h = subst (KeepsFew v c) (sym is) h
+few-at v c n m at.Moment e is t h = subst (KeepsFew v c) (sym is) h
+few-at v c n m at.Taken e is t h = subst (KeepsFew v c) (sym is) h
+few-at v c n m (at.Fetch (at.Root w) r) e is t h = subst (KeepsFew v c) (sym is) h
+few-at v c n m (at.Fetch (at.Timestamp b) r) e is t h = subst (KeepsFew v c) (sym is) h
+few-at v c n m (at.Fetch (at.Snapshot b x listed) r) e is t h = subst (KeepsFew v c) (sym is) h
+few-at v c n m (at.Fetch (at.Targets k listed) r) e is t h = subst (KeepsFew v c) (sym is) h
+
+-- one answer later, and with its fetch
+later : (v : Verifies) (c d : CoreDoc) (n m : Counts) (a : AnswerDoc) → m.kept ≡ n.kept → Goes v c a d → KeepsFew v c n → KeepsFew v d m
+later v c d n m a same g (inl none) = inl (same ∙ none)
+later v c d n m a same g (inr k) =
+    inr (record { earlier = k.earlier; known = k.known; accepted = k.accepted; since = further c d a k.since g; few = subst (λ x. x ≤ length k.known.snapshot.role.meta) (sym same) k.few })
+
+pub keeps_few : (v : Verifies) (c : CoreDoc) (n : Counts) → Counted v c n → KeepsFew v c n
+keeps_few v c n (counted.begun d fresh) = inl refl
+keeps_few v c n (counted.turned b d k a h g) =
+    let m = with_fetch b.stage a k in
+    few-at v d (with_tree d.stage m) m d.stage refl refl (goes-keeps v b d k a (keeps v b k h) g) (later v b d k m a (fetch-kept b.stage a k) g (keeps_few v b k h))
+
+pub kept_listed : (v : Verifies) (c : CoreDoc) (n : Counts) (l : LoadedDoc) → Counted v c n → c.stage ≡ at.Done (Ok l) → n.kept ≤ length l.known.snapshot.role.meta
+kept_listed v c n l h is = let t = subst (Keeps n) is (keeps v c n h) in omega (arith, t.0, t.1)

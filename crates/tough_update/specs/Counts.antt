@@ -1,6 +1,6 @@
 -- How much an update fetched and keeps, over any answers.
-use Rattle.std.specs.Prelude.{ℕ, ◌+◌, ◌-◌, ◌^◌, min, length, Bool, true, false, if◌then◌else◌, Result, Ok}
-use Rattle.tough_schema.specs.Entries.{entries, documents_below}
+use Rattle.std.specs.Prelude.{ℕ, ◌+◌, ◌-◌, ◌^◌, min, Bool, true, false, if◌then◌else◌, Ok}
+use Rattle.tough_schema.specs.Entries.{entries}
 use Rattle.tough_delegated.specs.declared.tally.Tally.{Tally}
 use Rattle.tough_delegated.specs.Tallies.{tally_tree, tally_work}
 use Rattle.tough_update.specs.declared.counts.Counts.{Counts}

@@ -1,6 +1,6 @@
 //! Laws over whole updates.
 
-ghost use Rattle.std.specs.Prelude.{◌≡◌, ◌≤◌, List, length, Ok};
+ghost use Rattle.std.specs.Prelude.{◌≡◌, List, Ok};
 ghost use Rattle.tough_keys.specs.Same.{Verifies};
 ghost use Rattle.tough_update.specs.Requests.{RequestDoc};
 ghost use Rattle.tough_update.specs.Stages.{WalkDoc, LoadedDoc, CoreDoc, PutLast, Done};
@@ -13,8 +13,7 @@ ghost use Rattle.tough_update.specs.Loadable.{Files, AllHonest, Loadable, IsLoad
 ghost use Rattle.tough_update.specs.Runs.{run, Along, IsFresh, Loaded, EndsWalking, WasRotated};
 ghost use Rattle.tough_update.specs.Asking.{AsksFile, AsksFew};
 ghost use Rattle.tough_update.specs.declared.counts.Counts.{Counts};
-ghost use Rattle.tough_update.specs.Counted.{Counted, FetchesFew, KeepsFew};
-ghost use Rattle.tough_update.specs.Trusted.{Trusted};
+ghost use Rattle.tough_update.specs.Counted.{Counted, FetchesFew, KeepsFew, KeepsAll};
 
 /// An update that succeeds gives documents that are trusted, whatever was answered.
 pub fn trusts()
@@ -61,16 +60,14 @@ pub fn asks_few()
         → AsksFew verifies c answers }
 {}
 
-/// Whatever was answered, at most as many roots were fetched as the limit allows, and at most as many documents of delegated roles as the
-/// targets and the documents that are kept list roles. Of an update that succeeded the counts are those of its tree, and at most as many
-/// documents are kept as the snapshot lists names.
+/// Whatever was answered, and also where the update failed: at most as many roots were fetched as the limit allows, at most as many
+/// documents of delegated roles as the targets and the documents that are kept list roles, and at most as many documents are kept as the
+/// accepted snapshot lists names. Of an update that succeeded the counts are those of its tree.
 pub fn counts_few()
     ensures fetches { (verifies : Verifies) (c : CoreDoc) (n : Counts) → Counted verifies c n → FetchesFew c n }
-    ensures keeps { (verifies : Verifies) (c : CoreDoc) (n : Counts) (l : LoadedDoc)
-        → Counted verifies c n → c.stage ≡ Done (Ok l) → KeepsFew l n }
-    ensures listed { (verifies : Verifies) (c : CoreDoc) (n : Counts) (l : LoadedDoc)
-        → Counted verifies c n → c.stage ≡ Done (Ok l) → Trusted verifies c.setting.trusted l.known l.targets
-        → n.kept ≤ length l.known.snapshot.role.meta }
+    ensures keeps { (verifies : Verifies) (c : CoreDoc) (n : Counts) → Counted verifies c n → KeepsFew verifies c n }
+    ensures loaded { (verifies : Verifies) (c : CoreDoc) (n : Counts) (l : LoadedDoc)
+        → Counted verifies c n → c.stage ≡ Done (Ok l) → KeepsAll l n }
 {}
 
 /// How many laws this file states.

@@ -14,7 +14,7 @@ returns g c =
     let after = stage_after verifies (record { trusted = c.deref.result.now; limits = self.limits; enforced = enforces self.enforcement }) (stage_doc c.replace-stage.result) answer in
     let is = ap stage_doc c.replace-stage.ensures.value in
     record {
-      goes = goes verifies (core_doc self) c.deref.result.now (stage_doc c.replace-stage.result) answer (stage_doc c.count_tree.result.1) c.deref.ensures.value is
-          (counted-on after (stage_doc c.next-stage.result) (stage_doc c.count_tree.result.1) c.next-stage.ensures c.count_tree.ensures.stage);
-      counted = c.count_tree.ensures.counts ∙ ap (with_tree (stage_doc c.count_tree.result.1)) (c.with_fetch-counts.ensures ∙ ap (λ s. with_fetch s answer self.counts) is);
+      goes = goes verifies (core_doc self) c.deref.result.now (stage_doc c.replace-stage.result) answer (stage_doc c.count_tree-stage.result.1) c.deref.ensures.value is
+          (counted-on after (stage_doc c.next-stage.result) (stage_doc c.count_tree-stage.result.1) c.next-stage.ensures c.count_tree-stage.ensures.stage);
+      counted = c.count_tree-stage.ensures.counts ∙ ap (with_tree (stage_doc c.count_tree-stage.result.1)) (c.with_fetch-counts.ensures ∙ ap (λ s. with_fetch s answer self.counts) is);
     }
