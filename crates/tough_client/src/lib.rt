@@ -14,9 +14,9 @@ pub use repository::{Repository, RepositoryParts};
 pub use save::{Prefix, SaveTarget};
 pub use tough_error::{Error, Result};
 pub use tough_load::{
-    Act, Answer, Ask, Clock, Core, DirStore, DocumentName, Entry, ExpirationEnforcement, Fault,
-    FixedClock, Keeper, Limits, ListedVersion, Load, LoadParts, LoadRun, Loaded, MemoryStore,
-    Receipt, Received, Refusal, RepositoryLoader, Request, SnapshotVersions, StepError, Store,
-    StoreError, SystemClock, TimestampVersions, Tip, Unset, UpdateError, Vault,
+    Act, Answer, Ask, Clock, Core, Counts, DirStore, DocumentName, Entry, ExpirationEnforcement,
+    Fault, FixedClock, Keeper, Limits, ListedVersion, Load, LoadParts, LoadRun, Loaded,
+    MemoryStore, Receipt, Received, Refusal, RepositoryLoader, Request, SnapshotVersions,
+    StepError, Store, StoreError, SystemClock, TimestampVersions, Tip, Unset, UpdateError, Vault,
 };
 pub use tough_save::TargetStream;
