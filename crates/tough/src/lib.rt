@@ -5,6 +5,7 @@
 
 pub mod error;
 pub mod files;
+mod get;
 mod program;
 pub mod schema;
 pub mod sign;

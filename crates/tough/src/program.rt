@@ -1,12 +1,13 @@
 //! The program `tough`.
 
-ghost use Rattle.std.specs.Prelude.{◌≡◌, ◌≤◌, ⊤, OnOk, IfOk, IsTrue, Ok, true};
+ghost use Rattle.std.specs.Prelude.{◌≡◌, ◌≤◌, ⊤, ℕ, List, OnOk, IfOk, IsTrue, Ok, true, length, string_bytes};
 ghost use Rattle.std.specs.Int.NonZero.{non_zero_u64_get};
 ghost use Rattle.std.specs.Io.KnownBytes.{Appends};
 ghost use Rattle.tough_update.specs.Stages.{LoadedDoc};
 ghost use Rattle.tough_update.specs.View.{loaded_doc};
-ghost use Rattle.tough.specs.Program.{IsVouchedFor, version_line, versions_text};
+ghost use Rattle.tough.specs.Program.{IsReport, IsVouchedFor, version_line, versions_text};
 
+use crate::get::{Wanted, get_by};
 use crate::{Error, drive_on};
 use std::alloc::{AllocError, AllocGlobal, Global};
 use std::io::{self, Write};
@@ -18,6 +19,7 @@ use std::{fs, rt};
 use tokio::runtime::LocalRuntime;
 use tough_http::DefaultTransport;
 use tough_load::{DirStore, Loaded, RepositoryLoader, SystemClock, Vault};
+use tough_names::TargetName;
 use tough_net::Transport;
 use tough_schema::DemoVerify;
 use url::{ParseError, Url};
@@ -30,7 +32,7 @@ const GET: &str = "usage: tough get ROOT METADATA TARGETS STORE NAME OUTDIR";
 
 // Why a run failed.
 #[derive(Drop)]
-enum Fault {
+pub(crate) enum Fault {
     /// The file of the root couldn't be read.
     FileRead(io::Error),
     /// The load couldn't be begun, or refused, and what the system last said of the store, if that failed.
@@ -118,6 +120,52 @@ where
     load_by(rt, &mut runtime, transport, root, metadata, targets, store)
 }
 
+// The name of a word.
+fn target_name(alloc: Global, word: &str) -> Result<TargetName, Fault> {
+    match TargetName::from_str(alloc, word) {
+        Ok(name) => Ok(name),
+        Err(error) => Err(Fault::Load(Error::from(error), None)),
+    }
+}
+
+// Loads a repository, and saves one of its targets.
+fn get<R>(
+    rt: &R,
+    root: &str,
+    metadata: &str,
+    targets: &str,
+    store: &str,
+    name: &str,
+    outdir: &str,
+) -> Result<String, Fault>
+where
+    R: rt::Files + Net + Wait + rt::Clock + RandomSource + AllocGlobal + Clone + Drop,
+    ensures { IfOk result (λ text. IsReport (string_bytes text)) }
+{
+    let alloc = rt.alloc();
+    let metadata = url(alloc, metadata)?;
+    let targets = url(alloc, targets)?;
+    let name = target_name(alloc, name)?;
+    let bytes = match fs::read(rt, root) {
+        Ok(bytes) => bytes,
+        Err(error) => return Err(Fault::FileRead(error)),
+    };
+    let wanted = Wanted {
+        root: bytes.as_slice(),
+        metadata,
+        targets,
+        store,
+        name: &name,
+        outdir,
+    };
+    let mut runtime = match LocalRuntime::new(rt) {
+        Ok(runtime) => runtime,
+        Err(error) => return Err(Fault::Run(error)),
+    };
+    let transport = DefaultTransport::new(rt.clone()?, runtime.handle().clone()?)?;
+    get_by(rt, &mut runtime, transport, wanted)
+}
+
 // A role and its version.
 fn print_version<O: Write>(out: &mut O, role: &str, version: NonZeroU64) -> io::Result<()>
     ensures { OnOk result (Appends (O.contents out.old) (O.contents out.new) (version_line role.now (non_zero_u64_get version))) }
@@ -152,9 +200,32 @@ where
     R: rt::Files + Net + Wait + rt::Clock + RandomSource + AllocGlobal + Clone + Drop,
     O: Write,
     E: Write,
-    ensures { IfOk result (λ done. done ≡ true → (l : LoadedDoc) × IsVouchedFor l × Appends (O.contents out.old) (O.contents out.new) (versions_text l)) }
+    ensures loaded { IfOk result (λ done. done ≡ true → length words.now ≡ 5 → (l : LoadedDoc) × IsVouchedFor l × Appends (O.contents out.old) (O.contents out.new) (versions_text l)) }
+    ensures got { IfOk result (λ done. done ≡ true → length words.now ≡ 7 → (text : List ℕ) × IsReport text × Appends (O.contents out.old) (O.contents out.new) text) }
 {
     writeln!(err, "{WARNING}")?;
+    if let [command, root, metadata, targets, store, name, outdir] = words {
+        if command.as_str() == "get" {
+            return match get(
+                rt,
+                root.as_str(),
+                metadata.as_str(),
+                targets.as_str(),
+                store.as_str(),
+                name.as_str(),
+                outdir.as_str(),
+            ) {
+                Ok(text) => {
+                    write!(out, "{text}")?;
+                    Ok(true)
+                }
+                Err(fault) => {
+                    tell(err, &fault, root.as_str(), store.as_str())?;
+                    Ok(false)
+                }
+            };
+        }
+    }
     let [command, root, metadata, targets, store] = words else {
         writeln!(err, "{LOAD}\n{GET}")?;
         return Ok(false);
@@ -185,14 +256,16 @@ where
 ///
 /// `load ROOT METADATA TARGETS STORE` loads the repository whose metadata and targets lie at the two URLs (of the scheme `file` or `http`), from the
 /// root in the file ROOT into the folder STORE, and prints the versions of its root, timestamp, snapshot and targets, a line each. A fault
-/// is a line on `err`. Other words print how the program is used there. Each run first says there that its verifier proves nothing.
+/// is a line on `err`. `get ROOT METADATA TARGETS STORE NAME OUTDIR` loads it so, saves the target NAME below the folder OUTDIR, and prints the
+/// same lines and one more, which tells what was saved where. Other words print how the program is used there. Each run first says there that its verifier proves nothing.
 pub fn run<R, O, E>(rt: &R, words: &[String], out: &mut O, err: &mut E) -> u8
 where
     R: rt::Files + Net + Wait + rt::Clock + RandomSource + AllocGlobal + Clone + Drop,
     O: Write,
     E: Write,
     ensures status { result ≤ 1 }
-    ensures printed { result ≡ 0 → (l : LoadedDoc) × IsVouchedFor l × Appends (O.contents out.old) (O.contents out.new) (versions_text l) }
+    ensures printed { result ≡ 0 → length words.now ≡ 5 → (l : LoadedDoc) × IsVouchedFor l × Appends (O.contents out.old) (O.contents out.new) (versions_text l) }
+    ensures reported { result ≡ 0 → length words.now ≡ 7 → (text : List ℕ) × IsReport text × Appends (O.contents out.old) (O.contents out.new) text }
 {
     match work(rt, words, out, err) {
         Ok(true) => 0,
