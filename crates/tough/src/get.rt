@@ -3,6 +3,7 @@
 ghost use Rattle.std.specs.Prelude.{◌≡◌, IfOk, string_bytes};
 ghost use Rattle.tough_update.specs.View.{loaded_doc};
 ghost use Rattle.std.specs.Int.NonZero.{non_zero_u64_get};
+ghost use Rattle.tough_client.specs.Repositories.{documents_of};
 ghost use Rattle.tough.specs.Program.{IsReport, Reports, version_line, versions_text};
 
 use crate::drive_on;
@@ -14,13 +15,13 @@ use std::rt;
 use std::sync::Wait;
 use tokio::runtime::LocalRuntime;
 use tough_client::{
-    Clock, DirStore, Error, Keeper, Load, Loaded, Prefix, Repository, RepositoryLoader, SystemClock,
+    Clock, DirStore, Error, Keeper, Loaded, Prefix, Repository, RepositoryLoader, SystemClock,
     Vault,
 };
 use tough_files::OsFiles;
 use tough_names::TargetName;
 use tough_net::Transport;
-use tough_schema::{DemoVerify, Verify};
+use tough_schema::DemoVerify;
 use url::Url;
 
 /// What is to be loaded, and which target is to be saved where.
@@ -79,7 +80,7 @@ fn report(
 fn save<R, T, K, C>(
     rt: &R,
     runtime: &mut LocalRuntime,
-    repository: Repository<T, K, C>,
+    repository: &mut Repository<T, K, C>,
     name: &TargetName,
     outdir: &str,
 ) -> Result<(), Fault>
@@ -89,7 +90,6 @@ where
     K: Keeper,
     C: Clock + Drop,
 {
-    let mut repository = repository;
     let mut files = OsFiles::new(rt.clone()?);
     let saving = repository.save_target(&mut files, name, outdir, Prefix::None);
     match runtime.block_on(rt, saving) {
@@ -99,12 +99,11 @@ where
     }
 }
 
-// Saves a target of what was loaded, and tells the versions, and what was saved where.
-fn save_and_report<R, T, K, C, V>(
+// Saves a target of a repository, and tells the versions of what was loaded, and what was saved where.
+fn save_and_report<R, T, K, C>(
     rt: &R,
     runtime: &mut LocalRuntime,
-    load: Load<T, K, C, V>,
-    loaded: Loaded,
+    repository: &mut Repository<T, K, C>,
     name: &TargetName,
     outdir: &str,
 ) -> Result<String, Fault>
@@ -113,11 +112,10 @@ where
     T: Transport,
     K: Keeper,
     C: Clock + Drop,
-    V: Verify + Drop,
-    ensures { IfOk result (λ text. Reports (loaded_doc loaded) (string_bytes text)) }
+    ensures { IfOk result (λ text. Reports (documents_of repository.old) (string_bytes text)) }
 {
-    match report(rt.alloc(), &loaded, name, outdir) {
-        Ok(text) => match save(rt, runtime, Repository::new(load, loaded), name, outdir) {
+    match report(rt.alloc(), repository.documents(), name, outdir) {
+        Ok(text) => match save(rt, runtime, repository, name, outdir) {
             Ok(()) => Ok(text),
             Err(fault) => Err(fault),
         },
@@ -162,7 +160,10 @@ where
         Err(error) => return Err(Fault::Run(error)),
     };
     match outcome {
-        Ok(loaded) => save_and_report(rt, runtime, load, loaded, name, outdir),
+        Ok(loaded) => {
+            let mut repository = Repository::new(load, loaded);
+            save_and_report(rt, runtime, &mut repository, name, outdir)
+        }
         Err(error) => {
             drop(load);
             Err(Fault::Load(Error::from(error), vault.into_store().into_fault()))

@@ -21,24 +21,45 @@ fn main(rt: HostRuntime) -> anyhow::Result<()> {
         return Ok(());
     };
     let trusted = fs::read(&rt, root.as_str())?;
-    let metadata = Url::parse(alloc, metadata.as_str())?;
-    let targets = Url::parse(alloc, targets.as_str())?;
-    let folder = String::from_str(alloc, store.as_str())?;
-    let mut runtime = LocalRuntime::new(&rt)?;
+    let name = TargetName::from_str(alloc, name.as_str())?;
+    update(
+        &rt,
+        trusted.as_slice(),
+        Url::parse(alloc, metadata.as_str())?,
+        Url::parse(alloc, targets.as_str())?,
+        store.as_str(),
+        &name,
+        outdir.as_str(),
+    )?;
+    println!(&rt; "saved {} in {outdir}", name.resolved())?;
+    Ok(())
+}
+
+// Loads the repository, whose metadata and targets lie below two URLs, into the store, and saves the target.
+fn update(
+    rt: &HostRuntime,
+    trusted: &[u8],
+    metadata: Url,
+    targets: Url,
+    store: &str,
+    name: &TargetName,
+    outdir: &str,
+) -> anyhow::Result<()> {
+    let alloc = rt.alloc();
+    let mut runtime = LocalRuntime::new(rt)?;
     let transport = DefaultTransport::new(rt.clone()?, runtime.handle().clone()?)?;
+    let folder = String::from_str(alloc, store)?;
     let mut vault = Vault::new(alloc, DirStore::new(rt.clone()?, folder));
-    let load = RepositoryLoader::new(alloc, trusted.as_slice(), metadata, targets)
+    let load = RepositoryLoader::new(alloc, trusted, metadata, targets)
         .transport(transport)
         .verifier(DemoVerify) // put your own verifier here: this one proves nothing
         .clock(SystemClock::new(rt.clone()?))
         .keeper(&mut vault)
         .load()?;
-    let (outcome, load) = drive_on(&rt, &mut runtime, load)?;
+    let (outcome, load) = drive_on(rt, &mut runtime, load)?;
     let mut repository = Repository::new(load, outcome?);
-    let name = TargetName::from_str(alloc, name.as_str())?;
     let mut files = OsFiles::new(rt.clone()?);
-    let saving = repository.save_target(&mut files, &name, outdir.as_str(), Prefix::None);
-    runtime.block_on(&rt, saving)??;
-    println!(&rt; "saved {} in {outdir}", name.resolved())?;
+    let saving = repository.save_target(&mut files, name, outdir, Prefix::None);
+    runtime.block_on(rt, saving)??;
     Ok(())
 }
