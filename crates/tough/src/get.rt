@@ -8,17 +8,19 @@ ghost use Rattle.tough.specs.Program.{IsReport, Reports, version_line, versions_
 
 use crate::drive_on;
 use crate::program::Fault;
+use crate::progress::Watched;
 use std::alloc::{AllocError, AllocGlobal, Global};
+use std::io::Write;
 use std::num::NonZeroU64;
 use std::random::RandomSource;
-use std::rt;
 use std::sync::Wait;
+use std::{rt, time};
 use tokio::runtime::LocalRuntime;
 use tough_client::{
     Clock, DirStore, Error, Keeper, Loaded, Prefix, Repository, RepositoryLoader, SystemClock,
     Vault,
 };
-use tough_files::OsFiles;
+use tough_files::{Files, OsFiles};
 use tough_names::TargetName;
 use tough_net::Transport;
 use tough_schema::DemoVerify;
@@ -77,21 +79,22 @@ fn report(
 }
 
 // Saves the target.
-fn save<R, T, K, C>(
+fn save<R, T, K, C, F>(
     rt: &R,
     runtime: &mut LocalRuntime,
     repository: &mut Repository<T, K, C>,
+    files: &mut F,
     name: &TargetName,
     outdir: &str,
 ) -> Result<(), Fault>
 where
-    R: rt::Files + Wait + rt::Clock + RandomSource + AllocGlobal + Clone + Drop,
+    R: Wait + time::Clock + RandomSource + AllocGlobal,
     T: Transport,
     K: Keeper,
     C: Clock + Drop,
+    F: Files,
 {
-    let mut files = OsFiles::new(rt.clone()?);
-    let saving = repository.save_target(&mut files, name, outdir, Prefix::None);
+    let saving = repository.save_target(files, name, outdir, Prefix::None);
     match runtime.block_on(rt, saving) {
         Ok(Ok(())) => Ok(()),
         Ok(Err(error)) => Err(Fault::Load(error, None)),
@@ -99,23 +102,52 @@ where
     }
 }
 
-// Saves a target of a repository, and tells the versions of what was loaded, and what was saved where.
-fn save_and_report<R, T, K, C>(
+// Saves the target, and tells meanwhile how much of it is there.
+fn save_watched<R, T, K, C, E>(
     rt: &R,
     runtime: &mut LocalRuntime,
     repository: &mut Repository<T, K, C>,
     name: &TargetName,
     outdir: &str,
+    err: Option<&mut E>,
+) -> Result<(), Fault>
+where
+    R: rt::Files + Wait + rt::Clock + RandomSource + AllocGlobal + Clone + Drop,
+    T: Transport,
+    K: Keeper,
+    C: Clock + Drop,
+    E: Write,
+{
+    let targets = &repository.targets().signed;
+    let length = match targets.find_target(rt.alloc(), name, false) {
+        Ok(target) => target.length,
+        Err(_) => 0,
+    };
+    let mut files = Watched::new(OsFiles::new(rt.clone()?), rt, err, length);
+    let done = save(rt, runtime, repository, &mut files, name, outdir);
+    files.finish();
+    done
+}
+
+// Saves a target of a repository, and tells the versions of what was loaded, and what was saved where.
+fn save_and_report<R, T, K, C, E>(
+    rt: &R,
+    runtime: &mut LocalRuntime,
+    repository: &mut Repository<T, K, C>,
+    name: &TargetName,
+    outdir: &str,
+    err: Option<&mut E>,
 ) -> Result<String, Fault>
 where
     R: rt::Files + Wait + rt::Clock + RandomSource + AllocGlobal + Clone + Drop,
     T: Transport,
     K: Keeper,
     C: Clock + Drop,
+    E: Write,
     ensures { IfOk result (λ text. Reports (documents_of repository.old) (string_bytes text)) }
 {
     match report(rt.alloc(), repository.documents(), name, outdir) {
-        Ok(text) => match save(rt, runtime, repository, name, outdir) {
+        Ok(text) => match save_watched(rt, runtime, repository, name, outdir, err) {
             Ok(()) => Ok(text),
             Err(fault) => Err(fault),
         },
@@ -124,15 +156,17 @@ where
 }
 
 /// Loads the repository over a transport, saves the target, and gives the text that tells the versions and what was saved where.
-pub(crate) fn get_by<R, T>(
+pub(crate) fn get_by<R, T, E>(
     rt: &R,
     runtime: &mut LocalRuntime,
     transport: T,
     wanted: Wanted<'_>,
+    err: Option<&mut E>,
 ) -> Result<String, Fault>
 where
     R: rt::Files + Wait + rt::Clock + RandomSource + AllocGlobal + Clone + Drop,
     T: Transport,
+    E: Write,
     ensures { IfOk result (λ text. IsReport (string_bytes text)) }
 {
     let alloc = rt.alloc();
@@ -162,7 +196,7 @@ where
     match outcome {
         Ok(loaded) => {
             let mut repository = Repository::new(load, loaded);
-            save_and_report(rt, runtime, &mut repository, name, outdir)
+            save_and_report(rt, runtime, &mut repository, name, outdir, err)
         }
         Err(error) => {
             drop(load);

@@ -7,6 +7,7 @@ pub mod error;
 pub mod files;
 mod get;
 mod program;
+mod progress;
 pub mod schema;
 pub mod sign;
 mod waiting;

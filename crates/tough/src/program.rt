@@ -129,7 +129,7 @@ fn target_name(alloc: Global, word: &str) -> Result<TargetName, Fault> {
 }
 
 // Loads a repository, and saves one of its targets.
-fn get<R>(
+fn get<R, E>(
     rt: &R,
     root: &str,
     metadata: &str,
@@ -137,9 +137,11 @@ fn get<R>(
     store: &str,
     name: &str,
     outdir: &str,
+    err: Option<&mut E>,
 ) -> Result<String, Fault>
 where
     R: rt::Files + Net + Wait + rt::Clock + RandomSource + AllocGlobal + Clone + Drop,
+    E: Write,
     ensures { IfOk result (λ text. IsReport (string_bytes text)) }
 {
     let alloc = rt.alloc();
@@ -163,7 +165,7 @@ where
         Err(error) => return Err(Fault::Run(error)),
     };
     let transport = DefaultTransport::new(rt.clone()?, runtime.handle().clone()?)?;
-    get_by(rt, &mut runtime, transport, wanted)
+    get_by(rt, &mut runtime, transport, wanted, err)
 }
 
 // A role and its version.
@@ -195,7 +197,13 @@ fn tell<E: Write>(err: &mut E, fault: &Fault, root: &str, store: &str) -> io::Re
 }
 
 // Runs the words, and tells whether that succeeded.
-fn work<R, O, E>(rt: &R, words: &[String], out: &mut O, err: &mut E) -> io::Result<bool>
+fn work<R, O, E>(
+    rt: &R,
+    words: &[String],
+    out: &mut O,
+    err: &mut E,
+    is_watched: bool,
+) -> io::Result<bool>
 where
     R: rt::Files + Net + Wait + rt::Clock + RandomSource + AllocGlobal + Clone + Drop,
     O: Write,
@@ -214,6 +222,7 @@ where
                 store.as_str(),
                 name.as_str(),
                 outdir.as_str(),
+                if is_watched { Some(&mut *err) } else { None },
             ) {
                 Ok(text) => {
                     write!(out, "{text}")?;
@@ -257,8 +266,9 @@ where
 /// `load ROOT METADATA TARGETS STORE` loads the repository whose metadata and targets lie at the two URLs (of the scheme `file` or `http`), from the
 /// root in the file ROOT into the folder STORE, and prints the versions of its root, timestamp, snapshot and targets, a line each. A fault
 /// is a line on `err`. `get ROOT METADATA TARGETS STORE NAME OUTDIR` loads it so, saves the target NAME below the folder OUTDIR, and prints the
-/// same lines and one more, which tells what was saved where. Other words print how the program is used there. Each run first says there that its verifier proves nothing.
-pub fn run<R, O, E>(rt: &R, words: &[String], out: &mut O, err: &mut E) -> u8
+/// same lines and one more, which tells what was saved where. Meanwhile a line on `err` tells how much of it is there, at most ten times a
+/// second, where `is_watched` says so. Other words print how the program is used there. Each run first says there that its verifier proves nothing.
+pub fn run<R, O, E>(rt: &R, words: &[String], out: &mut O, err: &mut E, is_watched: bool) -> u8
 where
     R: rt::Files + Net + Wait + rt::Clock + RandomSource + AllocGlobal + Clone + Drop,
     O: Write,
@@ -267,7 +277,7 @@ where
     ensures printed { result ≡ 0 → length words.now ≡ 5 → (l : LoadedDoc) × IsVouchedFor l × Appends (O.contents out.old) (O.contents out.new) (versions_text l) }
     ensures reported { result ≡ 0 → length words.now ≡ 7 → (text : List ℕ) × IsReport text × Appends (O.contents out.old) (O.contents out.new) text }
 {
-    match work(rt, words, out, err) {
+    match work(rt, words, out, err, is_watched) {
         Ok(true) => 0,
         Ok(false) => 1,
         Err(_) => 1,
