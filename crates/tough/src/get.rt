@@ -1,82 +1,22 @@
 //! `tough get`: a target of a repository is saved in a folder.
 
-ghost use Rattle.std.specs.Prelude.{◌≡◌, IfOk, string_bytes};
-ghost use Rattle.tough_update.specs.View.{loaded_doc};
-ghost use Rattle.std.specs.Int.NonZero.{non_zero_u64_get};
+ghost use Rattle.std.specs.Prelude.{IfOk, string_bytes};
 ghost use Rattle.tough_client.specs.Repositories.{documents_of};
-ghost use Rattle.tough.specs.Program.{IsReport, Reports, version_line, versions_text};
+ghost use Rattle.tough.specs.Program.{IsReport, Reports};
 
-use crate::drive_on;
-use crate::program::Fault;
+use crate::opening::{Fault, Wanted, run_load, vault_in};
 use crate::progress::Watched;
-use std::alloc::{AllocError, AllocGlobal, Global};
+use crate::report::report;
+use std::alloc::AllocGlobal;
 use std::io::Write;
-use std::num::NonZeroU64;
 use std::random::RandomSource;
 use std::sync::Wait;
 use std::{rt, time};
 use tokio::runtime::LocalRuntime;
-use tough_client::{
-    Clock, DirStore, Error, Keeper, Loaded, Prefix, Repository, RepositoryLoader, SystemClock,
-    Vault,
-};
+use tough_client::{Clock, Error, Keeper, Prefix, Repository};
 use tough_files::{Files, OsFiles};
 use tough_names::TargetName;
 use tough_net::Transport;
-use tough_schema::DemoVerify;
-use url::Url;
-
-/// What is to be loaded, and which target is to be saved where.
-#[derive(Drop)]
-pub(crate) struct Wanted<'a> {
-    /// The bytes of the root that is trusted.
-    pub(crate) root: &'a [u8],
-    /// The URL below which the metadata lies.
-    pub(crate) metadata: Url,
-    /// The URL below which the targets lie.
-    pub(crate) targets: Url,
-    /// The folder of the store.
-    pub(crate) store: &'a str,
-    /// The name of the target.
-    pub(crate) name: &'a TargetName,
-    /// The output folder.
-    pub(crate) outdir: &'a str,
-}
-
-// A role and its version.
-fn line(alloc: Global, role: &str, version: NonZeroU64) -> Result<String, AllocError>
-    ensures { IfOk result (λ text. string_bytes text ≡ version_line role.now (non_zero_u64_get version)) }
-{
-    let text = format!(in alloc; "{role} {version}\n")?;
-    Ok(text)
-}
-
-// The versions of what was loaded, a line each.
-fn versions(alloc: Global, loaded: &Loaded) -> Result<String, AllocError>
-    ensures { IfOk result (λ text. string_bytes text ≡ versions_text (loaded_doc loaded.now)) }
-{
-    let root = line(alloc, "root", loaded.root().signed.version)?;
-    let timestamp = line(alloc, "timestamp", loaded.timestamp().signed.version)?;
-    let snapshot = line(alloc, "snapshot", loaded.snapshot().signed.version)?;
-    let targets = line(alloc, "targets", loaded.targets().signed.version)?;
-    let text = format!(in alloc; "{root}{timestamp}{snapshot}{targets}")?;
-    Ok(text)
-}
-
-// The versions of what was loaded, and what was saved where.
-fn report(
-    alloc: Global,
-    loaded: &Loaded,
-    name: &TargetName,
-    outdir: &str,
-) -> Result<String, AllocError>
-    ensures { IfOk result (λ text. Reports (loaded_doc loaded.now) (string_bytes text)) }
-{
-    let versions = versions(alloc, loaded)?;
-    let resolved = name.resolved();
-    let text = format!(in alloc; "{versions}saved {resolved} in {outdir}\n")?;
-    Ok(text)
-}
 
 // Saves the target.
 fn save<R, T, K, C, F>(
@@ -161,6 +101,8 @@ pub(crate) fn get_by<R, T, E>(
     runtime: &mut LocalRuntime,
     transport: T,
     wanted: Wanted<'_>,
+    name: &TargetName,
+    outdir: &str,
     err: Option<&mut E>,
 ) -> Result<String, Fault>
 where
@@ -169,30 +111,8 @@ where
     E: Write,
     ensures { IfOk result (λ text. IsReport (string_bytes text)) }
 {
-    let alloc = rt.alloc();
-    let Wanted {
-        root,
-        metadata,
-        targets,
-        store,
-        name,
-        outdir,
-    } = wanted;
-    let folder = String::from_str(alloc, store)?;
-    let mut vault = Vault::new(alloc, DirStore::new(rt.clone()?, folder));
-    let loader = RepositoryLoader::new(alloc, root, metadata, targets)
-        .transport(transport)
-        .verifier(DemoVerify)
-        .clock(SystemClock::new(rt.clone()?))
-        .keeper(&mut vault);
-    let load = match loader.load() {
-        Ok(load) => load,
-        Err(error) => return Err(Fault::Load(Error::from(error), None)),
-    };
-    let (outcome, load) = match drive_on(rt, runtime, load) {
-        Ok(both) => both,
-        Err(error) => return Err(Fault::Run(error)),
-    };
+    let mut vault = vault_in(rt, wanted.store)?;
+    let (outcome, load) = run_load(rt, runtime, transport, &mut vault, wanted)?;
     match outcome {
         Ok(loaded) => {
             let mut repository = Repository::new(load, loaded);

@@ -6,8 +6,10 @@
 pub mod error;
 pub mod files;
 mod get;
+mod opening;
 mod program;
 mod progress;
+mod report;
 pub mod schema;
 pub mod sign;
 mod waiting;

@@ -1,27 +1,25 @@
 //! The program `tough`.
 
 ghost use Rattle.std.specs.Prelude.{◌≡◌, ◌≤◌, ⊤, ℕ, List, OnOk, IfOk, IsTrue, Ok, true, length, string_bytes};
-ghost use Rattle.std.specs.Int.NonZero.{non_zero_u64_get};
 ghost use Rattle.std.specs.Io.KnownBytes.{Appends};
 ghost use Rattle.tough_update.specs.Stages.{LoadedDoc};
 ghost use Rattle.tough_update.specs.View.{loaded_doc};
-ghost use Rattle.tough.specs.Program.{IsReport, IsVouchedFor, version_line, versions_text};
+ghost use Rattle.tough.specs.Program.{IsReport, IsVouchedFor, versions_text};
 
-use crate::get::{Wanted, get_by};
-use crate::{Error, drive_on};
-use std::alloc::{AllocError, AllocGlobal, Global};
+use crate::Error;
+use crate::get::get_by;
+use crate::opening::{Fault, Wanted, load_by};
+use crate::report::versions;
+use std::alloc::{AllocGlobal, Global};
 use std::io::{self, Write};
 use std::net::Net;
-use std::num::NonZeroU64;
 use std::random::RandomSource;
 use std::sync::Wait;
 use std::{fs, rt};
 use tokio::runtime::LocalRuntime;
 use tough_http::DefaultTransport;
-use tough_load::{DirStore, Loaded, RepositoryLoader, SystemClock, Vault};
+use tough_load::Loaded;
 use tough_names::TargetName;
-use tough_net::Transport;
-use tough_schema::DemoVerify;
 use url::{ParseError, Url};
 
 const WARNING: &str = "tough: demo verifier, signatures prove nothing";
@@ -29,25 +27,6 @@ const WARNING: &str = "tough: demo verifier, signatures prove nothing";
 const LOAD: &str = "usage: tough load ROOT METADATA TARGETS STORE";
 
 const GET: &str = "usage: tough get ROOT METADATA TARGETS STORE NAME OUTDIR";
-
-// Why a run failed.
-#[derive(Drop)]
-pub(crate) enum Fault {
-    /// The file of the root couldn't be read.
-    FileRead(io::Error),
-    /// The load couldn't be begun, or refused, and what the system last said of the store, if that failed.
-    Load(Error, Option<io::Error>),
-    /// The load couldn't be run.
-    Run(io::Error),
-}
-
-impl From<AllocError> for Fault {
-    ghost from_gives = { λ _ _. ⊤ };
-
-    fn from(_: AllocError) -> Fault {
-        Fault::Load(Error::Memory, None)
-    }
-}
 
 // The URL of a word.
 fn url(alloc: Global, word: &str) -> Result<Url, Fault> {
@@ -61,45 +40,27 @@ fn url(alloc: Global, word: &str) -> Result<Url, Fault> {
     }
 }
 
-// Loads a repository into a folder, over a transport that the runtime serves.
-fn load_by<R, T>(
+// What these words want loaded, with the root's file read.
+fn wanted<'a, R>(
     rt: &R,
-    runtime: &mut LocalRuntime,
-    transport: T,
     root: &str,
-    metadata: Url,
-    targets: Url,
-    store: &str,
-) -> Result<Loaded, Fault>
+    metadata: &str,
+    targets: &str,
+    store: &'a str,
+) -> Result<Wanted<'a>, Fault>
 where
-    R: rt::Files + Wait + rt::Clock + RandomSource + AllocGlobal + Clone + Drop,
-    T: Transport,
-    ensures { IfOk result (λ l. IsVouchedFor (loaded_doc l)) }
+    R: rt::Files + AllocGlobal,
 {
-    let alloc = rt.alloc();
-    let bytes = match fs::read(rt, root) {
-        Ok(bytes) => bytes,
-        Err(error) => return Err(Fault::FileRead(error)),
-    };
-    let folder = String::from_str(alloc, store)?;
-    let mut vault = Vault::new(alloc, DirStore::new(rt.clone()?, folder));
-    let loader = RepositoryLoader::new(alloc, bytes.as_slice(), metadata, targets)
-        .transport(transport)
-        .verifier(DemoVerify)
-        .clock(SystemClock::new(rt.clone()?))
-        .keeper(&mut vault);
-    let load = match loader.load() {
-        Ok(load) => load,
-        Err(error) => return Err(Fault::Load(Error::from(error), None)),
-    };
-    let (outcome, load) = match drive_on(rt, runtime, load) {
-        Ok(both) => both,
-        Err(error) => return Err(Fault::Run(error)),
-    };
-    drop(load);
-    match outcome {
-        Ok(loaded) => Ok(loaded),
-        Err(error) => Err(Fault::Load(Error::from(error), vault.into_store().into_fault())),
+    let metadata = url(rt.alloc(), metadata)?;
+    let targets = url(rt.alloc(), targets)?;
+    match fs::read(rt, root) {
+        Ok(root) => Ok(Wanted {
+            root,
+            metadata,
+            targets,
+            store,
+        }),
+        Err(error) => Err(Fault::FileRead(error)),
     }
 }
 
@@ -109,15 +70,13 @@ where
     R: rt::Files + Net + Wait + rt::Clock + RandomSource + AllocGlobal + Clone + Drop,
     ensures { IfOk result (λ l. IsVouchedFor (loaded_doc l)) }
 {
-    let alloc = rt.alloc();
-    let metadata = url(alloc, metadata)?;
-    let targets = url(alloc, targets)?;
+    let wanted = wanted(rt, root, metadata, targets, store)?;
     let mut runtime = match LocalRuntime::new(rt) {
         Ok(runtime) => runtime,
         Err(error) => return Err(Fault::Run(error)),
     };
     let transport = DefaultTransport::new(rt.clone()?, runtime.handle().clone()?)?;
-    load_by(rt, &mut runtime, transport, root, metadata, targets, store)
+    load_by(rt, &mut runtime, transport, wanted)
 }
 
 // The name of a word.
@@ -144,46 +103,22 @@ where
     E: Write,
     ensures { IfOk result (λ text. IsReport (string_bytes text)) }
 {
-    let alloc = rt.alloc();
-    let metadata = url(alloc, metadata)?;
-    let targets = url(alloc, targets)?;
-    let name = target_name(alloc, name)?;
-    let bytes = match fs::read(rt, root) {
-        Ok(bytes) => bytes,
-        Err(error) => return Err(Fault::FileRead(error)),
-    };
-    let wanted = Wanted {
-        root: bytes.as_slice(),
-        metadata,
-        targets,
-        store,
-        name: &name,
-        outdir,
-    };
+    let wanted = wanted(rt, root, metadata, targets, store)?;
+    let name = target_name(rt.alloc(), name)?;
     let mut runtime = match LocalRuntime::new(rt) {
         Ok(runtime) => runtime,
         Err(error) => return Err(Fault::Run(error)),
     };
     let transport = DefaultTransport::new(rt.clone()?, runtime.handle().clone()?)?;
-    get_by(rt, &mut runtime, transport, wanted, err)
-}
-
-// A role and its version.
-fn print_version<O: Write>(out: &mut O, role: &str, version: NonZeroU64) -> io::Result<()>
-    ensures { OnOk result (Appends (O.contents out.old) (O.contents out.new) (version_line role.now (non_zero_u64_get version))) }
-{
-    writeln!(out, "{role} {version}")
+    get_by(rt, &mut runtime, transport, wanted, &name, outdir, err)
 }
 
 // The versions of what was loaded.
-fn print<O: Write>(out: &mut O, loaded: &Loaded) -> io::Result<()>
+fn print<O: Write>(alloc: Global, out: &mut O, loaded: &Loaded) -> io::Result<()>
     ensures { OnOk result (Appends (O.contents out.old) (O.contents out.new) (versions_text (loaded_doc loaded.now))) }
 {
-    print_version(out, "root", loaded.root().signed.version)?;
-    print_version(out, "timestamp", loaded.timestamp().signed.version)?;
-    print_version(out, "snapshot", loaded.snapshot().signed.version)?;
-    print_version(out, "targets", loaded.targets().signed.version)?;
-    Ok(())
+    let text = versions(alloc, loaded)?;
+    write!(out, "{text}")
 }
 
 // Tells why a run failed, whose root and store stand in this file and this folder.
@@ -251,7 +186,7 @@ where
         store.as_str(),
     ) {
         Ok(loaded) => {
-            print(out, &loaded)?;
+            print(rt.alloc(), out, &loaded)?;
             Ok(true)
         }
         Err(fault) => {
