@@ -19,7 +19,7 @@ pub use error::Error;
 pub use futures::task::{Context, Poll};
 pub use futures::{Future, Stream};
 pub use jiff;
-pub use program::run;
+pub use program::{run, run_watched};
 pub use tokio::runtime::LocalRuntime;
 pub use tough_base::{
     FileKind, Files, FilesError, MemoryFiles, NameError, OsFiles, SafeUrlPath, TargetName,

@@ -40,26 +40,10 @@ fn url(alloc: Global, word: &str) -> Result<Url, Fault> {
     }
 }
 
-// What these words want loaded, with the root's file read.
-fn wanted<'a, R>(
-    rt: &R,
-    root: &str,
-    metadata: &str,
-    targets: &str,
-    store: &'a str,
-) -> Result<Wanted<'a>, Fault>
-where
-    R: rt::Files + AllocGlobal,
-{
-    let metadata = url(rt.alloc(), metadata)?;
-    let targets = url(rt.alloc(), targets)?;
-    match fs::read(rt, root) {
-        Ok(root) => Ok(Wanted {
-            root,
-            metadata,
-            targets,
-            store,
-        }),
+// The bytes of a file.
+fn read<R: rt::Files + AllocGlobal>(rt: &R, path: &str) -> Result<Vec<u8>, Fault> {
+    match fs::read(rt, path) {
+        Ok(bytes) => Ok(bytes),
         Err(error) => Err(Fault::FileRead(error)),
     }
 }
@@ -70,7 +54,15 @@ where
     R: rt::Files + Net + Wait + rt::Clock + RandomSource + AllocGlobal + Clone + Drop,
     ensures { IfOk result (λ l. IsVouchedFor (loaded_doc l)) }
 {
-    let wanted = wanted(rt, root, metadata, targets, store)?;
+    let metadata = url(rt.alloc(), metadata)?;
+    let targets = url(rt.alloc(), targets)?;
+    let root = read(rt, root)?;
+    let wanted = Wanted {
+        root,
+        metadata,
+        targets,
+        store,
+    };
     let mut runtime = match LocalRuntime::new(rt) {
         Ok(runtime) => runtime,
         Err(error) => return Err(Fault::Run(error)),
@@ -103,8 +95,16 @@ where
     E: Write,
     ensures { IfOk result (λ text. IsReport (string_bytes text)) }
 {
-    let wanted = wanted(rt, root, metadata, targets, store)?;
+    let metadata = url(rt.alloc(), metadata)?;
+    let targets = url(rt.alloc(), targets)?;
     let name = target_name(rt.alloc(), name)?;
+    let root = read(rt, root)?;
+    let wanted = Wanted {
+        root,
+        metadata,
+        targets,
+        store,
+    };
     let mut runtime = match LocalRuntime::new(rt) {
         Ok(runtime) => runtime,
         Err(error) => return Err(Fault::Run(error)),
@@ -201,9 +201,28 @@ where
 /// `load ROOT METADATA TARGETS STORE` loads the repository whose metadata and targets lie at the two URLs (of the scheme `file` or `http`), from the
 /// root in the file ROOT into the folder STORE, and prints the versions of its root, timestamp, snapshot and targets, a line each. A fault
 /// is a line on `err`. `get ROOT METADATA TARGETS STORE NAME OUTDIR` loads it so, saves the target NAME below the folder OUTDIR, and prints the
-/// same lines and one more, which tells what was saved where. Meanwhile a line on `err` tells how much of it is there, at most ten times a
-/// second, where `is_watched` says so. Other words print how the program is used there. Each run first says there that its verifier proves nothing.
-pub fn run<R, O, E>(rt: &R, words: &[String], out: &mut O, err: &mut E, is_watched: bool) -> u8
+/// same lines and one more, which tells what was saved where. Other words print how the program is used there. Each run first says there that its verifier proves nothing.
+pub fn run<R, O, E>(rt: &R, words: &[String], out: &mut O, err: &mut E) -> u8
+where
+    R: rt::Files + Net + Wait + rt::Clock + RandomSource + AllocGlobal + Clone + Drop,
+    O: Write,
+    E: Write,
+    ensures status { result ≤ 1 }
+    ensures printed { result ≡ 0 → length words.now ≡ 5 → (l : LoadedDoc) × IsVouchedFor l × Appends (O.contents out.old) (O.contents out.new) (versions_text l) }
+    ensures reported { result ≡ 0 → length words.now ≡ 7 → (text : List ℕ) × IsReport text × Appends (O.contents out.old) (O.contents out.new) text }
+{
+    run_watched(rt, words, out, err, false)
+}
+
+/// As `run`; where `is_watched` says so, a line on `err` tells how much of the target is there while it is saved, at most ten times a
+/// second.
+pub fn run_watched<R, O, E>(
+    rt: &R,
+    words: &[String],
+    out: &mut O,
+    err: &mut E,
+    is_watched: bool,
+) -> u8
 where
     R: rt::Files + Net + Wait + rt::Clock + RandomSource + AllocGlobal + Clone + Drop,
     O: Write,

@@ -13,6 +13,6 @@ fn main(rt: HostRuntime) -> io::Result<ExitCode> {
     let mut out = rt.stdout();
     let mut err = rt.stderr();
     let is_watched = err.is_terminal();
-    let status = tough::run(&rt, words.as_slice(), &mut out, &mut err, is_watched);
+    let status = tough::run_watched(&rt, words.as_slice(), &mut out, &mut err, is_watched);
     Ok(ExitCode::from(status))
 }
