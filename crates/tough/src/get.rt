@@ -4,7 +4,7 @@ ghost use Rattle.std.specs.Prelude.{IfOk, string_bytes};
 ghost use Rattle.tough_client.specs.Repositories.{documents_of};
 ghost use Rattle.tough.specs.Program.{IsReport, Reports};
 
-use crate::opening::{Fault, Wanted, run_load, vault_in};
+use crate::opening::{Fault, Wanted, open_by, vault_in, with_cause};
 use crate::progress::Watched;
 use crate::report::report;
 use std::alloc::AllocGlobal;
@@ -13,7 +13,7 @@ use std::random::RandomSource;
 use std::sync::Wait;
 use std::{rt, time};
 use tokio::runtime::LocalRuntime;
-use tough_client::{Clock, Error, Keeper, Prefix, Repository};
+use tough_client::{Clock, Keeper, Prefix, Repository};
 use tough_files::{Files, OsFiles};
 use tough_names::TargetName;
 use tough_net::Transport;
@@ -49,21 +49,21 @@ fn save_watched<R, T, K, C, E>(
     repository: &mut Repository<T, K, C>,
     name: &TargetName,
     outdir: &str,
-    err: Option<&mut E>,
+    err: Option<E>,
 ) -> Result<(), Fault>
 where
     R: rt::Files + Wait + rt::Clock + RandomSource + AllocGlobal + Clone + Drop,
     T: Transport,
     K: Keeper,
     C: Clock + Drop,
-    E: Write,
+    E: Write + Drop,
 {
     let targets = &repository.targets().signed;
     let length = match targets.find_target(rt.alloc(), name, false) {
         Ok(target) => target.length,
         Err(_) => 0,
     };
-    let mut files = Watched::new(OsFiles::new(rt.clone()?), rt, err, length);
+    let mut files = Watched::new(OsFiles::new(rt.clone()?), rt.clone()?, err, length);
     let done = save(rt, runtime, repository, &mut files, name, outdir);
     files.finish();
     done
@@ -76,14 +76,14 @@ fn save_and_report<R, T, K, C, E>(
     repository: &mut Repository<T, K, C>,
     name: &TargetName,
     outdir: &str,
-    err: Option<&mut E>,
+    err: Option<E>,
 ) -> Result<String, Fault>
 where
     R: rt::Files + Wait + rt::Clock + RandomSource + AllocGlobal + Clone + Drop,
     T: Transport,
     K: Keeper,
     C: Clock + Drop,
-    E: Write,
+    E: Write + Drop,
     ensures { IfOk result (λ text. Reports (documents_of repository.old) (string_bytes text)) }
 {
     match report(rt.alloc(), repository.documents(), name, outdir) {
@@ -103,24 +103,23 @@ pub(crate) fn get_by<R, T, E>(
     wanted: Wanted<'_>,
     name: &TargetName,
     outdir: &str,
-    err: Option<&mut E>,
+    err: Option<E>,
 ) -> Result<String, Fault>
 where
     R: rt::Files + Wait + rt::Clock + RandomSource + AllocGlobal + Clone + Drop,
     T: Transport,
-    E: Write,
+    E: Write + Drop,
     ensures { IfOk result (λ text. IsReport (string_bytes text)) }
 {
     let mut vault = vault_in(rt, wanted.store)?;
-    let (outcome, load) = run_load(rt, runtime, transport, &mut vault, wanted)?;
-    match outcome {
-        Ok(loaded) => {
-            let mut repository = Repository::new(load, loaded);
-            save_and_report(rt, runtime, &mut repository, name, outdir, err)
+    match open_by(rt, runtime, transport, &mut vault, wanted) {
+        Ok(repository) => {
+            let mut repository = repository;
+            match save_and_report(rt, runtime, &mut repository, name, outdir, err) {
+                Ok(text) => Ok(text),
+                Err(fault) => Err(fault),
+            }
         }
-        Err(error) => {
-            drop(load);
-            Err(Fault::Load(Error::from(error), vault.into_store().into_fault()))
-        }
+        Err(fault) => Err(with_cause(fault, vault)),
     }
 }

@@ -1,7 +1,7 @@
 //! A repository is loaded over a transport.
 
 ghost use Rattle.std.specs.Prelude.{⊤, IfOk};
-ghost use Rattle.tough_update.specs.View.{loaded_doc};
+ghost use Rattle.tough_client.specs.Repositories.{documents_of};
 ghost use Rattle.tough.specs.Program.{IsVouchedFor};
 
 use crate::{Error, drive_on};
@@ -10,9 +10,8 @@ use std::random::RandomSource;
 use std::sync::Wait;
 use std::{io, rt};
 use tokio::runtime::LocalRuntime;
-use tough_load::{
-    DirStore, Keeper, Load, Loaded, RepositoryLoader, SystemClock, UpdateError, Vault,
-};
+use tough_client::Repository;
+use tough_load::{DirStore, Keeper, RepositoryLoader, SystemClock, Vault};
 use tough_net::Transport;
 use tough_schema::DemoVerify;
 use url::Url;
@@ -58,25 +57,19 @@ where
     Ok(Vault::new(rt.alloc(), DirStore::new(rt.clone()?, folder)))
 }
 
-/// Runs the load over a transport that the runtime serves, by this keeper, and gives it back beside its outcome.
-pub(crate) fn run_load<R, T, K>(
+/// Loads a repository over a transport that the runtime serves, by this keeper.
+pub(crate) fn open_by<R, T, K>(
     rt: &R,
     runtime: &mut LocalRuntime,
     transport: T,
     keeper: K,
     wanted: Wanted<'_>,
-) -> Result<
-    (
-        Result<Loaded, UpdateError>,
-        Load<T, K, SystemClock<R>, DemoVerify>,
-    ),
-    Fault,
->
+) -> Result<Repository<T, K, SystemClock<R>>, Fault>
 where
     R: rt::Files + Wait + rt::Clock + RandomSource + AllocGlobal + Clone + Drop,
     T: Transport,
     K: Keeper,
-    ensures { IfOk result (λ both. IfOk both.0 (λ l. IsVouchedFor (loaded_doc l))) }
+    ensures { IfOk result (λ r. IsVouchedFor (documents_of r)) }
 {
     let clock = SystemClock::new(rt.clone()?);
     let Wanted {
@@ -94,30 +87,26 @@ where
         Ok(load) => load,
         Err(error) => return Err(Fault::Load(Error::from(error), None)),
     };
-    match drive_on(rt, runtime, load) {
-        Ok((Ok(loaded), load)) => Ok((Ok(loaded), load)),
-        Ok((Err(error), load)) => Ok((Err(error), load)),
-        Err(error) => Err(Fault::Run(error)),
+    let (outcome, load) = match drive_on(rt, runtime, load) {
+        Ok(both) => both,
+        Err(error) => return Err(Fault::Run(error)),
+    };
+    match outcome {
+        Ok(loaded) => Ok(Repository::new(load, loaded)),
+        Err(error) => {
+            drop(load);
+            Err(Fault::Load(Error::from(error), None))
+        }
     }
 }
 
-/// Loads a repository over a transport that the runtime serves.
-pub(crate) fn load_by<R, T>(
-    rt: &R,
-    runtime: &mut LocalRuntime,
-    transport: T,
-    wanted: Wanted<'_>,
-) -> Result<Loaded, Fault>
+/// The fault of a run whose store stands in the vault.
+pub(crate) fn with_cause<R>(fault: Fault, vault: Vault<DirStore<R>>) -> Fault
 where
-    R: rt::Files + Wait + rt::Clock + RandomSource + AllocGlobal + Clone + Drop,
-    T: Transport,
-    ensures { IfOk result (λ l. IsVouchedFor (loaded_doc l)) }
+    R: rt::Files + AllocGlobal + Clone + Drop,
 {
-    let mut vault = vault_in(rt, wanted.store)?;
-    let (outcome, load) = run_load(rt, runtime, transport, &mut vault, wanted)?;
-    drop(load);
-    match outcome {
-        Ok(loaded) => Ok(loaded),
-        Err(error) => Err(Fault::Load(Error::from(error), vault.into_store().into_fault())),
+    match fault {
+        Fault::Load(error, _) => Fault::Load(error, vault.into_store().into_fault()),
+        fault => fault,
     }
 }

@@ -1,14 +1,13 @@
 //! The program `tough`.
 
-ghost use Rattle.std.specs.Prelude.{◌≡◌, ◌≤◌, ⊤, ℕ, List, OnOk, IfOk, IsTrue, Ok, true, length, string_bytes};
+ghost use Rattle.std.specs.Prelude.{◌≡◌, ◌≤◌, ℕ, List, IfOk, true, length, string_bytes};
 ghost use Rattle.std.specs.Io.KnownBytes.{Appends};
 ghost use Rattle.tough_update.specs.Stages.{LoadedDoc};
-ghost use Rattle.tough_update.specs.View.{loaded_doc};
 ghost use Rattle.tough.specs.Program.{IsReport, IsVouchedFor, versions_text};
 
 use crate::Error;
 use crate::get::get_by;
-use crate::opening::{Fault, Wanted, load_by};
+use crate::opening::{Fault, Wanted, open_by, vault_in, with_cause};
 use crate::report::versions;
 use std::alloc::{AllocGlobal, Global};
 use std::io::{self, Write};
@@ -18,8 +17,8 @@ use std::sync::Wait;
 use std::{fs, rt};
 use tokio::runtime::LocalRuntime;
 use tough_http::DefaultTransport;
-use tough_load::Loaded;
 use tough_names::TargetName;
+use tough_net::Transport;
 use url::{ParseError, Url};
 
 const WARNING: &str = "tough: demo verifier, signatures prove nothing";
@@ -48,11 +47,33 @@ fn read<R: rt::Files + AllocGlobal>(rt: &R, path: &str) -> Result<Vec<u8>, Fault
     }
 }
 
-// Loads a repository over files or HTTP into a folder.
-fn load<R>(rt: &R, root: &str, metadata: &str, targets: &str, store: &str) -> Result<Loaded, Fault>
+// Loads a repository over a transport into a folder, and gives the text that tells the versions.
+fn load_by<R, T>(
+    rt: &R,
+    runtime: &mut LocalRuntime,
+    transport: T,
+    wanted: Wanted<'_>,
+) -> Result<String, Fault>
+where
+    R: rt::Files + Wait + rt::Clock + RandomSource + AllocGlobal + Clone + Drop,
+    T: Transport,
+    ensures { IfOk result (λ text. (l : LoadedDoc) × IsVouchedFor l × (string_bytes text ≡ versions_text l)) }
+{
+    let mut vault = vault_in(rt, wanted.store)?;
+    match open_by(rt, runtime, transport, &mut vault, wanted) {
+        Ok(repository) => {
+            let text = versions(rt.alloc(), repository.documents())?;
+            Ok(text)
+        }
+        Err(fault) => Err(with_cause(fault, vault)),
+    }
+}
+
+// Loads a repository over files or HTTP into a folder, and gives the text that tells the versions.
+fn load<R>(rt: &R, root: &str, metadata: &str, targets: &str, store: &str) -> Result<String, Fault>
 where
     R: rt::Files + Net + Wait + rt::Clock + RandomSource + AllocGlobal + Clone + Drop,
-    ensures { IfOk result (λ l. IsVouchedFor (loaded_doc l)) }
+    ensures { IfOk result (λ text. (l : LoadedDoc) × IsVouchedFor l × (string_bytes text ≡ versions_text l)) }
 {
     let metadata = url(rt.alloc(), metadata)?;
     let targets = url(rt.alloc(), targets)?;
@@ -88,11 +109,11 @@ fn get<R, E>(
     store: &str,
     name: &str,
     outdir: &str,
-    err: Option<&mut E>,
+    err: Option<E>,
 ) -> Result<String, Fault>
 where
     R: rt::Files + Net + Wait + rt::Clock + RandomSource + AllocGlobal + Clone + Drop,
-    E: Write,
+    E: Write + Drop,
     ensures { IfOk result (λ text. IsReport (string_bytes text)) }
 {
     let metadata = url(rt.alloc(), metadata)?;
@@ -111,14 +132,6 @@ where
     };
     let transport = DefaultTransport::new(rt.clone()?, runtime.handle().clone()?)?;
     get_by(rt, &mut runtime, transport, wanted, &name, outdir, err)
-}
-
-// The versions of what was loaded.
-fn print<O: Write>(alloc: Global, out: &mut O, loaded: &Loaded) -> io::Result<()>
-    ensures { OnOk result (Appends (O.contents out.old) (O.contents out.new) (versions_text (loaded_doc loaded.now))) }
-{
-    let text = versions(alloc, loaded)?;
-    write!(out, "{text}")
 }
 
 // Tells why a run failed, whose root and store stand in this file and this folder.
@@ -185,8 +198,8 @@ where
         targets.as_str(),
         store.as_str(),
     ) {
-        Ok(loaded) => {
-            print(rt.alloc(), out, &loaded)?;
+        Ok(text) => {
+            write!(out, "{text}")?;
             Ok(true)
         }
         Err(fault) => {

@@ -11,11 +11,11 @@ const PAUSE: u64 = 100;
 
 /// Files that tell how many bytes of a target they have appended, on one line that is written over and over, or tell nothing.
 #[derive(Drop)]
-pub(crate) struct Watched<'a, F, R, E> {
+pub(crate) struct Watched<F, R, E> {
     files: F,
-    clock: &'a R,
+    clock: R,
     // Where it is told.
-    err: Option<&'a mut E>,
+    err: Option<E>,
     // The bytes so far.
     bytes: u64,
     // The length that is listed, in bytes.
@@ -24,14 +24,9 @@ pub(crate) struct Watched<'a, F, R, E> {
     last: Option<Duration>,
 }
 
-impl<'a, F, R: Clock, E: Write> Watched<'a, F, R, E> {
+impl<F, R: Clock, E: Write> Watched<F, R, E> {
     /// Files to which nothing has been appended yet.
-    pub(crate) fn new(
-        files: F,
-        clock: &'a R,
-        err: Option<&'a mut E>,
-        length: u64,
-    ) -> Watched<'a, F, R, E> {
+    pub(crate) fn new(files: F, clock: R, err: Option<E>, length: u64) -> Watched<F, R, E> {
         Watched {
             files,
             clock,
@@ -71,7 +66,7 @@ impl<'a, F, R: Clock, E: Write> Watched<'a, F, R, E> {
     }
 }
 
-impl<F: Files, R: Clock, E: Write> Files for Watched<'_, F, R, E> {
+impl<F: Files, R: Clock, E: Write> Files for Watched<F, R, E> {
     ghost tells = { F.tells };
 
     ghost contents = { λ w. F.contents w.files };
