@@ -1,5 +1,5 @@
 -- What the program vouches for and prints.
-use Rattle.std.specs.Prelude.{ℕ, List, ◌++◌, codes, decimal}
+use Rattle.std.specs.Prelude.{◌≡◌, ℕ, List, ◌++◌, codes, decimal}
 use Rattle.tough_keys.specs.Demo.{demo_verifies}
 use Rattle.tough_schema.specs.Whole.{top_doc}
 use Rattle.tough_update.specs.Stages.{LoadedDoc}
@@ -23,3 +23,13 @@ versions_text l =
     ++ version_line (codes "timestamp") l.known.timestamp.role.head.version
     ++ version_line (codes "snapshot") l.known.snapshot.role.head.version
     ++ version_line (codes "targets") (top_doc l.targets.role).head.version
+
+-- a text that begins with these versions
+abbrev pub Reports : LoadedDoc → List ℕ → Type 0
+Reports l text = (rest : List ℕ) × (text ≡ versions_text l ++ rest)
+
+-- a text that begins with the versions of documents that are vouched for
+pub record IsReport (text : List ℕ) : Type 0 where
+  pub documents : LoadedDoc
+  pub vouched : IsVouchedFor documents
+  pub begins : Reports documents text

@@ -5,7 +5,11 @@
 
 pub mod error;
 pub mod files;
+mod get;
+mod opening;
 mod program;
+mod progress;
+mod report;
 pub mod schema;
 pub mod sign;
 mod waiting;
@@ -15,7 +19,7 @@ pub use error::Error;
 pub use futures::task::{Context, Poll};
 pub use futures::{Future, Stream};
 pub use jiff;
-pub use program::run;
+pub use program::{run, run_watched};
 pub use tokio::runtime::LocalRuntime;
 pub use tough_base::{
     FileKind, Files, FilesError, MemoryFiles, NameError, OsFiles, SafeUrlPath, TargetName,

@@ -1,8 +1,9 @@
-//! The program `tough`: loads a repository over files or HTTP.
+//! The program `tough`: loads a repository over files or HTTP, and saves a target of it.
 #![tactic(auto)]
 
+use std::env;
+use std::io::{self, IsTerminal};
 use std::process::ExitCode;
-use std::{env, io};
 
 fn main(rt: HostRuntime) -> io::Result<ExitCode> {
     let mut words = Vec::new(rt.alloc());
@@ -11,6 +12,7 @@ fn main(rt: HostRuntime) -> io::Result<ExitCode> {
     }
     let mut out = rt.stdout();
     let mut err = rt.stderr();
-    let status = tough::run(&rt, words.as_slice(), &mut out, &mut err);
+    let is_watched = err.is_terminal();
+    let status = tough::run_watched(&rt, words.as_slice(), &mut out, &mut err, is_watched);
     Ok(ExitCode::from(status))
 }

@@ -14,6 +14,7 @@ mod load;
 mod outcome;
 mod program;
 mod retries;
+mod saves;
 mod shelf;
 mod streams;
 mod update;
@@ -41,6 +42,7 @@ fn of_devices(rt: &HostRuntime, call: &str, case: &Value) -> Result<String> {
         "vault" => vault::steps(rt.alloc(), case),
         "DirStore" => folder::play(rt, case),
         "SystemClock::now" => folder::clock(rt, case),
+        "save_target" => saves::play(rt, case),
         "RetryCore" => retries::play(rt.alloc(), case),
         "Error" => errors::told(rt.alloc(), case),
         "schema::Error" => errors::told_of_schema(rt.alloc(), case),

@@ -1,13 +1,14 @@
-//! An updater: loads a repository into a store, and tells the length of one of its targets.
+//! An updater: loads a repository into a store, finds one of its targets, and saves it in a folder.
 #![tactic(auto)]
 
 use std::{env, fs};
 use tough::schema::DemoVerify;
 use tough::{
-    DirStore, FilesystemTransport, RepositoryLoader, SystemClock, TargetName, Url, Vault, drive,
+    DefaultTransport, DirStore, LocalRuntime, OsFiles, Prefix, Repository, RepositoryLoader,
+    SystemClock, TargetName, Url, Vault, drive_on,
 };
 
-const USAGE: &str = "usage: updater ROOT METADATA TARGETS STORE NAME";
+const USAGE: &str = "usage: updater ROOT METADATA TARGETS STORE NAME OUTDIR";
 
 fn main(rt: HostRuntime) -> anyhow::Result<()> {
     let alloc = rt.alloc();
@@ -15,27 +16,50 @@ fn main(rt: HostRuntime) -> anyhow::Result<()> {
     for word in env::args(&rt)?.skip(1) {
         words.push(word)?;
     }
-    let [root, metadata, targets, store, name] = words.as_slice() else {
+    let [root, metadata, targets, store, name, outdir] = words.as_slice() else {
         println!(&rt; "{USAGE}")?;
         return Ok(());
     };
     let trusted = fs::read(&rt, root.as_str())?;
-    let metadata = Url::parse(alloc, metadata.as_str())?;
-    let targets = Url::parse(alloc, targets.as_str())?;
-    let folder = String::from_str(alloc, store.as_str())?;
+    let name = TargetName::from_str(alloc, name.as_str())?;
+    update(
+        &rt,
+        trusted.as_slice(),
+        Url::parse(alloc, metadata.as_str())?,
+        Url::parse(alloc, targets.as_str())?,
+        store.as_str(),
+        &name,
+        outdir.as_str(),
+    )?;
+    println!(&rt; "saved {} in {outdir}", name.resolved())?;
+    Ok(())
+}
+
+// Loads the repository, whose metadata and targets lie below two URLs, into the store, and saves the target.
+fn update(
+    rt: &HostRuntime,
+    trusted: &[u8],
+    metadata: Url,
+    targets: Url,
+    store: &str,
+    name: &TargetName,
+    outdir: &str,
+) -> anyhow::Result<()> {
+    let alloc = rt.alloc();
+    let mut runtime = LocalRuntime::new(rt)?;
+    let transport = DefaultTransport::new(rt.clone()?, runtime.handle().clone()?)?;
+    let folder = String::from_str(alloc, store)?;
     let mut vault = Vault::new(alloc, DirStore::new(rt.clone()?, folder));
-    let load = RepositoryLoader::new(alloc, trusted.as_slice(), metadata, targets)
-        .transport(FilesystemTransport::new(rt.clone()?))
+    let load = RepositoryLoader::new(alloc, trusted, metadata, targets)
+        .transport(transport)
         .verifier(DemoVerify) // put your own verifier here: this one proves nothing
         .clock(SystemClock::new(rt.clone()?))
         .keeper(&mut vault)
         .load()?;
-    let repository = drive(&rt, load)??;
-    let name = TargetName::from_str(alloc, name.as_str())?;
-    let target = repository
-        .targets()
-        .signed
-        .find_target(alloc, &name, false)?;
-    println!(&rt; "{} has {} bytes", name.raw(), target.length)?;
+    let (outcome, load) = drive_on(rt, &mut runtime, load)?;
+    let mut repository = Repository::new(load, outcome?);
+    let mut files = OsFiles::new(rt.clone()?);
+    let saving = repository.save_target(&mut files, name, outdir, Prefix::None);
+    runtime.block_on(rt, saving)??;
     Ok(())
 }

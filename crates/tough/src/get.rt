@@ -1,0 +1,125 @@
+//! `tough get`: a target of a repository is saved in a folder.
+
+ghost use Rattle.std.specs.Prelude.{IfOk, string_bytes};
+ghost use Rattle.tough_client.specs.Repositories.{documents_of};
+ghost use Rattle.tough.specs.Program.{IsReport, Reports};
+
+use crate::opening::{Fault, Wanted, open_by, vault_in, with_cause};
+use crate::progress::Watched;
+use crate::report::report;
+use std::alloc::AllocGlobal;
+use std::io::Write;
+use std::random::RandomSource;
+use std::sync::Wait;
+use std::{rt, time};
+use tokio::runtime::LocalRuntime;
+use tough_client::{Clock, Keeper, Prefix, Repository};
+use tough_files::{Files, OsFiles};
+use tough_names::TargetName;
+use tough_net::Transport;
+
+// Saves the target.
+fn save<R, T, K, C, F>(
+    rt: &R,
+    runtime: &mut LocalRuntime,
+    repository: &mut Repository<T, K, C>,
+    files: &mut F,
+    name: &TargetName,
+    outdir: &str,
+) -> Result<(), Fault>
+where
+    R: Wait + time::Clock + RandomSource + AllocGlobal,
+    T: Transport,
+    K: Keeper,
+    C: Clock + Drop,
+    F: Files,
+{
+    let saving = repository.save_target(files, name, outdir, Prefix::None);
+    match runtime.block_on(rt, saving) {
+        Ok(Ok(())) => Ok(()),
+        Ok(Err(error)) => Err(Fault::Load(error, None)),
+        Err(error) => Err(Fault::Run(error)),
+    }
+}
+
+// Saves the target, and tells meanwhile how much of it is there.
+fn save_watched<R, T, K, C, E>(
+    rt: &R,
+    runtime: &mut LocalRuntime,
+    repository: &mut Repository<T, K, C>,
+    name: &TargetName,
+    outdir: &str,
+    err: Option<E>,
+) -> Result<(), Fault>
+where
+    R: rt::Files + Wait + rt::Clock + RandomSource + AllocGlobal + Clone + Drop,
+    T: Transport,
+    K: Keeper,
+    C: Clock + Drop,
+    E: Write + Drop,
+{
+    let targets = &repository.targets().signed;
+    let length = match targets.find_target(rt.alloc(), name, false) {
+        Ok(target) => target.length,
+        Err(_) => 0,
+    };
+    let mut files = Watched::new(OsFiles::new(rt.clone()?), rt.clone()?, err, length);
+    let done = save(rt, runtime, repository, &mut files, name, outdir);
+    files.finish();
+    done
+}
+
+// Saves a target of a repository, and tells the versions of what was loaded, and what was saved where.
+fn save_and_report<R, T, K, C, E>(
+    rt: &R,
+    runtime: &mut LocalRuntime,
+    repository: &mut Repository<T, K, C>,
+    name: &TargetName,
+    outdir: &str,
+    err: Option<E>,
+) -> Result<String, Fault>
+where
+    R: rt::Files + Wait + rt::Clock + RandomSource + AllocGlobal + Clone + Drop,
+    T: Transport,
+    K: Keeper,
+    C: Clock + Drop,
+    E: Write + Drop,
+    ensures { IfOk result (λ text. Reports (documents_of repository.old) (string_bytes text)) }
+{
+    match report(rt.alloc(), repository.documents(), name, outdir) {
+        Ok(text) => match save_watched(rt, runtime, repository, name, outdir, err) {
+            Ok(()) => Ok(text),
+            Err(fault) => Err(fault),
+        },
+        Err(error) => Err(Fault::from(error)),
+    }
+}
+
+/// Loads the repository over a transport, saves the target, and gives the text that tells the versions and what was saved where.
+pub(crate) fn get_by<R, T, E>(
+    rt: &R,
+    runtime: &mut LocalRuntime,
+    transport: T,
+    wanted: Wanted<'_>,
+    name: &TargetName,
+    outdir: &str,
+    err: Option<E>,
+) -> Result<String, Fault>
+where
+    R: rt::Files + Wait + rt::Clock + RandomSource + AllocGlobal + Clone + Drop,
+    T: Transport,
+    E: Write + Drop,
+    ensures { IfOk result (λ text. IsReport (string_bytes text)) }
+{
+    let mut vault = vault_in(rt, wanted.store)?;
+    match open_by(rt, runtime, transport, &mut vault, wanted) {
+        Ok(repository) => {
+            let mut repository = repository;
+            match save_and_report(rt, runtime, &mut repository, name, outdir, err) {
+                Ok(text) => Ok(text),
+                Err(fault) => Err(fault),
+            }
+        }
+        Err(fault) => Err(with_cause(fault, vault)),
+    }
+}

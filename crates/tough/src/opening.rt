@@ -1,0 +1,112 @@
+//! A repository is loaded over a transport.
+
+ghost use Rattle.std.specs.Prelude.{⊤, IfOk};
+ghost use Rattle.tough_client.specs.Repositories.{documents_of};
+ghost use Rattle.tough.specs.Program.{IsVouchedFor};
+
+use crate::{Error, drive_on};
+use std::alloc::{AllocError, AllocGlobal};
+use std::random::RandomSource;
+use std::sync::Wait;
+use std::{io, rt};
+use tokio::runtime::LocalRuntime;
+use tough_client::Repository;
+use tough_load::{DirStore, Keeper, RepositoryLoader, SystemClock, Vault};
+use tough_net::Transport;
+use tough_schema::DemoVerify;
+use url::Url;
+
+/// Why a run failed.
+#[derive(Drop)]
+pub(crate) enum Fault {
+    /// The file of the root couldn't be read.
+    FileRead(io::Error),
+    /// The load couldn't be begun, or refused, and what the system last said of the store, if that failed.
+    Load(Error, Option<io::Error>),
+    /// The load couldn't be run.
+    Run(io::Error),
+}
+
+impl From<AllocError> for Fault {
+    ghost from_gives = { λ _ _. ⊤ };
+
+    fn from(_: AllocError) -> Fault {
+        Fault::Load(Error::Memory, None)
+    }
+}
+
+/// What is to be loaded.
+#[derive(Drop)]
+pub(crate) struct Wanted<'a> {
+    /// The bytes of the root that is trusted.
+    pub(crate) root: Vec<u8>,
+    /// The URL below which the metadata lies.
+    pub(crate) metadata: Url,
+    /// The URL below which the targets lie.
+    pub(crate) targets: Url,
+    /// The folder of the store.
+    pub(crate) store: &'a str,
+}
+
+/// The vault in the folder.
+pub(crate) fn vault_in<R>(rt: &R, folder: &str) -> Result<Vault<DirStore<R>>, AllocError>
+where
+    R: rt::Files + AllocGlobal + Clone + Drop,
+{
+    let folder = String::from_str(rt.alloc(), folder)?;
+    Ok(Vault::new(rt.alloc(), DirStore::new(rt.clone()?, folder)))
+}
+
+/// Loads a repository over a transport that the runtime serves, by this keeper.
+pub(crate) fn open_by<R, T, K>(
+    rt: &R,
+    runtime: &mut LocalRuntime,
+    transport: T,
+    keeper: K,
+    wanted: Wanted<'_>,
+) -> Result<Repository<T, K, SystemClock<R>>, Fault>
+where
+    R: rt::Files + Wait + rt::Clock + RandomSource + AllocGlobal + Clone + Drop,
+    T: Transport,
+    K: Keeper,
+    ensures { IfOk result (λ r. IsVouchedFor (documents_of r)) }
+{
+    let clock = SystemClock::new(rt.clone()?);
+    let Wanted {
+        root,
+        metadata,
+        targets,
+        ..
+    } = wanted;
+    let loader = RepositoryLoader::new(rt.alloc(), root.as_slice(), metadata, targets)
+        .transport(transport)
+        .verifier(DemoVerify)
+        .clock(clock)
+        .keeper(keeper);
+    let load = match loader.load() {
+        Ok(load) => load,
+        Err(error) => return Err(Fault::Load(Error::from(error), None)),
+    };
+    let (outcome, load) = match drive_on(rt, runtime, load) {
+        Ok(both) => both,
+        Err(error) => return Err(Fault::Run(error)),
+    };
+    match outcome {
+        Ok(loaded) => Ok(Repository::new(load, loaded)),
+        Err(error) => {
+            drop(load);
+            Err(Fault::Load(Error::from(error), None))
+        }
+    }
+}
+
+/// The fault of a run whose store stands in the vault.
+pub(crate) fn with_cause<R>(fault: Fault, vault: Vault<DirStore<R>>) -> Fault
+where
+    R: rt::Files + AllocGlobal + Clone + Drop,
+{
+    match fault {
+        Fault::Load(error, _) => Fault::Load(error, vault.into_store().into_fault()),
+        fault => fault,
+    }
+}

@@ -1,0 +1,134 @@
+//! How much of a target is there, told while it is saved.
+
+ghost use Rattle.std.specs.Prelude.{◌≡◌};
+
+use std::io::Write;
+use std::time::{Clock, Duration};
+use tough_files::{FileKind, Files, FilesError};
+
+// The least time between two tellings, in milliseconds, so that there are at most ten a second.
+const PAUSE: u64 = 100;
+
+/// Files that tell how many bytes of a target they have appended, on one line that is written over and over, or tell nothing.
+#[derive(Drop)]
+pub(crate) struct Watched<F, R, E> {
+    files: F,
+    clock: R,
+    // Where it is told.
+    err: Option<E>,
+    // The bytes so far.
+    bytes: u64,
+    // The length that is listed, in bytes.
+    length: u64,
+    // When it was last told.
+    last: Option<Duration>,
+}
+
+impl<F, R: Clock, E: Write> Watched<F, R, E> {
+    /// Files to which nothing has been appended yet.
+    pub(crate) fn new(files: F, clock: R, err: Option<E>, length: u64) -> Watched<F, R, E> {
+        Watched {
+            files,
+            clock,
+            err,
+            bytes: 0,
+            length,
+            last: None,
+        }
+    }
+
+    // Tells how much there is, where that wasn't told just now.
+    fn tell(&mut self) {
+        let Some(err) = &mut self.err else {
+            return;
+        };
+        let Ok(now) = self.clock.monotonic() else {
+            return;
+        };
+        if let Some(last) = self.last {
+            if now.saturating_sub(last) < Duration::from_millis(PAUSE) {
+                return;
+            }
+        }
+        self.last = Some(now);
+        // (what can't be told changes nothing)
+        let _ = write!(err, "\r{} of {} bytes", self.bytes, self.length);
+    }
+
+    /// Ends the line, where one was begun.
+    pub(crate) fn finish(&mut self) {
+        let Some(err) = &mut self.err else {
+            return;
+        };
+        if self.last.is_some() {
+            let _ = writeln!(err, "\r{} of {} bytes", self.bytes, self.length);
+        }
+    }
+}
+
+impl<F: Files, R: Clock, E: Write> Files for Watched<F, R, E> {
+    ghost tells = { F.tells };
+
+    ghost contents = { λ w. F.contents w.files };
+
+    ghost calls = { λ w. F.calls w.files };
+
+    ghost count = { λ w. F.count w.files };
+
+    fn kind(&mut self, path: &str, follow: bool) -> Result<FileKind, FilesError> {
+        self.files.kind(path, follow)
+    }
+
+    fn read(&mut self, path: &str, from: u64, buf: &mut [u8]) -> Result<usize, FilesError> {
+        self.files.read(path, from, buf)
+    }
+
+    fn create(&mut self, path: &str) -> Result<(), FilesError> {
+        self.files.create(path)
+    }
+
+    fn create_temp(&mut self, folder: &str) -> Result<String, FilesError> {
+        self.files.create_temp(folder)
+    }
+
+    fn append(&mut self, path: &str, bytes: &[u8]) -> Result<(), FilesError> {
+        let done = self.files.append(path, bytes);
+        if done.is_ok() {
+            self.bytes = self.bytes.saturating_add(bytes.len() as u64);
+            self.tell();
+        }
+        done
+    }
+
+    fn rename(&mut self, from: &str, to: &str) -> Result<(), FilesError> {
+        self.files.rename(from, to)
+    }
+
+    fn copy(&mut self, from: &str, to: &str) -> Result<(), FilesError> {
+        self.files.copy(from, to)
+    }
+
+    fn link(&mut self, original: &str, path: &str) -> Result<(), FilesError> {
+        self.files.link(original, path)
+    }
+
+    fn remove(&mut self, path: &str) -> Result<(), FilesError> {
+        self.files.remove(path)
+    }
+
+    fn make_folders(&mut self, path: &str) -> Result<(), FilesError> {
+        self.files.make_folders(path)
+    }
+
+    fn canonical(&mut self, path: &str) -> Result<String, FilesError> {
+        self.files.canonical(path)
+    }
+
+    fn list(&mut self, path: &str) -> Result<Vec<String>, FilesError> {
+        self.files.list(path)
+    }
+
+    fn failures(&self) -> u64 {
+        self.files.failures()
+    }
+}

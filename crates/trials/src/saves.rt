@@ -1,0 +1,121 @@
+//! Targets that are saved over files in memory.
+
+use crate::load::{enforcement, limits};
+use crate::outcome::told;
+use anyhow::Result;
+use bytes::Bytes;
+use serde_json::Value;
+use std::alloc::{AllocError, Global};
+use tough::files::{Call, Request};
+use tough::schema::DemoVerify;
+use tough::{
+    Files, FixedClock, MemoryFiles, MemoryStore, MemoryTransport, Prefix, RepositoryLoader,
+    TargetName, Vault, drive, finish,
+};
+use trials_values::case::{flag, list, number, text};
+use url::Url;
+
+// Adds the files of a member of the case, below the URL.
+fn serve(alloc: Global, case: &Value, member: &str, transport: &mut MemoryTransport) -> Result<()> {
+    if let Some(files) = case.get(member).and_then(Value::as_object) {
+        for (name, value) in files {
+            let url = format!(in alloc; "http://h/{member}/{name}")?;
+            let bytes = value.as_str().unwrap_or("").as_bytes();
+            transport.insert(url.as_str(), Bytes::copy_from_slice(alloc, bytes)?)?;
+        }
+    }
+    Ok(())
+}
+
+// The files as they are before, with the folders and the links of the case.
+fn files(alloc: Global, case: &Value) -> Result<MemoryFiles> {
+    let mut files = MemoryFiles::new(alloc);
+    for folder in list(case, "folders") {
+        files.make_folders(folder.as_str().unwrap_or(""))?;
+    }
+    for file in list(case, "files") {
+        files.create(file.as_str().unwrap_or(""))?;
+    }
+    if let Some(links) = case.get("links").and_then(Value::as_object) {
+        for (path, original) in links {
+            files.link(original.as_str().unwrap_or(""), path.as_str())?;
+        }
+    }
+    Ok(files)
+}
+
+// A path, without the number of a temporary file, which nobody prescribes.
+fn path(alloc: Global, text: &str) -> Result<String, AllocError> {
+    match text.split_once(".tmp") {
+        Some((folder, _)) => format!(in alloc; "{folder}TEMP"),
+        None => String::from_str(alloc, text),
+    }
+}
+
+// A call, by its name and the paths that it is on.
+fn named(alloc: Global, call: &Call) -> Result<String, AllocError> {
+    match &call.request {
+        Request::Kind(path, _) => format!(in alloc; "kind({path})"),
+        Request::Create(path) => format!(in alloc; "create({path})"),
+        Request::CreateTemp(folder) => format!(in alloc; "create_temp({folder})"),
+        Request::Append(temp, bytes) => {
+            let temp = path(alloc, temp.as_str())?;
+            format!(in alloc; "append({temp}, {})", bytes.len())
+        }
+        Request::Rename(temp, to) => {
+            let temp = path(alloc, temp.as_str())?;
+            format!(in alloc; "rename({temp}, {to})")
+        }
+        Request::Remove(temp) => {
+            let temp = path(alloc, temp.as_str())?;
+            format!(in alloc; "remove({temp})")
+        }
+        Request::MakeFolders(path) => format!(in alloc; "make_folders({path})"),
+        Request::Canonical(path) => format!(in alloc; "canonical({path})"),
+        _ => format!(in alloc; "another call"),
+    }
+}
+
+/// Loads the repository of the case, saves a target of it, and tells what that came to, and which calls the files were given.
+pub(crate) fn play(rt: &HostRuntime, case: &Value) -> Result<String> {
+    let alloc = rt.alloc();
+    let piece = number(case, "piece").and_then(|n| usize::try_from(n).ok());
+    let mut transport = match piece {
+        Some(length) if length > 0 => MemoryTransport::in_pieces(alloc, length),
+        _ => MemoryTransport::new(alloc),
+    };
+    serve(alloc, case, "metadata", &mut transport)?;
+    serve(alloc, case, "targets", &mut transport)?;
+    let mut vault = Vault::new(alloc, MemoryStore::new(alloc));
+    let loader = RepositoryLoader::new(
+        alloc,
+        text(case, "root").as_bytes(),
+        Url::parse(alloc, "http://h/metadata/")?,
+        Url::parse(alloc, "http://h/targets")?,
+    )
+    .transport(transport)
+    .verifier(DemoVerify)
+    .clock(FixedClock(text(case, "now").parse()?))
+    .keeper(&mut vault)
+    .limits(limits(case))
+    .expiration_enforcement(enforcement(case));
+    let mut repository = drive(rt, loader.load()?)??;
+    let mut files = files(alloc, case)?;
+    let before = files.calls().len();
+    let name = TargetName::from_str(alloc, text(case, "target"))?;
+    let prefix = if flag(case, "prefixed") {
+        Prefix::Digest
+    } else {
+        Prefix::None
+    };
+    let saving = repository.save_target(&mut files, &name, text(case, "outdir"), prefix);
+    let mut line = match finish(rt, saving)? {
+        Ok(()) => format!(in alloc; "saved")?,
+        Err(error) => told(alloc, &error)?,
+    };
+    for call in files.calls().iter().skip(before) {
+        let call = named(alloc, call)?;
+        line.push_str(format!(in alloc; "\n  {call}")?.as_str())?;
+    }
+    Ok(line)
+}
