@@ -1,6 +1,7 @@
 //! A repository is loaded over a transport.
 
 ghost use Rattle.std.specs.Prelude.{⊤, IfOk};
+ghost use Rattle.tough_update.specs.View.{loaded_doc};
 ghost use Rattle.tough_client.specs.Repositories.{documents_of};
 ghost use Rattle.tough.specs.Program.{IsVouchedFor};
 
@@ -11,9 +12,9 @@ use std::sync::Wait;
 use std::{io, rt};
 use tokio::runtime::LocalRuntime;
 use tough_client::Repository;
-use tough_load::{DirStore, Keeper, RepositoryLoader, SystemClock, Vault};
+use tough_load::{Clock, DirStore, Keeper, Load, Loaded, RepositoryLoader, SystemClock, Vault};
 use tough_net::Transport;
-use tough_schema::DemoVerify;
+use tough_schema::{DemoVerify, Verify};
 use url::Url;
 
 /// Why a run failed.
@@ -57,6 +58,18 @@ where
     Ok(Vault::new(rt.alloc(), DirStore::new(rt.clone()?, folder)))
 }
 
+// The repository of a load and its documents.
+fn opened<T, K, C, V>(load: Load<T, K, C, V>, loaded: Loaded) -> Repository<T, K, C>
+where
+    T: Transport,
+    K: Keeper,
+    C: Clock + Drop,
+    V: Verify + Drop,
+    ensures { IsVouchedFor (loaded_doc loaded) → IsVouchedFor (documents_of result) }
+{
+    Repository::new(load, loaded)
+}
+
 /// Loads a repository over a transport that the runtime serves, by this keeper.
 pub(crate) fn open_by<R, T, K>(
     rt: &R,
@@ -92,7 +105,7 @@ where
         Err(error) => return Err(Fault::Run(error)),
     };
     match outcome {
-        Ok(loaded) => Ok(Repository::new(load, loaded)),
+        Ok(loaded) => Ok(opened(load, loaded)),
         Err(error) => {
             drop(load);
             Err(Fault::Load(Error::from(error), None))

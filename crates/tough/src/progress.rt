@@ -1,7 +1,5 @@
 //! How much of a target is there, told while it is saved.
 
-ghost use Rattle.std.specs.Prelude.{◌≡◌};
-
 use std::io::Write;
 use std::time::{Clock, Duration};
 use tough_files::{FileKind, Files, FilesError};
@@ -9,10 +7,9 @@ use tough_files::{FileKind, Files, FilesError};
 // The least time between two tellings, in milliseconds, so that there are at most ten a second.
 const PAUSE: u64 = 100;
 
-/// Files that tell how many bytes of a target they have appended, on one line that is written over and over, or tell nothing.
+// Tells how many bytes of a target there are, on one line that is written over and over, or nothing.
 #[derive(Drop)]
-pub(crate) struct Watched<F, R, E> {
-    files: F,
+struct Progress<R, E> {
     clock: R,
     // Where it is told.
     err: Option<E>,
@@ -24,21 +21,10 @@ pub(crate) struct Watched<F, R, E> {
     last: Option<Duration>,
 }
 
-impl<F, R: Clock, E: Write> Watched<F, R, E> {
-    /// Files to which nothing has been appended yet.
-    pub(crate) fn new(files: F, clock: R, err: Option<E>, length: u64) -> Watched<F, R, E> {
-        Watched {
-            files,
-            clock,
-            err,
-            bytes: 0,
-            length,
-            last: None,
-        }
-    }
-
-    // Tells how much there is, where that wasn't told just now.
-    fn tell(&mut self) {
+impl<R: Clock, E: Write> Progress<R, E> {
+    // There are so many bytes more. Tells how many there are, where that wasn't told just now.
+    fn add(&mut self, bytes: usize) {
+        self.bytes = self.bytes.saturating_add(bytes as u64);
         let Some(err) = &mut self.err else {
             return;
         };
@@ -54,14 +40,40 @@ impl<F, R: Clock, E: Write> Watched<F, R, E> {
         // (what can't be told changes nothing)
         let _ = write!(err, "\r{} of {} bytes", self.bytes, self.length);
     }
+}
+
+/// Files that tell how many bytes of a target they have appended, on one line that is written over and over, or tell nothing.
+#[derive(Drop)]
+pub(crate) struct Watched<F, R, E> {
+    files: F,
+    progress: Progress<R, E>,
+}
+
+impl<F, R: Clock, E: Write> Watched<F, R, E> {
+    /// Files to which nothing of the target has been appended yet, whose length in bytes is listed so.
+    pub(crate) fn new(files: F, clock: R, err: Option<E>, length: u64) -> Watched<F, R, E> {
+        Watched {
+            files,
+            progress: Progress {
+                clock,
+                err,
+                bytes: 0,
+                length,
+                last: None,
+            },
+        }
+    }
 
     /// Ends the line, where one was begun.
     pub(crate) fn finish(&mut self) {
-        let Some(err) = &mut self.err else {
-            return;
-        };
-        if self.last.is_some() {
-            let _ = writeln!(err, "\r{} of {} bytes", self.bytes, self.length);
+        if self.progress.last.is_some() {
+            if let Some(err) = &mut self.progress.err {
+                let _ = writeln!(
+                    err,
+                    "\r{} of {} bytes",
+                    self.progress.bytes, self.progress.length
+                );
+            }
         }
     }
 }
@@ -94,8 +106,7 @@ impl<F: Files, R: Clock, E: Write> Files for Watched<F, R, E> {
     fn append(&mut self, path: &str, bytes: &[u8]) -> Result<(), FilesError> {
         let done = self.files.append(path, bytes);
         if done.is_ok() {
-            self.bytes = self.bytes.saturating_add(bytes.len() as u64);
-            self.tell();
+            self.progress.add(bytes.len());
         }
         done
     }
