@@ -2,7 +2,6 @@
 #![tactic(auto)]
 
 mod canonical;
-mod http;
 mod load;
 mod matching;
 mod memory;
@@ -14,7 +13,7 @@ use anyhow::Error;
 use std::env;
 
 const USAGE: &str =
-    "usage: bench canonical [MEGABYTES] | verify [THOUSANDS] | load [TARGETS [FOLDER]] | match [CHARACTERS] | search [ROLES] | chain TARGETS ROLES [FOLDER] | fan TARGETS ROLES [FOLDER] | http URL";
+    "usage: bench canonical [MEGABYTES] | verify [THOUSANDS] | load [TARGETS [FOLDER]] | match [CHARACTERS] | search [ROLES] | chain TARGETS ROLES [FOLDER] | fan TARGETS ROLES [FOLDER]";
 
 fn main(rt: HostRuntime) -> Result<(), Error> {
     let mut words = env::args(&rt)?.skip(1);
@@ -22,11 +21,7 @@ fn main(rt: HostRuntime) -> Result<(), Error> {
         println!(rt; "{USAGE}")?;
         return Ok(());
     };
-    let first = words.next();
-    if name.as_str() == "http" {
-        return http::run(&rt, first.as_deref().unwrap_or(""));
-    }
-    let size: u32 = match first {
+    let size: u32 = match words.next() {
         Some(word) => word.parse()?,
         None => 12,
     };
