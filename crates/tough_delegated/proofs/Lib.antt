@@ -1,4 +1,3 @@
 pub mod lemmas
 pub mod Listing
 pub mod Turning
-pub mod Tallying

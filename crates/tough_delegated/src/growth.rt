@@ -7,12 +7,10 @@ ghost use Rattle.tough_schema.specs.Delegations.{delegations_doc};
 ghost use Rattle.tough_schema.specs.Walk.{names_in};
 ghost use Rattle.tough_schema.specs.Whole.{tree_doc, role_tree, held_doc};
 ghost use Rattle.tough_delegated.specs.Growing.{wants, first_work, settle, taken_up, give, go_on, first_of, holder_of, with_taken};
-ghost use Rattle.tough_delegated.specs.Tallies.{tally_work};
 ghost use Rattle.tough_delegated.specs.View.{metas_of, top_held, waiting_in, open_doc, opens_doc, turns_doc, work_doc, progress_doc};
 
 use crate::list::{give_fetched, roles_of, take_roles, with_document};
 use crate::look::{Look, look_from};
-use crate::tally::{Tally, tally_opens};
 use crate::turns::{Open, Turns, take_turns};
 use std::alloc::{AllocError, Global};
 use std::collections::{BTreeMap, BTreeSet, VecDeque};
@@ -155,22 +153,6 @@ impl Growth {
             fetched: BTreeMap::new(alloc),
             at: 0,
         }
-    }
-
-    /// How many documents stand in the tree by now, and how many roles these and the targets list.
-    pub fn tally(&self, alloc: Global) -> Result<Tally, AllocError>
-        ensures { IfOk result (λ t. t ≡ tally_work (work_doc self.now)) }
-    {
-        let list = Tally {
-            kept: 0,
-            entries: roles_of(&self.here).len() as u64,
-        };
-        let (first, then) = self.outer.as_slices();
-        let inner = tally_opens(alloc, first)?;
-        let outer = tally_opens(alloc, then)?;
-        let around = inner.plus(outer)?;
-        let all = list.plus(around)?;
-        Ok(all)
     }
 
     /// The role whose document is wanted.

@@ -5,9 +5,7 @@ mod growth;
 pub mod laws;
 mod list;
 mod look;
-mod tally;
 mod turn;
 mod turns;
 
 pub use growth::{Growth, Progress};
-pub use tally::Tally;

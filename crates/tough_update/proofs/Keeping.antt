@@ -1,6 +1,6 @@
--- That an update keeps at most as many delegated documents as the snapshot lists names.
-use Rattle.std.specs.Prelude.{◌≡◌, ◌≤◌, ◌⊎◌, ⊤, ℕ, ◌+◌, ◌-◌, ◌^◌, ◌==◌, List, [], length, Option, Some, None, Bool, true, false, Result, Ok, Err, nat_lt, not, if◌then◌else◌}
-use Rattle.std.proofs.Common.{refl, sym, ◌∙◌, ap, subst, inl, inr, arith}
+-- That an update keeps no delegated document before it has succeeded, and then at most as many as the snapshot lists names.
+use Rattle.std.specs.Prelude.{◌≡◌, ◌≤◌, ⊤, ℕ, ◌+◌, ◌-◌, ◌^◌, ◌==◌, List, [], length, Option, Some, None, Bool, true, false, Result, Ok, Err, nat_lt, not, if◌then◌else◌}
+use Rattle.std.proofs.Common.{refl, sym, ◌∙◌, subst, inl, inr, arith}
 use Rattle.tough_keys.specs.Same.{Verifies}
 use Rattle.tough_roles.specs.Signature.{SignedDoc}
 use Rattle.tough_roles.specs.Timestamp.{TimestampDoc, MetafileDoc}
@@ -14,9 +14,8 @@ use Rattle.tough_schema.specs.Entries.{documents_below, first_missing}
 use Rattle.tough_schema.specs.Fresh.{IsUnloaded}
 use Rattle.tough_delegated.specs.Growing.{Progress, wants, grown, go_on, begun}
 use Rattle.tough_delegated.specs.Bare.{held_as}
-use Rattle.tough_delegated.specs.Tallies.{tally_work}
 use Rattle.tough_delegated.proofs.lemmas.Bare.{bare-none}
-use Rattle.tough_delegated.proofs.lemmas.Kept.{WorkKeeps, ProgressKeeps, begun-keeps, taken-keeps, work-few, tree-few}
+use Rattle.tough_delegated.proofs.lemmas.Kept.{WorkKeeps, ProgressKeeps, begun-keeps, taken-keeps, tree-few}
 use Rattle.tough_update.specs.declared.counts.Counts.{Counts}
 use Rattle.tough_update.specs.Failure.{Failure, ParseMetadata, MaxUpdatesExceeded, Checked}
 use Rattle.tough_update.specs.Walk.{holds_json, if_read, first_root, next_root}
@@ -31,7 +30,7 @@ use Rattle.tough_update.specs.Answered as got
 use Rattle.tough_update.specs.Machine.{walked, base_of, walk_ended, want_snapshot, known_of, want_targets, read_wanted, after, stage_after}
 use Rattle.tough_update.specs.Promises.{Goes}
 use Rattle.tough_update.specs.Counts.{none_yet, one_more, ends_fetch, with_fetch, with_tree}
-use Rattle.tough_update.specs.Counted.{Counted, here, further, accepted_at, KeepsListed, KeepsFew}
+use Rattle.tough_update.specs.Counted.{Counted, HadAsMany, names_listed, KeepsFew}
 use Rattle.tough_update.specs.Counted as counted
 use Rattle.tough_update.proofs.Turning.{Fine, unless-fine, if-fine, and_then-fine, keeps-answer}
 use Rattle.tough_update.proofs.Sound.{judged-ok}
@@ -54,8 +53,8 @@ fetch-kept at.Taken a n = refl
 
 abbrev Keeps : Counts → StageDoc → Type 0
 Keeps n (at.Step (at.PutTargets k d)) = (n.kept ≡ 0) × IsUnloaded d.role
-Keeps n (at.Fetch (at.Role k roles listed) r) = (n.kept ≡ (tally_work roles.work).kept) × WorkKeeps (metas_in k) roles.work
-Keeps n (at.Step (at.PutDelegated k roles name d)) = (n.kept ≤ length (metas_in k)) × WorkKeeps (metas_in k) roles.work × IsUnloaded d.role
+Keeps n (at.Fetch (at.Role k roles listed) r) = (n.kept ≡ 0) × WorkKeeps (metas_in k) roles.work
+Keeps n (at.Step (at.PutDelegated k roles name d)) = (n.kept ≡ 0) × WorkKeeps (metas_in k) roles.work × IsUnloaded d.role
 Keeps n (at.Done (Ok l)) = (n.kept ≡ length (documents_below l.targets.role)) × (length (documents_below l.targets.role) ≤ length (metas_in l.known))
 Keeps n (at.Done (Err f)) = ⊤
 Keeps n at.Taken = ⊤
@@ -115,13 +114,13 @@ module _ (v : Verifies) (s : SettingDoc) (n m : Counts) (same : m.kept ≡ n.kep
   found-keeps None l le = (refl, le)
   found-keeps (Some name) l le = tt
 
-  grown-keeps : (k : KnownDoc) (received : List ReceivedDoc) (p : Progress) → ProgressKeeps (metas_in k) p → Well (grown_on s.limits k received p)
-  grown-keeps k received (wants w e) g = (refl, g)
-  grown-keeps k received (grown t) g = found-keeps (first_missing t.role) (record { known = k; targets = t; received = received }) (tree-few (metas_in k) t.role g.0 g.1)
+  grown-keeps : (k : KnownDoc) (received : List ReceivedDoc) (p : Progress) → m.kept ≡ 0 → ProgressKeeps (metas_in k) p → Well (grown_on s.limits k received p)
+  grown-keeps k received (wants w e) h g = (h, g)
+  grown-keeps k received (grown t) h g = found-keeps (first_missing t.role) (record { known = k; targets = t; received = received }) (tree-few (metas_in k) t.role g.0 g.1)
 
-  given-keeps : (k : KnownDoc) (roles : RolesDoc) (d : SignedDoc TreeDoc) → WorkKeeps (metas_in k) roles.work → IsUnloaded d.role → Well (role_given s.limits k roles d)
-  given-keeps k roles d g bare =
-      grown-keeps k roles.received (go_on (metas_in k) (given roles.work d)) (taken-keeps (metas_in k) roles.work (held_as (wanted_name roles.work) d) bare g)
+  given-keeps : (k : KnownDoc) (roles : RolesDoc) (d : SignedDoc TreeDoc) → m.kept ≡ 0 → WorkKeeps (metas_in k) roles.work → IsUnloaded d.role → Well (role_given s.limits k roles d)
+  given-keeps k roles d h g bare =
+      grown-keeps k roles.received (go_on (metas_in k) (given roles.work d)) h (taken-keeps (metas_in k) roles.work (held_as (wanted_name roles.work) d) bare g)
 
   read-keeps : (w : WantedDoc) (r : RequestDoc) (bytes : List ℕ) → Keeps n (at.Fetch w r) → Heard (at.Fetch w r) (got.Bytes bytes) → Well (read_wanted v s w r bytes)
   read-keeps (at.Root w) r bytes t _ = and_then-fine Next bad (next_root v w.last.role bytes) (λ root. Ok (at.Step (at.PutRoot (record { start = w.start; first = w.first; last = root })))) (λ root is. same ∙ t)
@@ -132,11 +131,11 @@ module _ (v : Verifies) (s : SettingDoc) (n m : Counts) (same : m.kept ≡ n.kep
       (same ∙ t, subst (λ (x : SignedDoc TreeDoc). IsUnloaded x.role) (sym p.is) (bare-none p.page)))
   read-keeps (at.Role k roles listed) r bytes t _ =
       let kept = with_received roles bytes in
-      let le : m.kept ≤ length (metas_in k) = omega (arith, same, t.0, work-few (metas_in k) roles.work t.1) in
+      let none : m.kept ≡ 0 = same ∙ t.0 in
       and_then-fine Next bad (judged v s.enforced k.start (role_holder roles.work) listed bytes) (role_stored s.limits k kept r.name) (λ d is.
       let p = judged-ok v s.enforced k.start (role_holder roles.work) listed bytes d is in
       let bare : IsUnloaded d.role = subst (λ (x : SignedDoc TreeDoc). IsUnloaded x.role) (sym p.is) (bare-none p.page) in
-      if-fine Next bad (is_reserved r.name) (role_given s.limits k kept d) (Ok (at.Step (at.PutDelegated k kept r.name d))) (λ _. given-keeps k kept d t.1 bare) (le, t.1, bare))
+      if-fine Next bad (is_reserved r.name) (role_given s.limits k kept d) (Ok (at.Step (at.PutDelegated k kept r.name d))) (λ _. given-keeps k kept d none t.1 bare) (none, t.1, bare))
 
   step-keeps : (p : PendingDoc) → Keeps n (at.Step p) → Heard (at.Step p) (got.Step (Ok (tt {0}))) → Well (after v s p)
   step-keeps (at.NoteTime now) t _ = and_then-fine Next bad (first_root v s.trusted) (λ root. walked s.limits (record { start = now; first = root; last = root })) (λ root is.
@@ -146,14 +145,14 @@ module _ (v : Verifies) (s : SettingDoc) (n m : Counts) (same : m.kept ≡ n.kep
   step-keeps (at.Clear b) t _ = same ∙ t
   step-keeps (at.PutTimestamp b x) t _ = want_snapshot-keeps b x (metafile_in x.role.meta snapshot_file) (same ∙ t)
   step-keeps (at.PutSnapshot k listed) t _ = want_targets-keeps k (metafile_in k.snapshot.role.meta targets_file) (same ∙ t)
-  step-keeps (at.PutTargets k d) t _ = let top = held_as [] d in grown-keeps k [] (begun (metas_in k) top) (begun-keeps (metas_in k) top t.1)
-  step-keeps (at.PutDelegated k roles name d) t _ = given-keeps k roles d t.1 t.2
+  step-keeps (at.PutTargets k d) t _ = let top = held_as [] d in grown-keeps k [] (begun (metas_in k) top) (same ∙ t.0) (begun-keeps (metas_in k) top t.1)
+  step-keeps (at.PutDelegated k roles name d) t _ = given-keeps k roles d (same ∙ t.0) t.1 t.2
 
   -- an answer that isn't waited for
   same-keeps : (st : StageDoc) → Keeps n st → Next st
   same-keeps (at.Step (at.PutTargets k d)) t = (same ∙ t.0, t.1)
-  same-keeps (at.Fetch (at.Role k roles listed) r) t = (refl, t.1)
-  same-keeps (at.Step (at.PutDelegated k roles name d)) t = (omega (arith, same, t.0), t.1, t.2)
+  same-keeps (at.Fetch (at.Role k roles listed) r) t = (same ∙ t.0, t.1)
+  same-keeps (at.Step (at.PutDelegated k roles name d)) t = (same ∙ t.0, t.1, t.2)
   same-keeps (at.Done (Ok l)) t = (refl, t.1)
   same-keeps (at.Done (Err f)) t = tt
   same-keeps at.Taken t = tt
@@ -193,34 +192,23 @@ keeps v c n (counted.turned b d k a h g) = goes-keeps v b d k a (keeps v b k h) 
 
 -- ---- the snapshot that was accepted
 
--- a stage that tells of the tree knows the snapshot, and every other one leaves what is kept
-few-at : (v : Verifies) (c : CoreDoc) (n m : Counts) (st : StageDoc) → c.stage ≡ st → n ≡ with_tree st m → Keeps n st → (m.kept ≡ 0) ⊎ KeepsListed v c m → KeepsFew v c n
-few-at v c n m (at.Fetch (at.Role k roles listed) r) e is t h =
-    let le : n.kept ≤ length k.snapshot.role.meta = omega (arith, t.0, work-few (metas_in k) roles.work t.1) in
-    inr (record { earlier = c; known = k; accepted = ap accepted_at e; since = here; few = le })
-few-at v c n m (at.Done (Ok l)) e is t h =
-    let le : n.kept ≤ length l.known.snapshot.role.meta = omega (arith, t.0, t.1) in
-    inr (record { earlier = c; known = l.known; accepted = ap accepted_at e; since = here; few = le })
-few-at v c n m (at.Done (Err f)) e is t h = subst (KeepsFew v c) (sym is) h
-few-at v c n m (at.Step p) e is t h = subst (KeepsFew v c) (sym is) h
-few-at v c n m at.Moment e is t h = subst (KeepsFew v c) (sym is) h
-few-at v c n m at.Taken e is t h = subst (KeepsFew v c) (sym is) h
-few-at v c n m (at.Fetch (at.Root w) r) e is t h = subst (KeepsFew v c) (sym is) h
-few-at v c n m (at.Fetch (at.Timestamp b) r) e is t h = subst (KeepsFew v c) (sym is) h
-few-at v c n m (at.Fetch (at.Snapshot b x listed) r) e is t h = subst (KeepsFew v c) (sym is) h
-few-at v c n m (at.Fetch (at.Targets k listed) r) e is t h = subst (KeepsFew v c) (sym is) h
+left : (v : Verifies) (c d : CoreDoc) (k : Counts) (a : AnswerDoc) (h : Counted v c k) (g : Goes v c a d) → HadAsMany h names_listed k.kept → HadAsMany (counted.turned c d k a h g) names_listed (with_fetch c.stage a k).kept
+left v c d k a h g x = record { earlier = x.earlier; passed = inr x.passed; few = subst (λ y. y ≤ names_listed x.earlier.stage) (sym (fetch-kept c.stage a k)) x.few }
 
--- one answer later, and with its fetch
-later : (v : Verifies) (c d : CoreDoc) (n m : Counts) (a : AnswerDoc) → m.kept ≡ n.kept → Goes v c a d → KeepsFew v c n → KeepsFew v d m
-later v c d n m a same g (inl none) = inl (same ∙ none)
-later v c d n m a same g (inr k) =
-    inr (record { earlier = k.earlier; known = k.known; accepted = k.accepted; since = further c d a k.since g; few = subst (λ x. x ≤ length k.known.snapshot.role.meta) (sym same) k.few })
+-- one answer later: the update has succeeded, or what is kept is left
+kept-had : (v : Verifies) (c d : CoreDoc) (k : Counts) (a : AnswerDoc) (h : Counted v c k) (g : Goes v c a d) (st : StageDoc) → d.stage ≡ st → Keeps (with_tree st (with_fetch c.stage a k)) st → HadAsMany h names_listed k.kept
+    → HadAsMany (counted.turned c d k a h g) names_listed (with_tree st (with_fetch c.stage a k)).kept
+kept-had v c d k a h g (at.Done (Ok l)) e t x =
+    record { earlier = d; passed = inl refl; few = subst (λ y. length (documents_below l.targets.role) ≤ names_listed y) (sym e) t.1 }
+kept-had v c d k a h g (at.Done (Err f)) e t x = left v c d k a h g x
+kept-had v c d k a h g (at.Step p) e t x = left v c d k a h g x
+kept-had v c d k a h g at.Moment e t x = left v c d k a h g x
+kept-had v c d k a h g at.Taken e t x = left v c d k a h g x
+kept-had v c d k a h g (at.Fetch w r) e t x = left v c d k a h g x
 
-pub keeps_few : (v : Verifies) (c : CoreDoc) (n : Counts) → Counted v c n → KeepsFew v c n
-keeps_few v c n (counted.begun d fresh) = inl refl
-keeps_few v c n (counted.turned b d k a h g) =
-    let m = with_fetch b.stage a k in
-    few-at v d (with_tree d.stage m) m d.stage refl refl (goes-keeps v b d k a (keeps v b k h) g) (later v b d k m a (fetch-kept b.stage a k) g (keeps_few v b k h))
+pub keeps_few : (v : Verifies) (c : CoreDoc) (n : Counts) (h : Counted v c n) → KeepsFew h
+keeps_few v c n (counted.begun d fresh) = record { earlier = d; passed = refl; few = omega arith }
+keeps_few v c n (counted.turned b d k a h g) = kept-had v b d k a h g d.stage refl (goes-keeps v b d k a (keeps v b k h) g) (keeps_few v b k h)
 
 pub kept_listed : (v : Verifies) (c : CoreDoc) (n : Counts) (l : LoadedDoc) → Counted v c n → c.stage ≡ at.Done (Ok l) → n.kept ≤ length l.known.snapshot.role.meta
 kept_listed v c n l h is = let t = subst (Keeps n) is (keeps v c n h) in omega (arith, t.0, t.1)

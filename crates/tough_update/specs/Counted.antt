@@ -1,55 +1,58 @@
 -- How far what an update counts may go, over any answers.
-use Rattle.std.specs.Prelude.{◌≡◌, ◌≤◌, ◌⊎◌, length, Option, Some, None, Ok}
+use Rattle.std.specs.Prelude.{◌≡◌, ◌≤◌, ◌⊎◌, ℕ, length, Ok}
 use Rattle.tough_keys.specs.Same.{Verifies}
 use Rattle.tough_schema.specs.Entries.{entries, documents_below}
+use Rattle.tough_delegated.specs.Tallies.{tally_work}
 use Rattle.tough_update.specs.declared.counts.Counts.{Counts}
 use Rattle.tough_update.specs.Answered.{AnswerDoc}
 use Rattle.tough_update.specs.Counts.{none_yet, with_fetch, with_tree}
-use Rattle.tough_update.specs.Stages.{KnownDoc, LoadedDoc, StageDoc, CoreDoc}
+use Rattle.tough_update.specs.Stages.{LoadedDoc, StageDoc, CoreDoc}
 use Rattle.tough_update.specs.Stages as at
 use Rattle.tough_update.specs.Promises.{Goes}
 use Rattle.tough_update.specs.Runs.{IsFresh}
 
--- an update may stand so after some answers, want of memory included, with what it counted by then
+-- an update stands so after some answers, want of memory included, with what it counted by then
 pub data Counted (verifies : Verifies) : CoreDoc → Counts → Type 0 where
   begun : (c : CoreDoc) → IsFresh c → Counted verifies c none_yet
-  turned : (c d : CoreDoc) (n : Counts) (a : AnswerDoc) → Counted verifies c n → Goes verifies c a d → Counted verifies d (with_tree d.stage (with_fetch c.stage a n))
+  turned : (c d : CoreDoc) (n : Counts) (a : AnswerDoc) → Counted verifies c n → Goes verifies c a d
+      → Counted verifies d (with_tree d.stage (with_fetch c.stage a n))
 
--- answers, want of memory included, may lead from one state of an update to another
-pub data Leads (verifies : Verifies) (c : CoreDoc) : CoreDoc → Type 0 where
-  here : Leads verifies c c
-  further : (d e : CoreDoc) (a : AnswerDoc) → Leads verifies c d → Goes verifies d a e → Leads verifies c e
+-- it stands so, or stood so before one of these answers
+abbrev pub Passes : {verifies : Verifies} {c : CoreDoc} {n : Counts} → Counted verifies c n → CoreDoc → Type 0
+Passes (begun c fresh) earlier = earlier ≡ c
+Passes (turned c d n a before goes) earlier = (earlier ≡ d) ⊎ Passes before earlier
 
--- At most as many roots were fetched as the limit allows, and at most as many delegated documents as the targets and the documents that are
--- kept list roles.
-pub record FetchesFew (c : CoreDoc) (n : Counts) : Type 0 where
-  pub roots : n.roots ≤ c.setting.limits.max_root_updates
-  pub delegated : n.delegated ≤ n.entries
-
--- what is known with an accepted snapshot
-abbrev pub accepted_at : StageDoc → Option KnownDoc
-accepted_at (at.Fetch (at.Targets k listed) r) = Some k
-accepted_at (at.Fetch (at.Role k roles listed) r) = Some k
-accepted_at (at.Step (at.PutTargets k d)) = Some k
-accepted_at (at.Step (at.PutDelegated k roles name d)) = Some k
-accepted_at (at.Done (Ok l)) = Some l.known
-accepted_at _ = None
-
--- by then the update had accepted a snapshot, which lists at least as many names as documents are kept
-pub record KeepsListed (verifies : Verifies) (c : CoreDoc) (n : Counts) : Type 0 where
+-- at a stage that the update passed, there were at least so many
+pub record HadAsMany {verifies : Verifies} {c : CoreDoc} {n : Counts} (update : Counted verifies c n)
+    (at_stage : StageDoc → ℕ) (count : ℕ) : Type 0 where
   pub earlier : CoreDoc
-  pub known : KnownDoc
-  pub accepted : accepted_at earlier.stage ≡ Some known
-  pub since : Leads verifies earlier c
-  pub few : n.kept ≤ length known.snapshot.role.meta
+  pub passed : Passes update earlier
+  pub few : count ≤ at_stage earlier.stage
 
--- no document is kept, or no more than the snapshot lists
-abbrev pub KeepsFew : Verifies → CoreDoc → Counts → Type 0
-KeepsFew verifies c n = (n.kept ≡ 0) ⊎ KeepsListed verifies c n
+-- where a delegated document is asked for: the roles that are listed by the targets and the documents that have their place
+abbrev pub roles_listed : StageDoc → ℕ
+roles_listed (at.Fetch (at.Role k roles listed) r) = tally_work roles.work
+roles_listed _ = 0
 
--- the documents that are kept are those of the tree that was loaded, at most as many as the snapshot lists names, and the roles are all of
--- the tree's roles
+-- once the update has succeeded: the names that the accepted snapshot lists
+abbrev pub names_listed : StageDoc → ℕ
+names_listed (at.Done (Ok l)) = length l.known.snapshot.role.meta
+names_listed _ = 0
+
+-- at most as many roots were fetched as the limit allows, and at most as many delegated documents as roles were listed when one of them was
+-- asked for
+pub record FetchesFew {verifies : Verifies} {c : CoreDoc} {n : Counts} (update : Counted verifies c n) : Type 0 where
+  pub roots : n.roots ≤ c.setting.limits.max_root_updates
+  pub delegated : HadAsMany update roles_listed n.delegated
+
+-- no document is kept before the update has succeeded, and then no more than the snapshot lists
+abbrev pub KeepsFew : {verifies : Verifies} {c : CoreDoc} {n : Counts} → Counted verifies c n → Type 0
+KeepsFew {n = n} update = HadAsMany update names_listed n.kept
+
+-- The documents that are kept are those of the tree that was loaded, at most as many as the snapshot lists names, and the roles are all of
+-- the tree's roles, at least as many as documents were fetched.
 pub record KeepsAll (l : LoadedDoc) (n : Counts) : Type 0 where
   pub kept : n.kept ≡ length (documents_below l.targets.role)
   pub few : n.kept ≤ length l.known.snapshot.role.meta
   pub entries : n.entries ≡ length (entries l.targets.role)
+  pub fetched : n.delegated ≤ n.entries

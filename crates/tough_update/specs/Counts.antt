@@ -1,8 +1,7 @@
--- How much an update fetched and keeps, over any answers.
-use Rattle.std.specs.Prelude.{ℕ, ◌+◌, ◌-◌, ◌^◌, min, Bool, true, false, if◌then◌else◌, Ok}
-use Rattle.tough_schema.specs.Entries.{entries}
-use Rattle.tough_delegated.specs.declared.tally.Tally.{Tally}
-use Rattle.tough_delegated.specs.Tallies.{tally_tree, tally_work}
+-- How much an update fetched, and how much of it stands in the tree that it loaded.
+use Rattle.std.specs.Prelude.{ℕ, ◌+◌, ◌-◌, ◌^◌, min, length, Bool, true, false, if◌then◌else◌, Ok}
+use Rattle.tough_schema.specs.Whole.{TreeDoc}
+use Rattle.tough_schema.specs.Entries.{entries, documents_below}
 use Rattle.tough_update.specs.declared.counts.Counts.{Counts}
 use Rattle.tough_update.specs.Stages.{StageDoc}
 use Rattle.tough_update.specs.Stages as at
@@ -29,11 +28,11 @@ with_fetch (at.Fetch (at.Root w) r) a n = if ends_fetch a then record n { roots 
 with_fetch (at.Fetch (at.Role k roles listed) r) a n = if ends_fetch a then record n { delegated = one_more n.delegated } else n
 with_fetch _ a n = n
 
-abbrev pub with_tally : Tally → Counts → Counts
-with_tally t n = record n { kept = t.kept; entries = t.entries }
+-- with the documents and the roles below targets
+abbrev pub with_roles : TreeDoc → Counts → Counts
+with_roles t n = record n { kept = length (documents_below t); entries = length (entries t) }
 
--- with the documents that stand in the tree and the roles that these and the targets list, where the stage tells
+-- with the tree, once the update has succeeded
 abbrev pub with_tree : StageDoc → Counts → Counts
-with_tree (at.Fetch (at.Role k roles listed) r) n = with_tally (tally_work roles.work) n
-with_tree (at.Done (Ok l)) n = with_tally (tally_tree l.targets.role) n
+with_tree (at.Done (Ok l)) n = with_roles l.targets.role n
 with_tree _ n = n

@@ -1,7 +1,8 @@
 //! How much an update fetched and keeps.
 
 ghost use Rattle.std.specs.Prelude.{◌≡◌, ◌⊎◌, IfOk, Err};
-ghost use Rattle.tough_update.specs.Counts.{one_more, ends_fetch, with_fetch, with_tree};
+ghost use Rattle.tough_schema.specs.Whole.{tree_doc};
+ghost use Rattle.tough_update.specs.Counts.{one_more, ends_fetch, with_fetch, with_roles, with_tree};
 ghost use Rattle.tough_update.specs.Failure.{Memory};
 ghost use Rattle.tough_update.specs.Stages.{Done};
 ghost use Rattle.tough_update.specs.View.{stage_doc, answer_doc};
@@ -10,19 +11,19 @@ use crate::error::UpdateError;
 use crate::request::Answer;
 use crate::stage::{Stage, Wanted};
 use std::alloc::{AllocError, Global};
-use tough_delegated::Tally;
+use tough_schema::Targets;
 
-/// How much an update fetched, and how much of it stands in the tree of delegated roles. After a failure it is what stood there before the
-/// answer that failed, which is counted where it answered a fetch.
+/// How much an update fetched, and how much of it stands in the tree of delegated roles that it loaded. It stands after a failure too; an
+/// answer that fails is counted where it answered a fetch.
 #[derive(Clone, Copy, Debug, PartialEq, Eq, Drop)]
 pub struct Counts {
     /// The fetches of roots that were answered.
     pub roots: u64,
     /// The fetches of delegated documents that were answered.
     pub delegated: u64,
-    /// The documents of delegated roles that have their place in the tree.
+    /// The documents of delegated roles in the tree that was loaded; 0 until the update has succeeded.
     pub kept: u64,
-    /// The roles that the targets and these documents list.
+    /// The roles that the targets and these documents list; 0 until the update has succeeded.
     pub entries: u64,
 }
 
@@ -61,33 +62,31 @@ impl Counts {
         }
     }
 
-    fn with_tally(self, tally: Tally) -> Counts
-        ensures { result ≡ record self { kept = tally.kept; entries = tally.entries } }
+    // With the documents and the roles below targets.
+    fn with_roles(self, alloc: Global, targets: &Targets) -> Result<Counts, AllocError>
+        ensures { IfOk result (λ n. n ≡ with_roles (tree_doc targets.now) self) }
     {
-        Counts {
-            kept: tally.kept,
-            entries: tally.entries,
+        let documents = targets.signed_delegated_targets(alloc)?;
+        let entries = targets.entries(alloc)?;
+        Ok(Counts {
+            kept: documents.len() as u64,
+            entries: entries.len() as u64,
             ..self
-        }
+        })
     }
 
-    // With the tree, where the stage tells of it.
+    // With the tree, where the update has succeeded.
     fn with_tree(self, alloc: Global, stage: &Stage) -> Result<Counts, AllocError>
         ensures { IfOk result (λ n. n ≡ with_tree (stage_doc stage.now) self) }
     {
         match stage {
-            Stage::Fetch(Wanted::Role(_, roles, _), _) => {
-                Ok(self.with_tally(roles.growth.tally(alloc)?))
-            }
-            Stage::Done(Ok(loaded)) => {
-                Ok(self.with_tally(Tally::of(alloc, &loaded.targets.signed)?))
-            }
+            Stage::Done(Ok(loaded)) => self.with_roles(alloc, &loaded.targets.signed),
             _ => Ok(self),
         }
     }
 }
 
-/// The stage, and the counts with what it tells of the tree; where memory is wanting, the update ends with `Memory`.
+/// The stage, and the counts with the tree, where the update has succeeded; where memory is wanting, it ends with `Memory`.
 pub(crate) fn count_tree(alloc: Global, counts: Counts, stage: Stage) -> (Counts, Stage)
     ensures counts { result.0 ≡ with_tree (stage_doc result.1) counts }
     ensures stage { (stage_doc result.1 ≡ stage_doc stage) ⊎ (stage_doc result.1 ≡ Done (Err Memory)) }

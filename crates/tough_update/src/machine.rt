@@ -135,7 +135,7 @@ impl Core {
         self.stage = stage;
     }
 
-    /// How much was fetched by now, and how much of it stands in the tree of delegated roles.
+    /// How much was fetched by now and, once the update has succeeded, how much of it stands in the tree of delegated roles.
     pub fn counts(&self) -> Counts
         ensures { result ≡ counts_of self.now }
     {

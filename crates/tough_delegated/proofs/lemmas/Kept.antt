@@ -21,8 +21,7 @@ use Rattle.tough_schema.specs.Fresh.{carriers, carriers_below}
 use Rattle.tough_schema.specs.Preorder.{Occurrence, preorder, preorder_below}
 use Rattle.tough_delegated.specs.Growing.{Metas, listed_as, Look, through, unlisted, wanted, look, looked, Fetched, at_name, with_fetched, refilled, with_roles, OpenDoc, Turn, past, stopped, entered, turn, Turns, all_past, stopped_at, by_turn, turns, WorkDoc, Progress, wants, grown, by_turns, taken_up, settle, give, by_look, go_on, first_work, begun, with_taken, taken}
 use Rattle.tough_delegated.specs.Once.{is_among, Distinct, IsBare}
-use Rattle.tough_delegated.specs.Tallies.{tally_role, tally_roles, tally_opens, tally_work}
-use Rattle.tough_delegated.proofs.lemmas.Once.{at_role, in_roles, roles-last, put-carriers, in_open, WorkFine, ProgressFine, taken-fine, begun-fine}
+use Rattle.tough_delegated.proofs.lemmas.Once.{at_role, in_roles, roles-last, WorkFine, ProgressFine, taken-fine, begun-fine}
 
 -- ---- each document has a name that carries it
 
@@ -50,21 +49,6 @@ mutual
 
 documents-carriers : (t : TreeDoc) → length (documents_below t) ≡ length (carriers_below t)
 documents-carriers t = kept-below 0 t
-
-role-kept : (r : RoleTree) → (tally_role r).kept ≡ length (at_role r)
-role-kept (e, None) = refl
-role-kept (e, Some h) = omega (arith, documents-carriers h.below)
-
-roles-kept : (rs : List RoleTree) → (tally_roles rs).kept ≡ length (in_roles rs)
-roles-kept [] = refl
-roles-kept (r ∷ rs) =
-    let sum : length (in_roles (r ∷ rs)) ≡ length (at_role r) + length (in_roles rs) = ap (λ ns. length ns) (put-carriers r (branches_from rs)) ∙ length-append (at_role r) (in_roles rs) in
-    omega (arith, sum, role-kept r, roles-kept rs)
-
-opens-kept : (os : List OpenDoc) → (tally_opens os).kept ≡ length (in_open os)
-opens-kept [] = refl
-opens-kept (o ∷ os) =
-    omega (arith, roles-kept o.done, opens-kept os, length-append (in_open os ++ in_roles o.done) (o.role.name ∷ []), length-append (in_open os) (in_roles o.done))
 
 -- ---- different names that are listed
 
@@ -180,11 +164,6 @@ module _ (metas : Metas) where
   abbrev AllListed : List OpenDoc → Type 0
   AllListed [] = ⊤
   AllListed (o ∷ os) = OpenListed o × AllListed os
-
-  opens-listed : (os : List OpenDoc) → AllListed os → Listed (in_open os)
-  opens-listed [] h = tt
-  opens-listed (o ∷ os) h =
-      both (in_open os ++ in_roles o.done) (o.role.name ∷ []) (both (in_open os) (in_roles o.done) (opens-listed os h.1) h.0.0) (h.0.1, tt)
 
   chosen-listed : (b : Bool) (rs : List RoleTree) (bs : Branches) → Listed (in_roles rs) → Listed (carriers bs) → Listed (carriers (if b then branches_from rs else bs))
   chosen-listed true rs bs x y = x
@@ -324,8 +303,5 @@ taken-keeps metas w h bare x =
     (go_on-listed metas (with_taken w w.waiting h) (with_taken-listed metas w w.waiting h (y.0, y.1, y.2) y.3 (bare-listed metas h.below bare)))
 
 -- so there are at most as many documents as the snapshot lists names
-pub work-few : (metas : Metas) (w : WorkDoc) → WorkKeeps metas w → (tally_work w).kept ≤ length metas
-work-few metas w x = omega (arith, opens-kept w.outer, few (codes ".json") (in_open w.outer) metas x.0.0.0 (opens-listed metas w.outer x.1.0))
-
 pub tree-few : (metas : Metas) (t : TreeDoc) → Distinct (carriers_below t) → Listed metas (carriers_below t) → length (documents_below t) ≤ length metas
 tree-few metas t x y = omega (arith, documents-carriers t, few (codes ".json") (carriers_below t) metas x y)

@@ -56,11 +56,11 @@ listed-in (loaded e name signatures t bs) = omega (arith, listed-in bs)
 listed-size : (t : TreeDoc) → length (listed_roles t) ≤ size_below t
 listed-size (tree o bs) = listed-in bs
 
-roles-last : (rs : List RoleTree) (r : RoleTree) → (tally_roles (rs ++ r ∷ [])).entries ≡ (tally_roles rs).entries + (tally_role r).entries
+roles-last : (rs : List RoleTree) (r : RoleTree) → tally_roles (rs ++ r ∷ []) ≡ tally_roles rs + tally_role r
 roles-last [] r = omega arith
 roles-last (x ∷ rs) r = omega (arith, roles-last rs r)
 
-roles-size : (rs : List RoleTree) → size (branches_from rs) ≡ (tally_roles rs).entries
+roles-size : (rs : List RoleTree) → size (branches_from rs) ≡ tally_roles rs
 roles-size [] = refl
 roles-size ((e, None) ∷ rs) = omega (arith, roles-size rs)
 roles-size ((e, Some h) ∷ rs) = omega (arith, roles-size rs, entries-size h.below)
@@ -142,11 +142,11 @@ WorkKeyed w = AllKeyed w.outer × IsKeyed w.here.below × FetchedKeyed w.fetched
 refilled-keys : (rs : List RoleTree) (t : TreeDoc) → has_keys (refilled rs t) ≡ has_keys t
 refilled-keys rs (tree o bs) = refl
 
-chosen-size : (b : Bool) (rs : List RoleTree) (bs : Branches) → b ≡ true → (tally_roles rs).entries ≤ size (if b then branches_from rs else bs)
+chosen-size : (b : Bool) (rs : List RoleTree) (bs : Branches) → b ≡ true → tally_roles rs ≤ size (if b then branches_from rs else bs)
 chosen-size true rs bs e = omega (arith, roles-size rs)
 chosen-size false rs bs e = cc e
 
-refilled-size : (rs : List RoleTree) (t : TreeDoc) → has_keys t ≡ true → (tally_roles rs).entries ≤ size_below (refilled rs t)
+refilled-size : (rs : List RoleTree) (t : TreeDoc) → has_keys t ≡ true → tally_roles rs ≤ size_below (refilled rs t)
 refilled-size rs (tree o bs) e = chosen-size (is_some o.keys) rs bs e
 
 -- ---- the turns
@@ -175,7 +175,7 @@ look-fits metas l n (e ∷ rest) le =
     look-on n (l e.name) (look metas l rest) (looked e rest (listed_as metas e.name)) (look-fits metas l n rest less) (looked-fits n e rest (listed_as metas e.name) le)
 
 abbrev TurnGrows : Turn → Type 0
-TurnGrows (past r l) = 1 ≤ (tally_role r).entries
+TurnGrows (past r l) = 1 ≤ tally_role r
 TurnGrows (stopped e h waiting m l) = Fits (length (listed_roles h.below)) waiting × IsKeyed h.below
 
 entered-grows : (e : Entry) (h : HeldDoc) (l : Names) (k : Look) → IsKeyed h.below → LookFits (length (listed_roles h.below)) k → TurnGrows (entered e h l k)
@@ -197,18 +197,18 @@ turn-grows metas l (e, Some h) keyed =
 
 abbrev TurnsGrow : ℕ → Turns → Type 0
 TurnsGrow n (all_past h l) = n ≤ size_below h.below
-TurnsGrow n (stopped_at o here waiting m l) = (n ≤ (tally_open o).entries) × Fits (length (listed_roles here.below)) waiting × IsKeyed here.below × OpenKeyed o
+TurnsGrow n (stopped_at o here waiting m l) = (n ≤ tally_open o) × Fits (length (listed_roles here.below)) waiting × IsKeyed here.below × OpenKeyed o
 
-by_turn-grows : (n : ℕ) (d : HeldDoc) (done left : List RoleTree) (t : Turn) (next : RoleTree → Names → Turns) → has_keys d.below ≡ true → RolesKeyed left → n ≤ (tally_roles done).entries + (1 + length left) → TurnGrows t
-    → ((s : RoleTree) (l : Names) → 1 ≤ (tally_role s).entries → TurnsGrow n (next s l)) → TurnsGrow n (by_turn d done left t next)
+by_turn-grows : (n : ℕ) (d : HeldDoc) (done left : List RoleTree) (t : Turn) (next : RoleTree → Names → Turns) → has_keys d.below ≡ true → RolesKeyed left → n ≤ tally_roles done + (1 + length left) → TurnGrows t
+    → ((s : RoleTree) (l : Names) → 1 ≤ tally_role s → TurnsGrow n (next s l)) → TurnsGrow n (by_turn d done left t next)
 by_turn-grows n d done left (past s l) next keyed kl le h k = k s l h
-by_turn-grows n d done left (stopped e here waiting m l) next keyed kl le h k = let more : n ≤ length left + 1 + (tally_roles done).entries = omega (arith, le) in (more, h.0, h.1, (keyed, kl))
+by_turn-grows n d done left (stopped e here waiting m l) next keyed kl le h k = let more : n ≤ length left + 1 + tally_roles done = omega (arith, le) in (more, h.0, h.1, (keyed, kl))
 
 -- where there are no delegations there is nothing to do
 abbrev Suits : ℕ → HeldDoc → List RoleTree → Type 0
 Suits n d left = (has_keys d.below ≡ true) ⊎ ((n ≡ 0) × (left ≡ []))
 
-turns-grow : (metas : Metas) (n : ℕ) (d : HeldDoc) (left done : List RoleTree) (l : Names) → Suits n d left → RolesKeyed left → n ≤ (tally_roles done).entries + length left → TurnsGrow n (turns metas l d done left)
+turns-grow : (metas : Metas) (n : ℕ) (d : HeldDoc) (left done : List RoleTree) (l : Names) → Suits n d left → RolesKeyed left → n ≤ tally_roles done + length left → TurnsGrow n (turns metas l d done left)
 turns-grow metas n d [] done l (inl keyed) kl le = omega (arith, le, refilled-size done d.below keyed)
 turns-grow metas n d [] done l (inr none) kl le = omega (arith, none.0)
 turns-grow metas n d (r ∷ left) done l (inr none) kl le = absurd (cc (none.1))
@@ -220,22 +220,22 @@ turns-grow metas n d (r ∷ left) done l (inl keyed) kl le =
 
 -- so many were fetched
 abbrev pub ProgressGrows : ℕ → Progress → Type 0
-ProgressGrows n (wants w m) = (n + length w.waiting ≤ (tally_work w).entries) × (1 ≤ length w.waiting) × WorkKeyed w
+ProgressGrows n (wants w m) = (n + length w.waiting ≤ tally_work w) × (1 ≤ length w.waiting) × WorkKeyed w
 ProgressGrows n (grown t) = n ≤ length (entries t.role)
 
-by_turns-grow : (n k : ℕ) (outer : List OpenDoc) (t : Turns) (next : HeldDoc → Names → Progress) → AllKeyed outer → n ≤ k + (tally_opens outer).entries → TurnsGrow k t
+by_turns-grow : (n k : ℕ) (outer : List OpenDoc) (t : Turns) (next : HeldDoc → Names → Progress) → AllKeyed outer → n ≤ k + tally_opens outer → TurnsGrow k t
     → ((d : HeldDoc) (l : Names) → k ≤ size_below d.below → ProgressGrows n (next d l)) → ProgressGrows n (by_turns outer t next)
 by_turns-grow n k outer (all_past d l) next ko le h f = f d l h
 by_turns-grow n k outer (stopped_at o here waiting m l) next ko le h f =
-    let more : n + length waiting ≤ length (listed_roles here.below) + ((tally_open o).entries + (tally_opens outer).entries) = omega (arith, le, h.0, h.1.0) in
+    let more : n + length waiting ≤ length (listed_roles here.below) + (tally_open o + tally_opens outer) = omega (arith, le, h.0, h.1.0) in
     (more, h.1.1, ((h.3, ko), h.2, tt))
 
-settle-grows : (metas : Metas) (n : ℕ) (outer : List OpenDoc) (h : HeldDoc) (l : Names) → AllKeyed outer → n ≤ size_below h.below + (tally_opens outer).entries → ProgressGrows n (settle metas l h outer)
+settle-grows : (metas : Metas) (n : ℕ) (outer : List OpenDoc) (h : HeldDoc) (l : Names) → AllKeyed outer → n ≤ size_below h.below + tally_opens outer → ProgressGrows n (settle metas l h outer)
 settle-grows metas n [] h l ko le = omega (arith, le, entries-size h.below)
 settle-grows metas n (o ∷ outer) h l ko le =
-    let k = size_below h.below + (tally_open o).entries in
+    let k = size_below h.below + tally_open o in
     let all = o.done ++ (o.role, Some h) ∷ [] in
-    let sum : k ≤ (tally_roles all).entries + length o.left = omega (arith, roles-last o.done (o.role, Some h), entries-size h.below) in
+    let sum : k ≤ tally_roles all + length o.left = omega (arith, roles-last o.done (o.role, Some h), entries-size h.below) in
     by_turns-grow n k outer (taken_up metas l h o) (λ d s. settle metas s d outer) ko.1 (omega (arith, le)) (turns-grow metas k o.document o.left all l (inl ko.0.0) ko.0.1 sum)
     (λ d s more. settle-grows metas n outer d s ko.1 (omega (arith, le, more)))
 
@@ -243,31 +243,31 @@ suited : (w : WorkDoc) → IsKeyed w.here.below → Suits (length (listed_roles 
 suited w (inl keyed) = inl (refilled-keys [] w.here.below ∙ keyed)
 suited w (inr none) = inr (ap (λ es. length es) none, ap (λ es. with_fetched w.fetched es) none)
 
-give-grows : (metas : Metas) (n : ℕ) (w : WorkDoc) → WorkKeyed w → n ≤ (tally_work w).entries → ProgressGrows n (give metas w)
+give-grows : (metas : Metas) (n : ℕ) (w : WorkDoc) → WorkKeyed w → n ≤ tally_work w → ProgressGrows n (give metas w)
 give-grows metas n w keyed le =
     let all = listed_roles w.here.below in
     by_turns-grow n (length all) w.outer (turns metas w.loaded (with_roles [] w.here) [] (with_fetched w.fetched all)) (λ d l. settle metas l d w.outer) keyed.0 le
     (turns-grow metas (length all) (with_roles [] w.here) (with_fetched w.fetched all) [] w.loaded (suited w keyed.1) (fetched-keyed all w.fetched keyed.2) (omega (arith, fetched-size w.fetched all)))
     (λ d l more. settle-grows metas n w.outer d l keyed.0 (omega (arith, le, more)))
 
-by_look-grows : (metas : Metas) (n : ℕ) (w : WorkDoc) (l : Look) → WorkKeyed w → n + length w.waiting ≤ (tally_work w).entries → LookFits (length w.waiting) l → ProgressGrows n (by_look metas w l)
+by_look-grows : (metas : Metas) (n : ℕ) (w : WorkDoc) (l : Look) → WorkKeyed w → n + length w.waiting ≤ tally_work w → LookFits (length w.waiting) l → ProgressGrows n (by_look metas w l)
 by_look-grows metas n w through keyed le x = give-grows metas n w keyed (omega (arith, le))
 by_look-grows metas n w (unlisted name) keyed le x = settle-grows metas n w.outer w.here (add name w.loaded) keyed.0 (omega (arith, le, listed-size w.here.below))
-by_look-grows metas n w (wanted waiting m) keyed le x = let less : n + length waiting ≤ (tally_work w).entries = omega (arith, le, x.0) in (less, x.1, keyed)
+by_look-grows metas n w (wanted waiting m) keyed le x = let less : n + length waiting ≤ tally_work w = omega (arith, le, x.0) in (less, x.1, keyed)
 
-pub go_on-grows : (metas : Metas) (n : ℕ) (w : WorkDoc) → WorkKeyed w → n + length w.waiting ≤ (tally_work w).entries → ProgressGrows n (go_on metas w)
+pub go_on-grows : (metas : Metas) (n : ℕ) (w : WorkDoc) → WorkKeyed w → n + length w.waiting ≤ tally_work w → ProgressGrows n (go_on metas w)
 go_on-grows metas n w keyed le = by_look-grows metas n w (look metas w.loaded w.waiting) keyed le (look-fits metas w.loaded (length w.waiting) w.waiting (omega arith))
 
 pub begun-grows : (metas : Metas) (top : HeldDoc) → IsKeyed top.below → ProgressGrows 0 (begun metas top)
 begun-grows metas top keyed = go_on-grows metas 0 (first_work top) (tt, keyed, tt) (omega arith)
 
-kept-grows : (metas : Metas) (n : ℕ) (w : WorkDoc) (h : HeldDoc) (waiting : List Entry) → WorkKeyed w → IsKeyed h.below → 1 ≤ length waiting → n + length waiting ≤ (tally_work w).entries + 1
+kept-grows : (metas : Metas) (n : ℕ) (w : WorkDoc) (h : HeldDoc) (waiting : List Entry) → WorkKeyed w → IsKeyed h.below → 1 ≤ length waiting → n + length waiting ≤ tally_work w + 1
     → ProgressGrows n (go_on metas (with_taken w waiting h))
 kept-grows metas n w h [] keyed kh one le = absurd (omega (arith, one))
 kept-grows metas n w h (e ∷ rest) keyed kh one le =
     go_on-grows metas n (with_taken w (e ∷ rest) h) (keyed.0, keyed.1, inserted-keyed e.name h w.fetched kh keyed.2) (omega (arith, le))
 
 -- one more was fetched, and it is given
-pub taken-grows : (metas : Metas) (n : ℕ) (w : WorkDoc) (h : HeldDoc) → WorkKeyed w → IsKeyed h.below → 1 ≤ length w.waiting → n + length w.waiting ≤ (tally_work w).entries + 1
+pub taken-grows : (metas : Metas) (n : ℕ) (w : WorkDoc) (h : HeldDoc) → WorkKeyed w → IsKeyed h.below → 1 ≤ length w.waiting → n + length w.waiting ≤ tally_work w + 1
     → ProgressGrows n (go_on metas (with_taken w w.waiting h))
 taken-grows metas n w h keyed kh one le = kept-grows metas n w h w.waiting keyed kh one le
