@@ -1,3 +1,6 @@
+mod Listed
+mod Planned
 mod Savings
 mod Starting
+mod Turns
 mod Vouched

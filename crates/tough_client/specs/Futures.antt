@@ -1,10 +1,14 @@
 -- What the futures of a repository hold.
-use Rattle.std.specs.Prelude.{ℕ, List, Option}
+use Rattle.std.specs.Prelude.{ℕ, Bool, List, map, Option, option_map}
 use Rattle.std.specs.Borrow.{MutBor}
 use Rattle.tough_names.specs.Named.{Named}
 use Rattle.tough_net.specs.declared.digest_check.DigestCheck.{DigestCheck}
 use Rattle.tough_net.specs.declared.max_size.MaxSize.{MaxSize}
 use Rattle.tough_save.specs.declared.saving.Saving.{Saving}
+use Rattle.tough_client.specs.declared.cache.Cache.{Cache}
+use Rattle.tough_client.specs.declared.cache.CacheMetadata.{CacheMetadata}
+use Rattle.tough_client.specs.declared.cache.Caching.{Caching}
+use Rattle.tough_client.specs.declared.cache.Folders.{Folders}
 use Rattle.tough_client.specs.declared.read.ReadTarget.{ReadTarget}
 use Rattle.tough_client.specs.declared.repository.Repository.{Repository}
 use Rattle.tough_client.specs.declared.save.Prefix.{Prefix}
@@ -43,3 +47,44 @@ module _ {T K C F S : Type 0} where
   -- the saving that it has come to, once it began
   abbrev pub saving_in : SaveTarget T K C F S → Option (Saving (DigestCheck (MaxSize S)))
   saving_in f = f.saving
+
+module _ {T K C F N S : Type 0} where
+  -- the repository that is cached, and the files that it is cached in
+  abbrev pub cached_from : Cache T K C F N S → MutBor (Repository T K C)
+  cached_from f = f.repository
+
+  abbrev pub cached_in : Cache T K C F N S → MutBor F
+  cached_in f = f.files
+
+  -- the folders
+  abbrev pub folders_in : Cache T K C F N S → Folders
+  folders_in f = f.folders
+
+  -- the texts of the subset, where one is given
+  abbrev pub subset_in : (N → List ℕ) → Cache T K C F N S → Option (List (List ℕ))
+  subset_in text f = option_map (λ names. map text names.now) f.subset
+
+  -- whether the root chain is asked for
+  abbrev pub chain_in : Cache T K C F N S → Bool
+  chain_in f = f.root_chain
+
+  -- the cache that it has come to, once it began
+  abbrev pub caching_in : Cache T K C F N S → Option (Caching S)
+  caching_in f = f.caching
+
+module _ {T K C F S : Type 0} where
+  -- the same where its metadata alone is cached
+  abbrev pub metadata_from : CacheMetadata T K C F S → MutBor (Repository T K C)
+  metadata_from f = f.repository
+
+  abbrev pub metadata_in : CacheMetadata T K C F S → MutBor F
+  metadata_in f = f.files
+
+  abbrev pub metadata_folders_in : CacheMetadata T K C F S → Folders
+  metadata_folders_in f = f.folders
+
+  abbrev pub metadata_chain_in : CacheMetadata T K C F S → Bool
+  metadata_chain_in f = f.root_chain
+
+  abbrev pub metadata_caching_in : CacheMetadata T K C F S → Option (Caching S)
+  metadata_caching_in f = f.caching

@@ -1,5 +1,5 @@
 -- How a target is read (TUF specification 1.0, section 5.7): in time, by what the search finds, from below the base URL.
-use Rattle.std.specs.Prelude.{◌≡◌, ◌⊎◌, ℕ, ℤ, Bool, true, false, List, Option, Some, None, Result, Ok, Err, int_lt, string_bytes, if◌then◌else◌, ⊤}
+use Rattle.std.specs.Prelude.{◌≡◌, ◌≢◌, ◌⊎◌, ℕ, ℤ, Bool, true, false, List, Option, Some, None, Result, Ok, Err, int_lt, string_bytes, if◌then◌else◌}
 use Rattle.url.specs.declared.error.ParseError.{ParseError}
 use Rattle.url.specs.Parts.{Parts}
 use Rattle.futures.specs.Runs.{Runs}
@@ -7,8 +7,10 @@ use Rattle.tough_keys.specs.Same.{Verifies}
 use Rattle.tough_names.specs.Named.{Named}
 use Rattle.tough_net.specs.declared.digest_check.DigestCheck.{DigestCheck}
 use Rattle.tough_net.specs.declared.error.TransportError.{TransportError}
+use Rattle.tough_net.specs.declared.error.TransportErrorKind.TheVariants as kind
 use Rattle.tough_net.specs.declared.max_size.MaxSize.{MaxSize}
 use Rattle.tough_net.specs.Checking.{checked}
+use Rattle.tough_net.specs.Errors.{error_kind}
 use Rattle.tough_net.specs.Items.{Item}
 use Rattle.tough_net.specs.Limiting.{limited}
 use Rattle.tough_roles.specs.declared.role_type.RoleType.{RoleType}
@@ -109,10 +111,10 @@ served_name l name t = file_name name.resolved t.hashes.sha256.bytes l.known.roo
 
 -- ---- fetching
 
--- a fault of a transport, as it is told
+-- a fault of a transport, as it is told: want of memory as such
 abbrev pub TellsFault : TransportError → Error → Type 0
-TellsFault source (error.Transport e) = e ≡ source
-TellsFault source error.Memory = ⊤
+TellsFault source (error.Transport e) = (e ≡ source) × (error_kind source ≢ kind.Memory)
+TellsFault source error.Memory = error_kind source ≡ kind.Memory
 TellsFault source _ = ⊥
 
 abbrev pub TellsUnjoined : List ℕ → ParseError → Error → Type 0

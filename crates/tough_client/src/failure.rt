@@ -12,7 +12,7 @@ use tough_net::{TransportError, TransportErrorKind};
 use tough_save::{FetchError, SaveError, Step};
 
 // A fault of a transport.
-fn fault(source: TransportError) -> Error
+pub(crate) fn fault(source: TransportError) -> Error
     ensures { TellsFault source result }
 {
     if source.kind() == TransportErrorKind::Memory {

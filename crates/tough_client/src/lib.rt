@@ -1,13 +1,17 @@
 //! A repository that was loaded: its documents, and the targets that are read and saved by them (TUF specification 5.7).
 #![tactic(auto)]
 
+mod cache;
 mod driving;
 mod failure;
+mod metadata;
+mod plan;
 mod read;
 mod repository;
 mod save;
 mod unverified;
 
+pub use cache::{Cache, CacheMetadata};
 pub use driving::{drive, finish};
 pub use read::ReadTarget;
 pub use repository::{Repository, RepositoryParts};

@@ -118,7 +118,7 @@ impl<T: Transport, K: Keeper, C: Clock + Drop> Repository<T, K, C> {
     }
 
     // All that comes before the first piece.
-    fn start_saving<F: Files>(
+    pub(crate) fn start_saving<F: Files>(
         &mut self,
         files: &mut F,
         name: &TargetName,
@@ -224,7 +224,7 @@ impl From<SaveError> for Unsaved {
 }
 
 // The saving goes on, and is put by where it waits.
-fn go_on<S: Stream<Item = Result<Bytes, TransportError>>, F: Files>(
+pub(crate) fn go_on<S: Stream<Item = Result<Bytes, TransportError>>, F: Files>(
     saving: Saving<TargetStream<S>>,
     waiting: &mut Option<Saving<TargetStream<S>>>,
     files: &mut F,

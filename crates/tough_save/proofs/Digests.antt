@@ -1,6 +1,6 @@
 -- What a stream that ended without an error gave.
 use Rattle.std.specs.Prelude.{◌≡◌, ℕ, List, [], ◌∷◌, ◌++◌, None, Ok, map, refl}
-use Rattle.std.proofs.Common.{ap, inl, inr, sym, ◌∙◌}
+use Rattle.std.proofs.Common.{ap, inl, inr}
 use Rattle.sha2.specs.Sha256.{sha256}
 use Rattle.futures.specs.Runs.{Runs}
 use Rattle.tough_net.specs.Checking.{Checks}

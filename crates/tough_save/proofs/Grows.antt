@@ -1,5 +1,5 @@
 -- How a saving goes on at its front.
-use Rattle.std.specs.Prelude.{◌≡◌, ℕ, List, [], ◌∷◌, ◌++◌, Result, Ok, Err, Some, None, IfErr, ◌⊎◌, refl}
+use Rattle.std.specs.Prelude.{◌≡◌, ℕ, List, [], ◌∷◌, ◌++◌, Result, Ok, Err, Some, None, IfErr, refl}
 use Rattle.std.proofs.Common.{append_assoc, append-nil, inl, inr, sym, subst}
 use Rattle.futures.specs.Runs.{Runs, After, Within}
 use Rattle.tough_files.specs.Calls.{Told, told_of, append_to, rename_to, done}
@@ -9,7 +9,7 @@ use Rattle.tough_save.specs.declared.error.SaveError.{SaveError}
 use Rattle.tough_save.specs.declared.error.SaveError.TheVariants as error
 use Rattle.tough_save.specs.declared.error.Step.TheVariants as step
 use Rattle.tough_save.specs.Errors.{IsOfFiles}
-use Rattle.tough_save.specs.Savings.{appended, Discards, Tries, Renamed, Unwritten, Broken, Saves, Tells}
+use Rattle.tough_save.specs.Savings.{appended, Discards, Tries, Renamed, Saves, Tells}
 
 module _ (source later : Runs Item) (within : Within source later) where
   pub Tells-Within : (r : Result (Unit {0}) SaveError) → Tells later r → Tells source r

@@ -1,5 +1,5 @@
 -- Why a name has no place.
-use Rattle.std.specs.Prelude.{◌≡◌, ℕ, List, Some, string_bytes}
+use Rattle.std.specs.Prelude.{◌≡◌, ℕ, List, Some}
 use Rattle.std.proofs.Common.{◌∙◌}
 use Rattle.std.specs.Path.{path_join, path_parent, PathStartsWith}
 use Rattle.tough_save.specs.declared.error.SaveError.{SaveError}

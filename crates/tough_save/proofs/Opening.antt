@@ -1,5 +1,5 @@
 -- What is answered where no folder stands.
-use Rattle.std.specs.Prelude.{◌≡◌, ◌≢◌, ℕ, List, refl}
+use Rattle.std.specs.Prelude.{◌≢◌, ℕ, List, refl}
 use Rattle.tough_files.specs.declared.files.FileKind.{FileKind}
 use Rattle.tough_files.specs.declared.files.FileKind.TheVariants.{File, Folder, Link, Other}
 use Rattle.tough_files.specs.declared.files.FilesError.{FilesError}

@@ -4,3 +4,4 @@ pub mod Folders
 pub mod Places
 pub mod Savings
 pub mod Targets
+pub mod Wholes

@@ -1,5 +1,5 @@
 -- The calls by which a stream becomes a file (TUF specification 1.0, section 5.7: a client writes a target file that it has verified).
-use Rattle.std.specs.Prelude.{◌≡◌, ◌⊎◌, ℕ, List, [], ◌∷◌, ◌++◌, map, Option, Some, None, Result, Ok, Err, string_bytes, ⊤}
+use Rattle.std.specs.Prelude.{◌≡◌, ◌⊎◌, ℕ, List, ◌++◌, map, Some, None, Result, Ok, Err, string_bytes, ⊤}
 use Rattle.futures.specs.Runs.{Runs}
 use Rattle.tough_files.specs.declared.files.FilesError.{FilesError}
 use Rattle.tough_files.specs.Calls.{Asked, Told, told_of, done, refused, done_or, append_to, rename_to, remove_at}

@@ -7,9 +7,11 @@ pub mod laws;
 mod place;
 mod saving;
 mod target;
+mod whole;
 
 pub use error::{SaveError, Step};
 pub use folder::{make_temp, open_folder};
 pub use place::Place;
 pub use saving::Saving;
 pub use target::{FetchError, TargetStream, fetch_target, file_name};
+pub use whole::write_file;

@@ -1,4 +1,4 @@
-use Rattle.std.proofs.Common.{rules, ◌≡◌, string_bytes, inl, inr}
+use Rattle.std.proofs.Common.{rules, string_bytes, inl, inr}
 use Rattle.tough_files.specs.Calls.{done, named, refused}
 use Rattle.tough_save.proofs.folder.make_temp.Goals as goal
 

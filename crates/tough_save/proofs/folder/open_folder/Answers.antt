@@ -1,4 +1,4 @@
-use Rattle.std.proofs.Common.{rules, ◌≡◌, string_bytes, Err}
+use Rattle.std.proofs.Common.{rules, string_bytes, Err}
 use Rattle.tough_files.specs.Calls.{named, found, refused}
 use Rattle.tough_files.specs.declared.files.FileKind.TheVariants.{Folder}
 use Rattle.tough_files.specs.declared.files.FilesError.TheVariants as files

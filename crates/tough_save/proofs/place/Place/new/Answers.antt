@@ -1,5 +1,4 @@
 use Rattle.std.proofs.Common.{rules}
-use Rattle.std.specs.Path.{path_join, path_parent, PathStartsWith}
 use Rattle.tough_save.proofs.Misplaced.{misplaced}
 use Rattle.tough_save.proofs.place.Place.new.Goals as goal
 

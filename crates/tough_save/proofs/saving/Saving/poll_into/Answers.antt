@@ -1,4 +1,4 @@
-use Rattle.std.proofs.Common.{◌≡◌, ◌++◌, ℕ, List, rules, [], Ok, Err, subst}
+use Rattle.std.proofs.Common.{◌≡◌, ◌++◌, ℕ, List, rules, [], Err, subst}
 use Rattle.tough_files.specs.Calls.{told_of, append_to, done}
 use Rattle.tough_save.specs.declared.error.SaveError.TheVariants as error
 use Rattle.tough_save.specs.declared.error.Step.TheVariants as step

@@ -1,0 +1,30 @@
+use Rattle.std.proofs.Common.{rules, ◌≡◌, Some, None, map, option_map}
+use Rattle.tough_client.specs.Caching.{AreMade, PlansAll}
+use Rattle.tough_client.specs.Repositories.{documents_of, keeper_of}
+use Rattle.tough_client.proofs.Turns.{goes_value, unbegun, unbegun_value}
+use Rattle.tough_client.proofs.cache.CacheFuture.poll.Goals as goal
+
+pub returns-in-Some-clause-value : goal.returns-in-Some-clause-value
+returns-in-Some-clause-value g c =
+    let m = c.args.self.now in
+    let is : m.caching ≡ Some c.in-Some.caching = search rules in
+    goes_value g.T.Transport.refuses g.T.Transport.serves g.T.Stream.Stream.yields g.T.Stream.Stream.can_poll g.K.Keeper.keeps g.F.Files.tells
+    (AreMade g.F.Files.tells m.folders) (PlansAll (documents_of m.repository.now) (option_map (λ names. map g.S.AsStr.text names.now) m.subset) m.root_chain)
+    m.repository.now m.folders (g.F.Files.calls m.files.now) (g.F.Files.calls m.files.now) m.caching c.in-Some.caching is
+    (g.F.Files.calls c.go_on_caching.new.files) (keeper_of c.go_on_caching.new.self) c.go_on_caching.result c.go_on_caching.ensures.done
+
+pub returns-in-Err-clause-value : goal.returns-in-Err-clause-value
+returns-in-Err-clause-value g c =
+    let m = c.args.self.now in
+    let is : m.caching ≡ None = search rules in
+    unbegun_value g.T.Transport.refuses g.T.Transport.serves g.T.Stream.Stream.yields g.T.Stream.Stream.can_poll g.K.Keeper.keeps g.F.Files.tells
+    (AreMade g.F.Files.tells m.folders) (PlansAll (documents_of m.repository.now) (option_map (λ names. map g.S.AsStr.text names.now) m.subset) m.root_chain)
+    m.repository.now m.folders (g.F.Files.calls m.files.now) (g.F.Files.calls c.begin_all.new.files) m.caching is c.in-Err.error c.in-Err.ensures.begins
+
+pub returns-in-Err-clause-caches : goal.returns-in-Err-clause-caches
+returns-in-Err-clause-caches g c =
+    let m = c.args.self.now in
+    let is : m.caching ≡ None = search rules in
+    unbegun g.T.Transport.refuses g.T.Transport.serves g.T.Stream.Stream.yields g.T.Stream.Stream.can_poll g.K.Keeper.keeps g.F.Files.tells
+    (AreMade g.F.Files.tells m.folders) (PlansAll (documents_of m.repository.now) (option_map (λ names. map g.S.AsStr.text names.now) m.subset) m.root_chain)
+    m.repository.now m.folders (g.F.Files.calls m.files.now) (g.F.Files.calls c.begin_all.new.files) m.caching is c.in-Err.error c.in-Err.ensures.begins

@@ -1,0 +1,31 @@
+use Rattle.std.proofs.Common.{rules, ◌≡◌, Some, None}
+use Rattle.tough_client.specs.Caching.{all_metadata}
+use Rattle.tough_client.specs.Copying.{IsMade}
+use Rattle.tough_client.specs.Repositories.{documents_of, keeper_of}
+use Rattle.tough_client.proofs.Turns.{goes_value, unbegun, unbegun_value}
+use Rattle.tough_client.proofs.cache.CacheMetadataFuture.poll.Goals as goal
+
+pub returns-in-Some-clause-value : goal.returns-in-Some-clause-value
+returns-in-Some-clause-value g c =
+    let m = c.args.self.now in
+    let is : m.caching ≡ Some c.in-Some.caching = search rules in
+    goes_value g.T.Transport.refuses g.T.Transport.serves g.T.Stream.Stream.yields g.T.Stream.Stream.can_poll g.K.Keeper.keeps g.F.Files.tells
+    (IsMade g.F.Files.tells m.folders.metadata.now) (λ turns. turns ≡ all_metadata m.root_chain (documents_of m.repository.now))
+    m.repository.now m.folders (g.F.Files.calls m.files.now) (g.F.Files.calls m.files.now) m.caching c.in-Some.caching is
+    (g.F.Files.calls c.go_on_caching.new.files) (keeper_of c.go_on_caching.new.self) c.go_on_caching.result c.go_on_caching.ensures.done
+
+pub returns-in-Err-clause-value : goal.returns-in-Err-clause-value
+returns-in-Err-clause-value g c =
+    let m = c.args.self.now in
+    let is : m.caching ≡ None = search rules in
+    unbegun_value g.T.Transport.refuses g.T.Transport.serves g.T.Stream.Stream.yields g.T.Stream.Stream.can_poll g.K.Keeper.keeps g.F.Files.tells
+    (IsMade g.F.Files.tells m.folders.metadata.now) (λ turns. turns ≡ all_metadata m.root_chain (documents_of m.repository.now))
+    m.repository.now m.folders (g.F.Files.calls m.files.now) (g.F.Files.calls c.begin_metadata.new.files) m.caching is c.in-Err.error c.in-Err.ensures.begins
+
+pub returns-in-Err-clause-caches : goal.returns-in-Err-clause-caches
+returns-in-Err-clause-caches g c =
+    let m = c.args.self.now in
+    let is : m.caching ≡ None = search rules in
+    unbegun g.T.Transport.refuses g.T.Transport.serves g.T.Stream.Stream.yields g.T.Stream.Stream.can_poll g.K.Keeper.keeps g.F.Files.tells
+    (IsMade g.F.Files.tells m.folders.metadata.now) (λ turns. turns ≡ all_metadata m.root_chain (documents_of m.repository.now))
+    m.repository.now m.folders (g.F.Files.calls m.files.now) (g.F.Files.calls c.begin_metadata.new.files) m.caching is c.in-Err.error c.in-Err.ensures.begins
