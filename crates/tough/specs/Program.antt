@@ -1,5 +1,6 @@
 -- What the program vouches for and prints.
-use Rattle.std.specs.Prelude.{◌≡◌, ℕ, List, ◌++◌, codes, decimal}
+use Rattle.std.specs.Prelude.{◌≡◌, ℕ, List, [], ◌∷◌, ◌++◌, Ok, String, string_bytes, codes, decimal}
+use Rattle.tough_names.specs.Named.{clean}
 use Rattle.tough_keys.specs.Demo.{demo_verifies}
 use Rattle.tough_schema.specs.Whole.{top_doc}
 use Rattle.tough_update.specs.Stages.{LoadedDoc}
@@ -24,12 +25,27 @@ versions_text l =
     ++ version_line (codes "snapshot") l.known.snapshot.role.head.version
     ++ version_line (codes "targets") (top_doc l.targets.role).head.version
 
--- a text that begins with these versions
-abbrev pub Reports : LoadedDoc → List ℕ → Type 0
-Reports l text = (rest : List ℕ) × (text ≡ versions_text l ++ rest)
+-- the versions, and the line that tells which target was saved, and in which folder
+abbrev pub report_text : LoadedDoc → List ℕ → List ℕ → List ℕ
+report_text l name folder = versions_text l ++ (codes "saved " ++ name ++ codes " in " ++ folder ++ codes "\n")
 
--- a text that begins with the versions of documents that are vouched for
-pub record IsReport (text : List ℕ) : Type 0 where
+-- the versions of documents that are vouched for
+pub record IsVersions (text : List ℕ) : Type 0 where
   pub documents : LoadedDoc
   pub vouched : IsVouchedFor documents
-  pub begins : Reports documents text
+  pub told : text ≡ versions_text documents
+
+-- the report of documents that are vouched for, on the target that a word names and on a folder
+pub record IsReport (name folder text : List ℕ) : Type 0 where
+  pub documents : LoadedDoc
+  pub vouched : IsVouchedFor documents
+  pub resolved : List ℕ
+  pub named : clean name ≡ Ok resolved
+  pub told : text ≡ report_text documents resolved folder
+
+-- What the program prints for its words where it succeeds: for five the versions (`load`), for seven the report (`get`). With any other
+-- number of words it doesn't succeed.
+abbrev pub Prints : {A : Type 0} → List (String A) → List ℕ → Type 0
+Prints (command ∷ root ∷ metadata ∷ targets ∷ store ∷ []) text = IsVersions text
+Prints (command ∷ root ∷ metadata ∷ targets ∷ store ∷ name ∷ folder ∷ []) text = IsReport (string_bytes name) (string_bytes folder) text
+Prints _ text = ⊥

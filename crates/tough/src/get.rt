@@ -1,8 +1,9 @@
 //! `tough get`: a target of a repository is saved in a folder.
 
-ghost use Rattle.std.specs.Prelude.{IfOk, string_bytes};
+ghost use Rattle.std.specs.Prelude.{◌≡◌, IfOk, string_bytes};
+ghost use Rattle.tough_update.specs.Stages.{LoadedDoc};
 ghost use Rattle.tough_client.specs.Repositories.{documents_of};
-ghost use Rattle.tough.specs.Program.{IsReport, Reports};
+ghost use Rattle.tough.specs.Program.{IsVouchedFor, report_text};
 
 use crate::opening::{Fault, Wanted, open_by, vault_in, with_cause};
 use crate::progress::Watched;
@@ -37,7 +38,7 @@ where
     let saving = repository.save_target(files, name, outdir, Prefix::None);
     match runtime.block_on(rt, saving) {
         Ok(Ok(())) => Ok(()),
-        Ok(Err(error)) => Err(Fault::Load(error, None)),
+        Ok(Err(error)) => Err(Fault::Load(error)),
         Err(error) => Err(Fault::Run(error)),
     }
 }
@@ -84,7 +85,7 @@ where
     K: Keeper,
     C: Clock + Drop,
     E: Write + Drop,
-    ensures { IfOk result (λ text. Reports (documents_of repository.old) (string_bytes text)) }
+    ensures { IfOk result (λ text. string_bytes text ≡ report_text (documents_of repository.old) name.now.resolved outdir.now) }
 {
     match report(rt.alloc(), repository.documents(), name, outdir) {
         Ok(text) => match save_watched(rt, runtime, repository, name, outdir, err) {
@@ -109,9 +110,10 @@ where
     R: rt::Files + Wait + rt::Clock + RandomSource + AllocGlobal + Clone + Drop,
     T: Transport,
     E: Write + Drop,
-    ensures { IfOk result (λ text. IsReport (string_bytes text)) }
+    ensures { IfOk result (λ text. (l : LoadedDoc) × IsVouchedFor l × (string_bytes text ≡ report_text l name.now.resolved outdir.now)) }
 {
-    let mut vault = vault_in(rt, wanted.store)?;
+    let store = wanted.store;
+    let mut vault = vault_in(rt, store)?;
     match open_by(rt, runtime, transport, &mut vault, wanted) {
         Ok(repository) => {
             let mut repository = repository;
@@ -120,6 +122,6 @@ where
                 Err(fault) => Err(fault),
             }
         }
-        Err(fault) => Err(with_cause(fault, vault)),
+        Err(fault) => Err(with_cause(rt.alloc(), fault, vault, store)),
     }
 }

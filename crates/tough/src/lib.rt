@@ -26,11 +26,12 @@ pub use tough_base::{
     encode_filename,
 };
 pub use tough_client::{
-    Act, Answer, Ask, Clock, Core, Counts, DirStore, DocumentName, Entry, ExpirationEnforcement,
-    Fault, FixedClock, Keeper, Limits, ListedVersion, Load, LoadParts, LoadRun, Loaded,
-    MemoryStore, Prefix, ReadTarget, Receipt, Received, Refusal, Repository, RepositoryLoader,
-    RepositoryParts, Request, Result, SaveTarget, SnapshotVersions, StepError, Store, StoreError,
-    SystemClock, TargetStream, TimestampVersions, Tip, Unset, UpdateError, Vault, drive, finish,
+    Act, Answer, Ask, Cache, CacheMetadata, Clock, Core, Counts, DirStore, DocumentName, Entry,
+    ExpirationEnforcement, Fault, FixedClock, Keeper, Limits, ListedVersion, Load, LoadParts,
+    LoadRun, Loaded, MemoryStore, Prefix, ReadTarget, Receipt, Received, Refusal, Repository,
+    RepositoryLoader, RepositoryParts, Request, Result, SaveTarget, SnapshotVersions, StepError,
+    Store, StoreError, SystemClock, TargetStream, TimestampVersions, Tip, Unset, UpdateError,
+    Vault, drive, finish,
 };
 pub use tough_http::{
     DefaultStream, DefaultTransport, HttpStream, HttpTransport, HttpTransportBuilder,

@@ -6,7 +6,7 @@ ghost use Rattle.tough_client.specs.Repositories.{documents_of};
 ghost use Rattle.tough.specs.Program.{IsVouchedFor};
 
 use crate::{Error, drive_on};
-use std::alloc::{AllocError, AllocGlobal};
+use std::alloc::{AllocError, AllocGlobal, Global};
 use std::random::RandomSource;
 use std::sync::Wait;
 use std::{io, rt};
@@ -21,9 +21,18 @@ use url::Url;
 #[derive(Drop)]
 pub(crate) enum Fault {
     /// The file of the root couldn't be read.
-    FileRead(io::Error),
-    /// The load couldn't be begun, or refused, and what the system last said of the store, if that failed.
-    Load(Error, Option<io::Error>),
+    FileRead {
+        path: String,
+        error: io::Error,
+    },
+    /// The load couldn't be begun, or refused.
+    Load(Error),
+    /// The load refused, and this is what the system last said of the folder of the store.
+    Store {
+        error: Error,
+        folder: String,
+        cause: io::Error,
+    },
     /// The load couldn't be run.
     Run(io::Error),
 }
@@ -32,7 +41,7 @@ impl From<AllocError> for Fault {
     ghost from_gives = { λ _ _. ⊤ };
 
     fn from(_: AllocError) -> Fault {
-        Fault::Load(Error::Memory, None)
+        Fault::Load(Error::Memory)
     }
 }
 
@@ -98,7 +107,7 @@ where
         .keeper(keeper);
     let load = match loader.load() {
         Ok(load) => load,
-        Err(error) => return Err(Fault::Load(Error::from(error), None)),
+        Err(error) => return Err(Fault::Load(Error::from(error))),
     };
     let (outcome, load) = match drive_on(rt, runtime, load) {
         Ok(both) => both,
@@ -108,7 +117,7 @@ where
         Ok(loaded) => Ok((loaded, load)),
         Err(error) => {
             drop(load);
-            Err(Fault::Load(Error::from(error), None))
+            Err(Fault::Load(Error::from(error)))
         }
     }
 }
@@ -133,13 +142,33 @@ where
     }
 }
 
-/// The fault of a run whose store stands in the vault.
-pub(crate) fn with_cause<R>(fault: Fault, vault: Vault<DirStore<R>>) -> Fault
+// The fault of a load over a store in this folder, of which the system last said so.
+fn over_store(alloc: Global, error: Error, cause: Option<io::Error>, folder: &str) -> Fault {
+    let Some(cause) = cause else {
+        return Fault::Load(error);
+    };
+    match String::from_str(alloc, folder) {
+        Ok(folder) => Fault::Store {
+            error,
+            folder,
+            cause,
+        },
+        Err(error) => Fault::from(error),
+    }
+}
+
+/// The fault of a run whose store stands in the vault, over this folder.
+pub(crate) fn with_cause<R>(
+    alloc: Global,
+    fault: Fault,
+    vault: Vault<DirStore<R>>,
+    folder: &str,
+) -> Fault
 where
     R: rt::Files + AllocGlobal + Clone + Drop,
 {
     match fault {
-        Fault::Load(error, _) => Fault::Load(error, vault.into_store().into_fault()),
+        Fault::Load(error) => over_store(alloc, error, vault.into_store().into_fault(), folder),
         fault => fault,
     }
 }

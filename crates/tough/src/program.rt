@@ -1,9 +1,9 @@
 //! The program `tough`.
 
-ghost use Rattle.std.specs.Prelude.{◌≡◌, ◌≤◌, ℕ, List, IfOk, true, length, string_bytes};
+ghost use Rattle.std.specs.Prelude.{◌≡◌, ◌≤◌, ℕ, List, Ok, IfOk, IfSome, true, string_bytes};
 ghost use Rattle.std.specs.Io.KnownBytes.{Appends};
-ghost use Rattle.tough_update.specs.Stages.{LoadedDoc};
-ghost use Rattle.tough.specs.Program.{IsReport, IsVouchedFor, versions_text};
+ghost use Rattle.tough_names.specs.Named.{clean};
+ghost use Rattle.tough.specs.Program.{IsReport, IsVersions, Prints};
 
 use crate::Error;
 use crate::get::get_by;
@@ -31,11 +31,21 @@ const GET: &str = "usage: tough get ROOT METADATA TARGETS STORE NAME OUTDIR";
 fn url(alloc: Global, word: &str) -> Result<Url, Fault> {
     match Url::parse(alloc, word) {
         Ok(url) => Ok(url),
-        Err(ParseError::OutOfMemory) => Err(Fault::Load(Error::Memory, None)),
+        Err(ParseError::OutOfMemory) => Err(Fault::Load(Error::Memory)),
         Err(source) => {
             let url = String::from_str(alloc, word)?;
-            Err(Fault::Load(Error::ParseUrl { url, source }, None))
+            Err(Fault::Load(Error::ParseUrl { url, source }))
         }
+    }
+}
+
+// The name of a word.
+fn target_name(alloc: Global, word: &str) -> Result<TargetName, Fault>
+    ensures { IfOk result (λ name. clean word.now ≡ Ok name.resolved) }
+{
+    match TargetName::from_str(alloc, word) {
+        Ok(name) => Ok(name),
+        Err(error) => Err(Fault::Load(Error::from(error))),
     }
 }
 
@@ -43,8 +53,24 @@ fn url(alloc: Global, word: &str) -> Result<Url, Fault> {
 fn read<R: rt::Files + AllocGlobal>(rt: &R, path: &str) -> Result<Vec<u8>, Fault> {
     match fs::read(rt, path) {
         Ok(bytes) => Ok(bytes),
-        Err(error) => Err(Fault::FileRead(error)),
+        Err(error) => {
+            let path = String::from_str(rt.alloc(), path)?;
+            Err(Fault::FileRead { path, error })
+        }
     }
+}
+
+// An event loop, and a transport over files and HTTP that it serves.
+fn connect<R>(rt: &R) -> Result<(LocalRuntime, DefaultTransport<R>), Fault>
+where
+    R: rt::Files + Net + Wait + rt::Clock + RandomSource + AllocGlobal + Clone + Drop,
+{
+    let runtime = match LocalRuntime::new(rt) {
+        Ok(runtime) => runtime,
+        Err(error) => return Err(Fault::Run(error)),
+    };
+    let transport = DefaultTransport::new(rt.clone()?, runtime.handle().clone()?)?;
+    Ok((runtime, transport))
 }
 
 // Loads a repository over a transport into a folder, and gives the text that tells the versions.
@@ -57,15 +83,16 @@ fn load_by<R, T>(
 where
     R: rt::Files + Wait + rt::Clock + RandomSource + AllocGlobal + Clone + Drop,
     T: Transport,
-    ensures { IfOk result (λ text. (l : LoadedDoc) × IsVouchedFor l × (string_bytes text ≡ versions_text l)) }
+    ensures { IfOk result (λ text. IsVersions (string_bytes text)) }
 {
-    let mut vault = vault_in(rt, wanted.store)?;
+    let store = wanted.store;
+    let mut vault = vault_in(rt, store)?;
     match open_by(rt, runtime, transport, &mut vault, wanted) {
         Ok(repository) => {
             let text = versions(rt.alloc(), repository.documents())?;
             Ok(text)
         }
-        Err(fault) => Err(with_cause(fault, vault)),
+        Err(fault) => Err(with_cause(rt.alloc(), fault, vault, store)),
     }
 }
 
@@ -73,7 +100,7 @@ where
 fn load<R>(rt: &R, root: &str, metadata: &str, targets: &str, store: &str) -> Result<String, Fault>
 where
     R: rt::Files + Net + Wait + rt::Clock + RandomSource + AllocGlobal + Clone + Drop,
-    ensures { IfOk result (λ text. (l : LoadedDoc) × IsVouchedFor l × (string_bytes text ≡ versions_text l)) }
+    ensures { IfOk result (λ text. IsVersions (string_bytes text)) }
 {
     let metadata = url(rt.alloc(), metadata)?;
     let targets = url(rt.alloc(), targets)?;
@@ -84,23 +111,11 @@ where
         targets,
         store,
     };
-    let mut runtime = match LocalRuntime::new(rt) {
-        Ok(runtime) => runtime,
-        Err(error) => return Err(Fault::Run(error)),
-    };
-    let transport = DefaultTransport::new(rt.clone()?, runtime.handle().clone()?)?;
+    let (mut runtime, transport) = connect(rt)?;
     load_by(rt, &mut runtime, transport, wanted)
 }
 
-// The name of a word.
-fn target_name(alloc: Global, word: &str) -> Result<TargetName, Fault> {
-    match TargetName::from_str(alloc, word) {
-        Ok(name) => Ok(name),
-        Err(error) => Err(Fault::Load(Error::from(error), None)),
-    }
-}
-
-// Loads a repository, and saves one of its targets.
+// Loads a repository, and saves one of its targets; gives the text that tells the versions and what was saved where.
 fn get<R, E>(
     rt: &R,
     root: &str,
@@ -114,7 +129,7 @@ fn get<R, E>(
 where
     R: rt::Files + Net + Wait + rt::Clock + RandomSource + AllocGlobal + Clone + Drop,
     E: Write + Drop,
-    ensures { IfOk result (λ text. IsReport (string_bytes text)) }
+    ensures { IfOk result (λ text. IsReport name.now outdir.now (string_bytes text)) }
 {
     let metadata = url(rt.alloc(), metadata)?;
     let targets = url(rt.alloc(), targets)?;
@@ -126,20 +141,50 @@ where
         targets,
         store,
     };
-    let mut runtime = match LocalRuntime::new(rt) {
-        Ok(runtime) => runtime,
-        Err(error) => return Err(Fault::Run(error)),
-    };
-    let transport = DefaultTransport::new(rt.clone()?, runtime.handle().clone()?)?;
+    let (mut runtime, transport) = connect(rt)?;
     get_by(rt, &mut runtime, transport, wanted, &name, outdir, err)
 }
 
-// Tells why a run failed, whose root and store stand in this file and this folder.
-fn tell<E: Write>(err: &mut E, fault: &Fault, root: &str, store: &str) -> io::Result<()> {
+// Does what the words ask for, and gives the text to print. `None` where they are no command.
+fn command<R, E>(rt: &R, words: &[String], err: Option<E>) -> Option<Result<String, Fault>>
+where
+    R: rt::Files + Net + Wait + rt::Clock + RandomSource + AllocGlobal + Clone + Drop,
+    E: Write + Drop,
+    ensures { IfSome result (λ done. IfOk done (λ text. Prints words.now (string_bytes text))) }
+{
+    match words {
+        [command, root, metadata, targets, store] if command.as_str() == "load" => Some(load(
+            rt,
+            root.as_str(),
+            metadata.as_str(),
+            targets.as_str(),
+            store.as_str(),
+        )),
+        [command, root, metadata, targets, store, name, outdir] if command.as_str() == "get" =>
+            Some(get(
+                rt,
+                root.as_str(),
+                metadata.as_str(),
+                targets.as_str(),
+                store.as_str(),
+                name.as_str(),
+                outdir.as_str(),
+                err,
+            )),
+        _ => None,
+    }
+}
+
+// Tells why a run failed.
+fn tell<E: Write>(err: &mut E, fault: &Fault) -> io::Result<()> {
     match fault {
-        Fault::FileRead(error) => writeln!(err, "tough: Failed to read {root}: {error}"),
-        Fault::Load(error, Some(cause)) => writeln!(err, "tough: {error} {store}: {cause}"),
-        Fault::Load(error, None) => writeln!(err, "tough: {error}"),
+        Fault::FileRead { path, error } => writeln!(err, "tough: Failed to read {path}: {error}"),
+        Fault::Load(error) => writeln!(err, "tough: {error}"),
+        Fault::Store {
+            error,
+            folder,
+            cause,
+        } => writeln!(err, "tough: {error} {folder}: {cause}"),
         Fault::Run(error) => writeln!(err, "tough: Failed to run the load: {error}"),
     }
 }
@@ -156,54 +201,20 @@ where
     R: rt::Files + Net + Wait + rt::Clock + RandomSource + AllocGlobal + Clone + Drop,
     O: Write,
     E: Write,
-    ensures loaded { IfOk result (λ done. done ≡ true → length words.now ≡ 5 → (l : LoadedDoc) × IsVouchedFor l × Appends (O.contents out.old) (O.contents out.new) (versions_text l)) }
-    ensures got { IfOk result (λ done. done ≡ true → length words.now ≡ 7 → (text : List ℕ) × IsReport text × Appends (O.contents out.old) (O.contents out.new) text) }
+    ensures { IfOk result (λ done. done ≡ true → (text : List ℕ) × Prints words.now text × Appends (O.contents out.old) (O.contents out.new) text) }
 {
     writeln!(err, "{WARNING}")?;
-    if let [command, root, metadata, targets, store, name, outdir] = words {
-        if command.as_str() == "get" {
-            return match get(
-                rt,
-                root.as_str(),
-                metadata.as_str(),
-                targets.as_str(),
-                store.as_str(),
-                name.as_str(),
-                outdir.as_str(),
-                if is_watched { Some(&mut *err) } else { None },
-            ) {
-                Ok(text) => {
-                    write!(out, "{text}")?;
-                    Ok(true)
-                }
-                Err(fault) => {
-                    tell(err, &fault, root.as_str(), store.as_str())?;
-                    Ok(false)
-                }
-            };
-        }
-    }
-    let [command, root, metadata, targets, store] = words else {
-        writeln!(err, "{LOAD}\n{GET}")?;
-        return Ok(false);
-    };
-    if command.as_str() != "load" {
-        writeln!(err, "{LOAD}\n{GET}")?;
-        return Ok(false);
-    }
-    match load(
-        rt,
-        root.as_str(),
-        metadata.as_str(),
-        targets.as_str(),
-        store.as_str(),
-    ) {
-        Ok(text) => {
+    match command(rt, words, if is_watched { Some(&mut *err) } else { None }) {
+        Some(Ok(text)) => {
             write!(out, "{text}")?;
             Ok(true)
         }
-        Err(fault) => {
-            tell(err, &fault, root.as_str(), store.as_str())?;
+        Some(Err(fault)) => {
+            tell(err, &fault)?;
+            Ok(false)
+        }
+        None => {
+            writeln!(err, "{LOAD}\n{GET}")?;
             Ok(false)
         }
     }
@@ -221,8 +232,7 @@ where
     O: Write,
     E: Write,
     ensures status { result ≤ 1 }
-    ensures printed { result ≡ 0 → length words.now ≡ 5 → (l : LoadedDoc) × IsVouchedFor l × Appends (O.contents out.old) (O.contents out.new) (versions_text l) }
-    ensures reported { result ≡ 0 → length words.now ≡ 7 → (text : List ℕ) × IsReport text × Appends (O.contents out.old) (O.contents out.new) text }
+    ensures printed { result ≡ 0 → (text : List ℕ) × Prints words.now text × Appends (O.contents out.old) (O.contents out.new) text }
 {
     run_watched(rt, words, out, err, false)
 }
@@ -241,8 +251,7 @@ where
     O: Write,
     E: Write,
     ensures status { result ≤ 1 }
-    ensures printed { result ≡ 0 → length words.now ≡ 5 → (l : LoadedDoc) × IsVouchedFor l × Appends (O.contents out.old) (O.contents out.new) (versions_text l) }
-    ensures reported { result ≡ 0 → length words.now ≡ 7 → (text : List ℕ) × IsReport text × Appends (O.contents out.old) (O.contents out.new) text }
+    ensures printed { result ≡ 0 → (text : List ℕ) × Prints words.now text × Appends (O.contents out.old) (O.contents out.new) text }
 {
     match work(rt, words, out, err, is_watched) {
         Ok(true) => 0,

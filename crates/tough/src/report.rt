@@ -3,7 +3,7 @@
 ghost use Rattle.std.specs.Prelude.{◌≡◌, IfOk, string_bytes};
 ghost use Rattle.std.specs.Int.NonZero.{non_zero_u64_get};
 ghost use Rattle.tough_update.specs.View.{loaded_doc};
-ghost use Rattle.tough.specs.Program.{Reports, version_line, versions_text};
+ghost use Rattle.tough.specs.Program.{report_text, version_line, versions_text};
 
 use std::alloc::{AllocError, Global};
 use std::num::NonZeroU64;
@@ -37,7 +37,7 @@ pub(crate) fn report(
     name: &TargetName,
     outdir: &str,
 ) -> Result<String, AllocError>
-    ensures { IfOk result (λ text. Reports (loaded_doc loaded.now) (string_bytes text)) }
+    ensures { IfOk result (λ text. string_bytes text ≡ report_text (loaded_doc loaded.now) name.now.resolved outdir.now) }
 {
     let versions = versions(alloc, loaded)?;
     let resolved = name.resolved();

@@ -8,8 +8,8 @@ use std::sync::Wait;
 use std::{env, fs, rt};
 use tough::schema::DemoVerify;
 use tough::{
-    DefaultTransport, DirStore, LocalRuntime, OsFiles, Prefix, Repository, RepositoryLoader,
-    SystemClock, TargetName, Url, Vault, drive_on,
+    Clock, DefaultTransport, DirStore, Keeper, LocalRuntime, OsFiles, Prefix, Repository,
+    RepositoryLoader, SystemClock, TargetName, Transport, Url, Vault, drive_on,
 };
 
 const USAGE: &str = "usage: updater ROOT METADATA TARGETS STORE NAME OUTDIR";
@@ -64,7 +64,29 @@ where
         .keeper(&mut vault)
         .load()?;
     let (outcome, load) = drive_on(rt, &mut runtime, load)?;
-    let mut repository = Repository::new(load, outcome?);
+    save(
+        rt,
+        &mut runtime,
+        Repository::new(load, outcome?),
+        name,
+        outdir,
+    )
+}
+
+// Saves a target of the repository.
+fn save<R, T, K, C>(
+    rt: &R,
+    runtime: &mut LocalRuntime,
+    mut repository: Repository<T, K, C>,
+    name: &TargetName,
+    outdir: &str,
+) -> anyhow::Result<()>
+where
+    R: rt::Files + Wait + rt::Clock + RandomSource + AllocGlobal + Clone + Drop,
+    T: Transport,
+    K: Keeper,
+    C: Clock + Drop,
+{
     let mut files = OsFiles::new(rt.clone()?);
     let saving = repository.save_target(&mut files, name, outdir, Prefix::None);
     runtime.block_on(rt, saving)??;
