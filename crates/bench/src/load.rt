@@ -9,7 +9,7 @@ use std::time::Instant;
 use tough::schema::{DemoVerify, Root, Signed, Targets};
 use tough::{
     DirStore, DocumentName, Files, FilesystemTransport, FixedClock, Keeper, MemoryStore,
-    MemoryTransport, OsFiles, RepositoryLoader, Transport, Vault, drive,
+    MemoryTransport, OsFiles, Repository, RepositoryLoader, Transport, Vault, drive,
 };
 use tough_demo::{RepositoryFile, RepositoryFiles};
 use url::Url;
@@ -36,8 +36,8 @@ pub fn run(rt: &HostRuntime, count: u32, folder: Option<&str>) -> Result<(), Err
     Ok(())
 }
 
-// Prints what was done, how long it took, and what the process has held at most.
-fn print(rt: &HostRuntime, done: &str, began: Instant) -> Result<(), Error> {
+/// Prints what was done, how long it took, and what the process has held at most.
+pub fn print(rt: &HostRuntime, done: &str, began: Instant) -> Result<(), Error> {
     let time = began.elapsed(rt)?;
     println!(rt;
         "  {done}: {} ms; peak memory {} kB",
@@ -119,14 +119,14 @@ pub fn over_files(
     print(rt, "loaded over files", began)
 }
 
-// Loads the repository that is served below this URL.
-fn load<T: Transport, K: Keeper>(
+/// Loads the repository that is served below this URL.
+pub fn load<T: Transport, K: Keeper>(
     rt: &HostRuntime,
     root: &[u8],
     served: &str,
     transport: T,
     keeper: K,
-) -> Result<(), Error> {
+) -> Result<Repository<T, K, FixedClock>, Error> {
     let alloc = rt.alloc();
     let metadata = format!(in alloc; "{served}metadata/")?;
     let targets = format!(in alloc; "{served}targets/")?;
@@ -140,6 +140,5 @@ fn load<T: Transport, K: Keeper>(
     .verifier(DemoVerify)
     .clock(FixedClock(Timestamp::UNIX_EPOCH))
     .keeper(keeper);
-    drive(rt, loader.load()?)??;
-    Ok(())
+    Ok(drive(rt, loader.load()?)??)
 }

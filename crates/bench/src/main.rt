@@ -1,7 +1,9 @@
 //! Times of the library on large inputs.
 #![tactic(auto)]
 
+mod cache;
 mod canonical;
+mod http;
 mod load;
 mod matching;
 mod memory;
@@ -13,7 +15,7 @@ use anyhow::Error;
 use std::env;
 
 const USAGE: &str =
-    "usage: bench canonical [MEGABYTES] | verify [THOUSANDS] | load [TARGETS [FOLDER]] | match [CHARACTERS] | search [ROLES] | chain TARGETS ROLES [FOLDER] | fan TARGETS ROLES [FOLDER]";
+    "usage: bench canonical [MEGABYTES] | verify [THOUSANDS] | load [TARGETS [FOLDER]] | match [CHARACTERS] | search [ROLES] | chain TARGETS ROLES [FOLDER] | fan TARGETS ROLES [FOLDER] | http URL | cache FOLDER";
 
 fn main(rt: HostRuntime) -> Result<(), Error> {
     let mut words = env::args(&rt)?.skip(1);
@@ -21,7 +23,14 @@ fn main(rt: HostRuntime) -> Result<(), Error> {
         println!(rt; "{USAGE}")?;
         return Ok(());
     };
-    let size: u32 = match words.next() {
+    let first = words.next();
+    if name.as_str() == "http" {
+        return http::run(&rt, first.as_deref().unwrap_or(""));
+    }
+    if name.as_str() == "cache" {
+        return cache::run(&rt, first.as_deref().unwrap_or(""));
+    }
+    let size: u32 = match first {
         Some(word) => word.parse()?,
         None => 12,
     };

@@ -34,6 +34,9 @@ pub(crate) fn limits(case: &Value) -> Limits {
     if let Some(size) = number(case, "max_timestamp_size") {
         limits.max_timestamp_size = size;
     }
+    if let Some(size) = number(case, "max_targets_size") {
+        limits.max_targets_size = size;
+    }
     limits
 }
 

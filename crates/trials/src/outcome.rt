@@ -127,7 +127,7 @@ fn missing(alloc: Global, error: &Error) -> Result<String, AllocError> {
     }
 }
 
-// That a target wasn't saved.
+// That a target or a file of metadata wasn't saved.
 fn unsaved(alloc: Global, error: &Error) -> Result<String, AllocError> {
     let name = match error {
         Error::InvalidTargetName { .. } => "InvalidTargetName",
@@ -138,6 +138,9 @@ fn unsaved(alloc: Global, error: &Error) -> Result<String, AllocError> {
         Error::SaveTargetUnsafePath { .. } => "SaveTargetUnsafePath",
         Error::DirCreate { .. } => "DirCreate",
         Error::AbsolutePath { .. } => "AbsolutePath",
+        Error::CacheDirectoryCreate { .. } => "CacheDirectoryCreate",
+        Error::CacheFileWrite { .. } => "CacheFileWrite",
+        Error::UnsafeTargetNameDotDot => "UnsafeTargetNameDotDot",
         other => return format!(in alloc; "{other}"),
     };
     String::from_str(alloc, name)

@@ -1,4 +1,4 @@
-//! Targets that are saved over files in memory.
+//! Targets that are saved, and repositories that are cached, over files in memory.
 
 use crate::load::{enforcement, limits};
 use crate::outcome::told;
@@ -9,8 +9,8 @@ use std::alloc::{AllocError, Global};
 use tough::files::{Call, Request};
 use tough::schema::DemoVerify;
 use tough::{
-    Files, FixedClock, MemoryFiles, MemoryStore, MemoryTransport, Prefix, RepositoryLoader,
-    TargetName, Vault, drive, finish,
+    Clock, Error, Files, FixedClock, Keeper, MemoryFiles, MemoryStore, MemoryTransport, Prefix,
+    Repository, RepositoryLoader, TargetName, Transport, Vault, drive, finish,
 };
 use trials_values::case::{flag, list, number, text};
 use url::Url;
@@ -76,9 +76,101 @@ fn named(alloc: Global, call: &Call) -> Result<String, AllocError> {
     }
 }
 
-/// Loads the repository of the case, saves a target of it, and tells what that came to, and which calls the files were given.
-pub(crate) fn play(rt: &HostRuntime, case: &Value) -> Result<String> {
+// What a save or a cache came to.
+fn outcome(alloc: Global, answer: Result<(), Error>, saved: &str) -> Result<String, AllocError> {
+    match answer {
+        Ok(()) => String::from_str(alloc, saved),
+        Err(error) => told(alloc, &error),
+    }
+}
+
+// Saves the target of the case.
+fn save<T: Transport, K: Keeper, C: Clock + Drop>(
+    rt: &HostRuntime,
+    case: &Value,
+    repository: &mut Repository<T, K, C>,
+    files: &mut MemoryFiles,
+) -> Result<String> {
+    let name = TargetName::from_str(rt.alloc(), text(case, "target"))?;
+    let prefix = if flag(case, "prefixed") {
+        Prefix::Digest
+    } else {
+        Prefix::None
+    };
+    let saving = repository.save_target(files, &name, text(case, "outdir"), prefix);
+    Ok(outcome(rt.alloc(), finish(rt, saving)?, "saved")?)
+}
+
+// The names, where the case has a subset.
+fn subset_of<'a>(case: &Value, names: &'a [&'a str]) -> Option<&'a [&'a str]> {
+    if case.get("subset").is_some() {
+        Some(names)
+    } else {
+        None
+    }
+}
+
+// Caches the repository of the case.
+fn cache<T: Transport, K: Keeper, C: Clock + Drop>(
+    rt: &HostRuntime,
+    case: &Value,
+    repository: &mut Repository<T, K, C>,
+    files: &mut MemoryFiles,
+) -> Result<String> {
+    let mut names = Vec::new(rt.alloc());
+    for name in list(case, "subset") {
+        names.push(name.as_str().unwrap_or(""))?;
+    }
+    let (outdir, targets) = (text(case, "outdir"), text(case, "targets_outdir"));
+    let subset = subset_of(case, names.as_slice());
+    let caching = repository.cache(files, outdir, targets, subset, flag(case, "root_chain"));
+    Ok(outcome(rt.alloc(), finish(rt, caching)?, "cached")?)
+}
+
+// Caches the metadata of the repository of the case.
+fn cache_metadata<T: Transport, K: Keeper, C: Clock + Drop>(
+    rt: &HostRuntime,
+    case: &Value,
+    repository: &mut Repository<T, K, C>,
+    files: &mut MemoryFiles,
+) -> Result<String> {
+    let caching = repository.cache_metadata(files, text(case, "outdir"), flag(case, "root_chain"));
+    Ok(outcome(rt.alloc(), finish(rt, caching)?, "cached")?)
+}
+
+// Does with the repository what the case asks for, and tells what that came to.
+fn act<T: Transport, K: Keeper, C: Clock + Drop>(
+    rt: &HostRuntime,
+    case: &Value,
+    repository: &mut Repository<T, K, C>,
+    files: &mut MemoryFiles,
+) -> Result<String> {
+    match text(case, "call") {
+        "cache" => cache(rt, case, repository, files),
+        "cache_metadata" => cache_metadata(rt, case, repository, files),
+        _ => save(rt, case, repository, files),
+    }
+}
+
+// Does with the repository what the case asks for, and tells what that came to, and which calls the files were given.
+fn tell<T: Transport, K: Keeper, C: Clock + Drop>(
+    rt: &HostRuntime,
+    case: &Value,
+    mut repository: Repository<T, K, C>,
+) -> Result<String> {
     let alloc = rt.alloc();
+    let mut files = files(alloc, case)?;
+    let before = files.calls().len();
+    let mut line = act(rt, case, &mut repository, &mut files)?;
+    for call in files.calls().iter().skip(before) {
+        let call = named(alloc, call)?;
+        line.push_str(format!(in alloc; "\n  {call}")?.as_str())?;
+    }
+    Ok(line)
+}
+
+// The metadata and the targets of the case, in pieces where it says so.
+fn served(alloc: Global, case: &Value) -> Result<MemoryTransport> {
     let piece = number(case, "piece").and_then(|n| usize::try_from(n).ok());
     let mut transport = match piece {
         Some(length) if length > 0 => MemoryTransport::in_pieces(alloc, length),
@@ -86,6 +178,13 @@ pub(crate) fn play(rt: &HostRuntime, case: &Value) -> Result<String> {
     };
     serve(alloc, case, "metadata", &mut transport)?;
     serve(alloc, case, "targets", &mut transport)?;
+    Ok(transport)
+}
+
+/// Loads the repository of the case, saves a target of it or caches it, and tells what that came to, and which calls the files were given.
+pub(crate) fn play(rt: &HostRuntime, case: &Value) -> Result<String> {
+    let alloc = rt.alloc();
+    let transport = served(alloc, case)?;
     let mut vault = Vault::new(alloc, MemoryStore::new(alloc));
     let loader = RepositoryLoader::new(
         alloc,
@@ -99,23 +198,5 @@ pub(crate) fn play(rt: &HostRuntime, case: &Value) -> Result<String> {
     .keeper(&mut vault)
     .limits(limits(case))
     .expiration_enforcement(enforcement(case));
-    let mut repository = drive(rt, loader.load()?)??;
-    let mut files = files(alloc, case)?;
-    let before = files.calls().len();
-    let name = TargetName::from_str(alloc, text(case, "target"))?;
-    let prefix = if flag(case, "prefixed") {
-        Prefix::Digest
-    } else {
-        Prefix::None
-    };
-    let saving = repository.save_target(&mut files, &name, text(case, "outdir"), prefix);
-    let mut line = match finish(rt, saving)? {
-        Ok(()) => format!(in alloc; "saved")?,
-        Err(error) => told(alloc, &error)?,
-    };
-    for call in files.calls().iter().skip(before) {
-        let call = named(alloc, call)?;
-        line.push_str(format!(in alloc; "\n  {call}")?.as_str())?;
-    }
-    Ok(line)
+    tell(rt, case, drive(rt, loader.load()?)??)
 }

@@ -121,11 +121,10 @@ fn served(alloc: Global, core: &Core, case: &Value) -> Result<Option<Answer>> {
     })
 }
 
-/// Plays an update over the case's files, by a thousand answers at most: tells what it asks in turn, and how it ended.
-pub(crate) fn serve(alloc: Global, case: &Value) -> Result<String> {
+// Plays an update over the case's files, by a thousand answers at most, and tells what it asks in turn.
+fn over_files(alloc: Global, case: &Value, told: &mut String) -> Result<Core> {
     let trusted = Vec::from_slice(alloc, text(case, "trusted").as_bytes())?;
     let mut core = Core::new(trusted, limits(case), enforcement(case));
-    let mut told = String::new(alloc);
     for _ in 0..1000 {
         told.push_str(format!(in alloc; "\n  {}", asked(alloc, &core)?)?.as_str())?;
         let Some(answer) = served(alloc, &core, case)? else {
@@ -133,8 +132,25 @@ pub(crate) fn serve(alloc: Global, case: &Value) -> Result<String> {
         };
         core.answer(alloc, &DemoVerify, answer);
     }
+    Ok(core)
+}
+
+/// Plays an update over the case's files: tells what it asks in turn, and how it ended.
+pub(crate) fn serve(alloc: Global, case: &Value) -> Result<String> {
+    let mut told = String::new(alloc);
+    let core = over_files(alloc, case, &mut told)?;
     told.push_str(format!(in alloc; "\n  {}", ended(alloc, core)?)?.as_str())?;
     Ok(told)
+}
+
+/// What an update over the case's files has counted at its end.
+pub(crate) fn counts(alloc: Global, case: &Value) -> Result<String> {
+    let mut told = String::new(alloc);
+    let counts = over_files(alloc, case, &mut told)?.counts();
+    Ok(format!(in alloc;
+        "roots {}, delegated {}, kept {}, entries {}",
+        counts.roots, counts.delegated, counts.kept, counts.entries
+    )?)
 }
 
 /// The limits that a load has where none are set.

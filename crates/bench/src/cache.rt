@@ -1,0 +1,44 @@
+//! Saving a whole repository.
+
+use crate::load::{load, print};
+use anyhow::Error;
+use std::fs;
+use std::time::Instant;
+use tough::{
+    Clock, FilesystemTransport, Keeper, MemoryStore, OsFiles, Repository, Transport, Vault, finish,
+};
+
+/// Loads the repository of a folder, which has `root.json`, `metadata` and `targets`, and prints how long it takes to save it as a whole
+/// in the folder `cached` there.
+pub fn run(rt: &HostRuntime, folder: &str) -> Result<(), Error> {
+    let alloc = rt.alloc();
+    let root = format!(in alloc; "{folder}/root.json")?;
+    let root = fs::read(rt, root.as_str())?;
+    let served = format!(in alloc; "file://{folder}/")?;
+    let transport = FilesystemTransport::new(rt.clone()?);
+    let mut vault = Vault::new(alloc, MemoryStore::new(alloc));
+    let repository = load(rt, root.as_slice(), served.as_str(), transport, &mut vault)?;
+    save(rt, repository, folder)
+}
+
+// Saves all targets and the metadata of the repository.
+fn save<T: Transport, K: Keeper, C: Clock + Drop>(
+    rt: &HostRuntime,
+    mut repository: Repository<T, K, C>,
+    folder: &str,
+) -> Result<(), Error> {
+    let alloc = rt.alloc();
+    let metadata = format!(in alloc; "{folder}/cached/metadata")?;
+    let targets = format!(in alloc; "{folder}/cached/targets")?;
+    let mut files = OsFiles::new(rt.clone()?);
+    let began = Instant::now(rt)?;
+    let caching = repository.cache(
+        &mut files,
+        metadata.as_str(),
+        targets.as_str(),
+        None::<&[&str]>,
+        true,
+    );
+    finish(rt, caching)??;
+    print(rt, "saved as a whole", began)
+}
