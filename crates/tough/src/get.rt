@@ -85,7 +85,8 @@ where
     K: Keeper,
     C: Clock + Drop,
     E: Write + Drop,
-    ensures { IfOk result (λ text. string_bytes text ≡ report_text (documents_of repository.old) name.now.resolved outdir.now) }
+    ensures { IfOk result (λ text. string_bytes text
+        ≡ report_text (documents_of repository.old) name.now.resolved outdir.now) }
 {
     match report(rt.alloc(), repository.documents(), name, outdir) {
         Ok(text) => match save_watched(rt, runtime, repository, name, outdir, err) {
@@ -110,7 +111,8 @@ where
     R: rt::Files + Wait + rt::Clock + RandomSource + AllocGlobal + Clone + Drop,
     T: Transport,
     E: Write + Drop,
-    ensures { IfOk result (λ text. (l : LoadedDoc) × IsVouchedFor l × (string_bytes text ≡ report_text l name.now.resolved outdir.now)) }
+    ensures { IfOk result (λ text. (l : LoadedDoc) × IsVouchedFor l
+        × (string_bytes text ≡ report_text l name.now.resolved outdir.now)) }
 {
     let store = wanted.store;
     let mut vault = vault_in(rt, store)?;

@@ -201,7 +201,8 @@ where
     R: rt::Files + Net + Wait + rt::Clock + RandomSource + AllocGlobal + Clone + Drop,
     O: Write,
     E: Write,
-    ensures { IfOk result (λ done. done ≡ true → (text : List ℕ) × Prints words.now text × Appends (O.contents out.old) (O.contents out.new) text) }
+    ensures { IfOk result (λ done. done ≡ true → (text : List ℕ) × Prints words.now text
+        × Appends (O.contents out.old) (O.contents out.new) text) }
 {
     writeln!(err, "{WARNING}")?;
     match command(rt, words, if is_watched { Some(&mut *err) } else { None }) {
@@ -232,7 +233,8 @@ where
     O: Write,
     E: Write,
     ensures status { result ≤ 1 }
-    ensures printed { result ≡ 0 → (text : List ℕ) × Prints words.now text × Appends (O.contents out.old) (O.contents out.new) text }
+    ensures printed { result ≡ 0 → (text : List ℕ) × Prints words.now text
+        × Appends (O.contents out.old) (O.contents out.new) text }
 {
     run_watched(rt, words, out, err, false)
 }
@@ -251,7 +253,8 @@ where
     O: Write,
     E: Write,
     ensures status { result ≤ 1 }
-    ensures printed { result ≡ 0 → (text : List ℕ) × Prints words.now text × Appends (O.contents out.old) (O.contents out.new) text }
+    ensures printed { result ≡ 0 → (text : List ℕ) × Prints words.now text
+        × Appends (O.contents out.old) (O.contents out.new) text }
 {
     match work(rt, words, out, err, is_watched) {
         Ok(true) => 0,

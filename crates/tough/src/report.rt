@@ -12,7 +12,8 @@ use tough_names::TargetName;
 
 // A role and its version.
 fn line(alloc: Global, role: &str, version: NonZeroU64) -> Result<String, AllocError>
-    ensures { IfOk result (λ text. string_bytes text ≡ version_line role.now (non_zero_u64_get version)) }
+    ensures { IfOk result (λ text. string_bytes text
+        ≡ version_line role.now (non_zero_u64_get version)) }
 {
     let text = format!(in alloc; "{role} {version}\n")?;
     Ok(text)
@@ -37,7 +38,8 @@ pub(crate) fn report(
     name: &TargetName,
     outdir: &str,
 ) -> Result<String, AllocError>
-    ensures { IfOk result (λ text. string_bytes text ≡ report_text (loaded_doc loaded.now) name.now.resolved outdir.now) }
+    ensures { IfOk result (λ text. string_bytes text
+        ≡ report_text (loaded_doc loaded.now) name.now.resolved outdir.now) }
 {
     let versions = versions(alloc, loaded)?;
     let resolved = name.resolved();

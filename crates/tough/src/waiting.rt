@@ -33,9 +33,14 @@ where
     C: Clock + Drop,
     V: Verify + Drop,
     requires { CanPoll T.Stream.can_poll (part.fetch_of load) }
-    ensures done { IfOk result (λ both. Finishes T.refuses T.serves K.keeps T.Stream.yields V.verifies load (outcome_doc both.0) both.1) }
-    ensures trusted { (from : _) → IsBegun from load → IfOk result (λ both. IfOk (outcome_doc both.0) (Vouches T.refuses T.serves K.keeps T.Stream.yields
-        (V.verifies (verifier_of from)) (part.base_of load) (transport_of from) (first_core (settings_of from)) (keeper_of from)
+    ensures done { IfOk result
+        (λ both. Finishes T.refuses T.serves K.keeps T.Stream.yields V.verifies load
+        (outcome_doc both.0) both.1) }
+    ensures trusted { (from : _) → IsBegun from load
+        → IfOk result (λ both. IfOk (outcome_doc both.0)
+        (Vouches T.refuses T.serves K.keeps T.Stream.yields
+        (V.verifies (verifier_of from)) (part.base_of load) (transport_of from)
+        (first_core (settings_of from)) (keeper_of from)
         (core_doc (part.core_of both.1)) (part.keeper_of both.1))) }
 {
     loads_are_trusted::<T, V, C, K>();

@@ -277,7 +277,8 @@ impl<T: Decode> Eq for Decoded<T> {
 impl<T: Decode> PartialOrd for Decoded<T> {
     ghost partial_cmp = { as_partial_cmp (on (λ d. d.bytes) (slice_cmp nat_cmp)) };
 
-    ghost laws = { partial_order_from_own_ties (Prim.search (comparing, rules)) (Prim.search (comparing, rules)) };
+    ghost laws = { partial_order_from_own_ties (Prim.search (comparing, rules))
+        (Prim.search (comparing, rules)) };
 
     fn partial_cmp(&self, other: &Decoded<T>) -> Option<Ordering> {
         Some(self.cmp(other))

@@ -56,10 +56,14 @@ fn go_on_with<S: Stream<Item = Result<Bytes, TransportError>>, F: Files>(
     cx: &mut Context<'_>,
 ) -> Poll<Result<(), Error>>
     requires { IsPollable S.can_poll work }
-    ensures done { IfReady result (Ends F.tells S.yields work (F.calls files.old) (F.calls files.new)) }
-    ensures waits { OnPending result (IsSomeAnd waiting.new (Follows F.tells S.yields work (F.calls files.old) (F.calls files.new))) }
+    ensures done { IfReady result
+        (Ends F.tells S.yields work (F.calls files.old) (F.calls files.new)) }
+    ensures waits { OnPending result
+        (IsSomeAnd waiting.new (Follows F.tells S.yields work
+        (F.calls files.old) (F.calls files.new))) }
     ensures again { OnPending result (IsSomeAnd waiting.new (IsPollable S.can_poll)) }
-    ensures registered { OnPending result (Covers cx.new (λ n. IsSomeAnd waiting.new (λ w. Needs S.needs w n))) }
+    ensures registered { OnPending result
+        (Covers cx.new (λ n. IsSomeAnd waiting.new (λ w. Needs S.needs w n))) }
     ensures empty { IfReady result (λ r. waiting.new ≡ waiting.old) }
     ensures kept { Keeps cx.old cx.new }
 {
@@ -92,7 +96,8 @@ fn go_on_with<S: Stream<Item = Result<Bytes, TransportError>>, F: Files>(
 impl<T: Transport, K: Keeper, C: Clock + Drop> Repository<T, K, C> {
     // Starts to fetch a file of metadata, for its path in the folder.
     fn begin_fetch(&self, request: Request, folder: &str) -> Result<Work<T::Stream>, Error>
-        ensures begun { IfOk result (IsBegun T.serves T.Stream.yields self.now folder.now (request_doc request)) }
+        ensures begun { IfOk result
+            (IsBegun T.serves T.Stream.yields self.now folder.now (request_doc request)) }
         ensures refused { IfErr result (IsUnstarted T.refuses self.now (request_doc request)) }
         ensures can_poll { IfOk result (IsPollable T.Stream.can_poll) }
     {
@@ -123,7 +128,8 @@ impl<T: Transport, K: Keeper, C: Clock + Drop> Repository<T, K, C> {
 
     // Starts to fetch a file of metadata, if it is known how it is asked for.
     fn begin_file(&self, served: Served, folder: &str) -> Result<Option<Work<T::Stream>>, Error>
-        ensures begins { BeginsFile T.refuses T.serves T.Stream.yields self.now folder.now served result }
+        ensures begins { BeginsFile T.refuses T.serves T.Stream.yields self.now
+            folder.now served result }
         ensures can_poll { IfOk result (λ o. IfSome o (IsPollable T.Stream.can_poll)) }
     {
         match file_again(self.alloc, &self.loaded, &self.limits, served) {
@@ -153,7 +159,9 @@ impl<T: Transport, K: Keeper, C: Clock + Drop> Repository<T, K, C> {
         name: TargetName,
         folder: &str,
     ) -> Result<Option<Work<T::Stream>>, Error>
-        ensures begins { BeginsTarget T.refuses T.serves T.Stream.yields T.Stream.can_poll K.keeps F.tells self.old folder.now name (F.calls files.old) (F.calls files.new) (keeper_of self.new) result }
+        ensures begins { BeginsTarget T.refuses T.serves T.Stream.yields T.Stream.can_poll K.keeps
+            F.tells self.old folder.now name (F.calls files.old) (F.calls files.new)
+            (keeper_of self.new) result }
         ensures can_poll { IfOk result (λ o. IfSome o (IsPollable T.Stream.can_poll)) }
         ensures kept { IsKept self.old self.new }
     {
@@ -171,7 +179,9 @@ impl<T: Transport, K: Keeper, C: Clock + Drop> Repository<T, K, C> {
         text: &str,
         folder: &str,
     ) -> Result<Option<Work<T::Stream>>, Error>
-        ensures begins { BeginsText T.refuses T.serves T.Stream.yields T.Stream.can_poll K.keeps F.tells self.old folder.now text.now (F.calls files.old) (F.calls files.new) (keeper_of self.new) result }
+        ensures begins { BeginsText T.refuses T.serves T.Stream.yields T.Stream.can_poll K.keeps
+            F.tells self.old folder.now text.now (F.calls files.old) (F.calls files.new)
+            (keeper_of self.new) result }
         ensures can_poll { IfOk result (λ o. IfSome o (IsPollable T.Stream.can_poll)) }
         ensures kept { IsKept self.old self.new }
     {
@@ -188,7 +198,9 @@ impl<T: Transport, K: Keeper, C: Clock + Drop> Repository<T, K, C> {
         turn: Turn,
         folders: Folders<'_>,
     ) -> Result<Option<Work<T::Stream>>, Error>
-        ensures begins { Begins T.refuses T.serves T.Stream.yields T.Stream.can_poll K.keeps F.tells self.old folders.entry turn (F.calls files.old) (F.calls files.new) (keeper_of self.new) result }
+        ensures begins { Begins T.refuses T.serves T.Stream.yields T.Stream.can_poll K.keeps F.tells
+            self.old folders.entry turn (F.calls files.old) (F.calls files.new)
+            (keeper_of self.new) result }
         ensures can_poll { IfOk result (λ o. IfSome o (IsPollable T.Stream.can_poll)) }
         ensures kept { IsKept self.old self.new }
     {
@@ -215,10 +227,17 @@ impl<T: Transport, K: Keeper, C: Clock + Drop> Repository<T, K, C> {
         cx: &mut Context<'_>,
     ) -> Poll<Result<(), Error>>
         requires { IfSome caching.old.work (IsPollable T.Stream.can_poll) }
-        ensures done { IfReady result (GoesOnCaching T.refuses T.serves T.Stream.yields T.Stream.can_poll K.keeps F.tells caching.old.work (left_in caching.old.plan) self.old folders.entry (F.calls files.old) (F.calls files.new) (keeper_of self.new)) }
-        ensures continues { OnPending result (Continues T.refuses T.serves T.Stream.yields T.Stream.can_poll K.keeps F.tells caching.old self.old folders.entry (F.calls files.old) (F.calls files.new) self.new caching.new) }
+        ensures done { IfReady result
+            (GoesOnCaching T.refuses T.serves T.Stream.yields T.Stream.can_poll K.keeps F.tells
+            caching.old.work (left_in caching.old.plan) self.old folders.entry (F.calls files.old)
+            (F.calls files.new) (keeper_of self.new)) }
+        ensures continues { OnPending result
+            (Continues T.refuses T.serves T.Stream.yields T.Stream.can_poll K.keeps F.tells
+            caching.old self.old folders.entry (F.calls files.old)
+            (F.calls files.new) self.new caching.new) }
         ensures again { OnPending result (IfSome caching.new.work (IsPollable T.Stream.can_poll)) }
-        ensures registered { OnPending result (Covers cx.new (λ n. IsSomeAnd caching.new.work (λ w. Needs T.Stream.needs w n))) }
+        ensures registered { OnPending result
+            (Covers cx.new (λ n. IsSomeAnd caching.new.work (λ w. Needs T.Stream.needs w n))) }
         ensures kept { Keeps cx.old cx.new }
     {
         if let Some(work) = caching.work.take() {
@@ -247,7 +266,8 @@ impl<T: Transport, K: Keeper, C: Clock + Drop> Repository<T, K, C> {
         folders: Folders<'_>,
         root_chain: bool,
     ) -> Result<Caching<T::Stream>, Error>
-        ensures begins { BeginsMetadata F.tells (documents_of self.now) folders.entry.metadata.now root_chain (F.calls files.old) (F.calls files.new) result }
+        ensures begins { BeginsMetadata F.tells (documents_of self.now) folders.entry.metadata.now
+            root_chain (F.calls files.old) (F.calls files.new) result }
     {
         if let Err(error) = make_folder(self.alloc, files, folders.metadata) {
             return Err(error);
@@ -271,7 +291,8 @@ impl<T: Transport, K: Keeper, C: Clock + Drop> Repository<T, K, C> {
 
     // Plans what is cached of a whole repository.
     fn plan_all<S: AsStr>(&self, subset: Option<&[S]>, root_chain: bool) -> Result<Plan, AllocError>
-        ensures { IfOk result (λ plan. PlansAll (documents_of self.now) (option_map (λ names. map S.text names.now) subset.entry) root_chain (left_in plan)) }
+        ensures { IfOk result (λ plan. PlansAll (documents_of self.now)
+            (option_map (λ names. map S.text names.now) subset.entry) root_chain (left_in plan)) }
     {
         let mut plan = Plan::new(self.alloc, &self.loaded, root_chain);
         plan.add_targets(self.alloc, &self.loaded.targets().signed, subset)?;
@@ -287,7 +308,9 @@ impl<T: Transport, K: Keeper, C: Clock + Drop> Repository<T, K, C> {
         subset: Option<&[S]>,
         root_chain: bool,
     ) -> Result<Caching<T::Stream>, Error>
-        ensures begins { BeginsAll F.tells (documents_of self.now) folders.entry (option_map (λ names. map S.text names.now) subset.entry) root_chain (F.calls files.old) (F.calls files.new) result }
+        ensures begins { BeginsAll F.tells (documents_of self.now) folders.entry
+            (option_map (λ names. map S.text names.now) subset.entry) root_chain (F.calls files.old)
+            (F.calls files.new) result }
     {
         if let Err(error) = self.make_folders(files, folders) {
             return Err(error);
@@ -314,10 +337,12 @@ impl<T: Transport, K: Keeper, C: Clock + Drop> Repository<T, K, C> {
     ) -> Cache<'a, T, K, C, F, S>
         ensures lent { (cached_from result).ghost_name ≡ self.entry.ghost_name }
         ensures files_lent { (cached_in result).ghost_name ≡ files.entry.ghost_name }
-        ensures begins { ((cached_from result).now ≡ self.old) × ((cached_in result).now ≡ files.old) }
+        ensures begins { ((cached_from result).now ≡ self.old)
+            × ((cached_in result).now ≡ files.old) }
         ensures metadata { (folders_in result).metadata.now ≡ metadata_outdir.now }
         ensures targets { (folders_in result).targets.now ≡ targets_outdir.now }
-        ensures subset { subset_in S.text result ≡ option_map (λ names. map S.text names.now) targets_subset.entry }
+        ensures subset { subset_in S.text result
+            ≡ option_map (λ names. map S.text names.now) targets_subset.entry }
         ensures chain { chain_in result ≡ cache_root_chain }
         ensures unbegun { caching_in result ≡ None }
     {
@@ -349,7 +374,8 @@ impl<T: Transport, K: Keeper, C: Clock + Drop> Repository<T, K, C> {
     ) -> CacheMetadata<'a, T, K, C, F>
         ensures lent { (metadata_from result).ghost_name ≡ self.entry.ghost_name }
         ensures files_lent { (metadata_in result).ghost_name ≡ files.entry.ghost_name }
-        ensures begins { ((metadata_from result).now ≡ self.old) × ((metadata_in result).now ≡ files.old) }
+        ensures begins { ((metadata_from result).now ≡ self.old)
+            × ((metadata_in result).now ≡ files.old) }
         ensures folder { (metadata_folders_in result).metadata.now ≡ metadata_outdir.now }
         ensures chain { metadata_chain_in result ≡ cache_root_chain }
         ensures unbegun { metadata_caching_in result ≡ None }
@@ -394,20 +420,45 @@ impl<T: Transport, K: Keeper, C: Clock + Drop, F: Files, S: AsStr> Future
 
     ghost can_poll = { λ m. IfSome m.caching (λ c. IfSome c.work (IsPollable T.Stream.can_poll)) };
 
-    ghost needs = { λ m n. IsSomeAnd m.caching (λ c. IsSomeAnd c.work (λ w. Needs T.Stream.needs w n)) };
+    ghost needs = { λ m n. IsSomeAnd m.caching
+        (λ c. IsSomeAnd c.work (λ w. Needs T.Stream.needs w n)) };
 
     // Some calls and some keeper's steps lead to what it may give.
-    ghost gives = { λ m r. (calls : List Told) × (next : K) × GoesOnAll T.refuses T.serves T.Stream.yields T.Stream.can_poll K.keeps F.tells m.caching m.repository.now m.folders (option_map (λ names. map S.text names.now) m.subset) m.root_chain (F.calls m.files.now) calls next r };
+    ghost gives = { λ m r. (calls : List Told) × (next : K)
+        × GoesOnAll T.refuses T.serves T.Stream.yields T.Stream.can_poll K.keeps F.tells m.caching
+        m.repository.now m.folders (option_map (λ names. map S.text names.now) m.subset)
+        m.root_chain (F.calls m.files.now) calls next r };
 
     fn poll(&mut self, cx: &mut Context<'_>) -> Poll<Result<(), Error>>
         requires { IfSome self.old.caching (λ c. IfSome c.work (IsPollable T.Stream.can_poll)) }
-        ensures value { IfReady result (λ r. (calls : List Told) × (next : K) × GoesOnAll T.refuses T.serves T.Stream.yields T.Stream.can_poll K.keeps F.tells self.old.caching self.old.repository.now self.old.folders (option_map (λ names. map S.text names.now) self.old.subset) self.old.root_chain (F.calls self.old.files.now) calls next r) }
-        ensures caches { IfReady result (GoesOnAll T.refuses T.serves T.Stream.yields T.Stream.can_poll K.keeps F.tells self.old.caching self.old.repository.now self.old.folders (option_map (λ names. map S.text names.now) self.old.subset) self.old.root_chain (F.calls self.old.files.now) (F.calls self.new.files.now) (keeper_of self.new.repository.now)) }
-        ensures again { OnPending result (IfSome self.new.caching (λ c. IfSome c.work (IsPollable T.Stream.can_poll))) }
+        ensures value { IfReady result
+            (λ r. (calls : List Told) × (next : K)
+            × GoesOnAll T.refuses T.serves T.Stream.yields T.Stream.can_poll K.keeps F.tells
+            self.old.caching self.old.repository.now self.old.folders
+            (option_map (λ names. map S.text names.now) self.old.subset) self.old.root_chain
+            (F.calls self.old.files.now) calls next r) }
+        ensures caches { IfReady result
+            (GoesOnAll T.refuses T.serves T.Stream.yields T.Stream.can_poll K.keeps F.tells
+            self.old.caching self.old.repository.now self.old.folders
+            (option_map (λ names. map S.text names.now) self.old.subset) self.old.root_chain
+            (F.calls self.old.files.now) (F.calls self.new.files.now)
+            (keeper_of self.new.repository.now)) }
+        ensures again { OnPending result
+            (IfSome self.new.caching (λ c. IfSome c.work (IsPollable T.Stream.can_poll))) }
         ensures same { OnPending result ((r : _)
-            → ((calls : List Told) × (next : K) × GoesOnAll T.refuses T.serves T.Stream.yields T.Stream.can_poll K.keeps F.tells self.new.caching self.new.repository.now self.new.folders (option_map (λ names. map S.text names.now) self.new.subset) self.new.root_chain (F.calls self.new.files.now) calls next r)
-            → ((calls : List Told) × (next : K) × GoesOnAll T.refuses T.serves T.Stream.yields T.Stream.can_poll K.keeps F.tells self.old.caching self.old.repository.now self.old.folders (option_map (λ names. map S.text names.now) self.old.subset) self.old.root_chain (F.calls self.old.files.now) calls next r)) }
-        ensures registered { OnPending result (Covers cx.new (λ n. IsSomeAnd self.new.caching (λ c. IsSomeAnd c.work (λ w. Needs T.Stream.needs w n)))) }
+            → ((calls : List Told) × (next : K)
+            × GoesOnAll T.refuses T.serves T.Stream.yields T.Stream.can_poll K.keeps F.tells
+            self.new.caching self.new.repository.now self.new.folders
+            (option_map (λ names. map S.text names.now) self.new.subset) self.new.root_chain
+            (F.calls self.new.files.now) calls next r)
+            → ((calls : List Told) × (next : K)
+            × GoesOnAll T.refuses T.serves T.Stream.yields T.Stream.can_poll K.keeps F.tells
+            self.old.caching self.old.repository.now self.old.folders
+            (option_map (λ names. map S.text names.now) self.old.subset) self.old.root_chain
+            (F.calls self.old.files.now) calls next r)) }
+        ensures registered { OnPending result
+            (Covers cx.new (λ n. IsSomeAnd self.new.caching
+            (λ c. IsSomeAnd c.work (λ w. Needs T.Stream.needs w n)))) }
         ensures kept { Keeps cx.old cx.new }
     {
         match &mut self.caching {
@@ -433,20 +484,40 @@ impl<T: Transport, K: Keeper, C: Clock + Drop, F: Files> Future for CacheMetadat
 
     ghost can_poll = { λ m. IfSome m.caching (λ c. IfSome c.work (IsPollable T.Stream.can_poll)) };
 
-    ghost needs = { λ m n. IsSomeAnd m.caching (λ c. IsSomeAnd c.work (λ w. Needs T.Stream.needs w n)) };
+    ghost needs = { λ m n. IsSomeAnd m.caching
+        (λ c. IsSomeAnd c.work (λ w. Needs T.Stream.needs w n)) };
 
     // Some calls and some keeper's steps lead to what it may give.
-    ghost gives = { λ m r. (calls : List Told) × (next : K) × GoesOnMetadata T.refuses T.serves T.Stream.yields T.Stream.can_poll K.keeps F.tells m.caching m.repository.now m.folders m.root_chain (F.calls m.files.now) calls next r };
+    ghost gives = { λ m r. (calls : List Told) × (next : K)
+        × GoesOnMetadata T.refuses T.serves T.Stream.yields T.Stream.can_poll K.keeps F.tells
+        m.caching m.repository.now m.folders m.root_chain (F.calls m.files.now) calls next r };
 
     fn poll(&mut self, cx: &mut Context<'_>) -> Poll<Result<(), Error>>
         requires { IfSome self.old.caching (λ c. IfSome c.work (IsPollable T.Stream.can_poll)) }
-        ensures value { IfReady result (λ r. (calls : List Told) × (next : K) × GoesOnMetadata T.refuses T.serves T.Stream.yields T.Stream.can_poll K.keeps F.tells self.old.caching self.old.repository.now self.old.folders self.old.root_chain (F.calls self.old.files.now) calls next r) }
-        ensures caches { IfReady result (GoesOnMetadata T.refuses T.serves T.Stream.yields T.Stream.can_poll K.keeps F.tells self.old.caching self.old.repository.now self.old.folders self.old.root_chain (F.calls self.old.files.now) (F.calls self.new.files.now) (keeper_of self.new.repository.now)) }
-        ensures again { OnPending result (IfSome self.new.caching (λ c. IfSome c.work (IsPollable T.Stream.can_poll))) }
+        ensures value { IfReady result
+            (λ r. (calls : List Told) × (next : K)
+            × GoesOnMetadata T.refuses T.serves T.Stream.yields T.Stream.can_poll K.keeps F.tells
+            self.old.caching self.old.repository.now self.old.folders self.old.root_chain
+            (F.calls self.old.files.now) calls next r) }
+        ensures caches { IfReady result
+            (GoesOnMetadata T.refuses T.serves T.Stream.yields T.Stream.can_poll K.keeps F.tells
+            self.old.caching self.old.repository.now self.old.folders self.old.root_chain
+            (F.calls self.old.files.now) (F.calls self.new.files.now)
+            (keeper_of self.new.repository.now)) }
+        ensures again { OnPending result
+            (IfSome self.new.caching (λ c. IfSome c.work (IsPollable T.Stream.can_poll))) }
         ensures same { OnPending result ((r : _)
-            → ((calls : List Told) × (next : K) × GoesOnMetadata T.refuses T.serves T.Stream.yields T.Stream.can_poll K.keeps F.tells self.new.caching self.new.repository.now self.new.folders self.new.root_chain (F.calls self.new.files.now) calls next r)
-            → ((calls : List Told) × (next : K) × GoesOnMetadata T.refuses T.serves T.Stream.yields T.Stream.can_poll K.keeps F.tells self.old.caching self.old.repository.now self.old.folders self.old.root_chain (F.calls self.old.files.now) calls next r)) }
-        ensures registered { OnPending result (Covers cx.new (λ n. IsSomeAnd self.new.caching (λ c. IsSomeAnd c.work (λ w. Needs T.Stream.needs w n)))) }
+            → ((calls : List Told) × (next : K)
+            × GoesOnMetadata T.refuses T.serves T.Stream.yields T.Stream.can_poll K.keeps F.tells
+            self.new.caching self.new.repository.now self.new.folders self.new.root_chain
+            (F.calls self.new.files.now) calls next r)
+            → ((calls : List Told) × (next : K)
+            × GoesOnMetadata T.refuses T.serves T.Stream.yields T.Stream.can_poll K.keeps F.tells
+            self.old.caching self.old.repository.now self.old.folders self.old.root_chain
+            (F.calls self.old.files.now) calls next r)) }
+        ensures registered { OnPending result
+            (Covers cx.new (λ n. IsSomeAnd self.new.caching
+            (λ c. IsSomeAnd c.work (λ w. Needs T.Stream.needs w n)))) }
         ensures kept { Keeps cx.old cx.new }
     {
         match &mut self.caching {

@@ -31,8 +31,11 @@ where
     C: Clock + Drop,
     V: Verify + Drop,
     requires { CanPoll T.Stream.can_poll (part.fetch_of load) }
-    ensures trusted { (from : _) → IsBegun from load → IfOk result (λ r. IfOk r (λ repository. (left : _) × Vouches T.refuses T.serves K.keeps T.Stream.yields
-        (V.verifies (verifier_of from)) (part.base_of load) (transport_of from) (first_core (settings_of from)) (loader.keeper_of from)
+    ensures trusted { (from : _) → IsBegun from load
+        → IfOk result (λ r. IfOk r
+        (λ repository. (left : _) × Vouches T.refuses T.serves K.keeps T.Stream.yields
+        (V.verifies (verifier_of from)) (part.base_of load) (transport_of from)
+        (first_core (settings_of from)) (loader.keeper_of from)
         left (keeper_of repository) (documents_of repository))) }
 {
     let mut load = load;

@@ -44,7 +44,8 @@ pub(crate) fn make_folder<F: Files>(alloc: Global, files: &mut F, path: &str) ->
 
 // Writes a file of metadata.
 fn write<F: Files>(files: &mut F, path: String, bytes: &[u8]) -> Result<(), Error>
-    ensures { IsWritten F.tells (string_bytes path) bytes.now (F.calls files.old) (F.calls files.new) result }
+    ensures { IsWritten F.tells (string_bytes path) bytes.now (F.calls files.old)
+        (F.calls files.new) result }
 {
     match write_file(files, path.as_str(), bytes) {
         Ok(()) => Ok(()),
@@ -59,7 +60,8 @@ pub(crate) fn write_fetched<F: Files>(
     path: String,
     fetched: Result<Vec<u8>, TransportError>,
 ) -> Result<(), Error>
-    ensures { WritesFetched F.tells (string_bytes path) fetched (F.calls files.old) (F.calls files.new) result }
+    ensures { WritesFetched F.tells (string_bytes path) fetched (F.calls files.old)
+        (F.calls files.new) result }
 {
     match fetched {
         Ok(bytes) => write(files, path, bytes.as_slice()),
@@ -81,7 +83,8 @@ fn served_name(
     version: NonZeroU64,
     name: &str,
 ) -> Result<String, AllocError>
-    ensures { IfOk result (λ file. string_bytes file ≡ file_name (is_consistent (loaded_doc loaded.now)) (non_zero_u64_get version) name.now) }
+    ensures { IfOk result (λ file. string_bytes file
+        ≡ file_name (is_consistent (loaded_doc loaded.now)) (non_zero_u64_get version) name.now) }
 {
     file_name(
         alloc,
@@ -93,15 +96,19 @@ fn served_name(
 
 // What a document lists for a file.
 fn entry_of<'a>(meta: &'a BTreeMap<String, Metafile>, file: &str) -> Option<&'a Metafile>
-    ensures listed { IfSome result (λ m. metafile_in (metafiles_doc meta.now.entries) file.now ≡ Some (metafile_doc m.now)) }
-    ensures unlisted { IsNone result → metafile_in (metafiles_doc meta.now.entries) file.now ≡ None }
+    ensures listed { IfSome result
+        (λ m. metafile_in (metafiles_doc meta.now.entries) file.now ≡ Some (metafile_doc m.now)) }
+    ensures unlisted { IsNone result
+        → metafile_in (metafiles_doc meta.now.entries) file.now ≡ None }
 {
     meta.get(file)
 }
 
 // The snapshot, as the timestamp's entry describes it, but for its digest.
 fn snapshot_again(alloc: Global, loaded: &Loaded, limits: &Limits) -> Result<Request, Error>
-    ensures asked { IfOk result (λ q. file_again (loaded_doc loaded.now) limits.now served.Snapshot ≡ Some (request_doc q)) }
+    ensures asked { IfOk result
+        (λ q. file_again (loaded_doc loaded.now) limits.now served.Snapshot
+        ≡ Some (request_doc q)) }
     ensures none { IfErr result (IsUnlisted (loaded_doc loaded.now) limits.now served.Snapshot) }
 {
     let version = loaded.snapshot().signed.version;
@@ -121,7 +128,8 @@ fn snapshot_again(alloc: Global, loaded: &Loaded, limits: &Limits) -> Result<Req
 
 // The targets, of at most the length that is taken where none is stated.
 fn targets_again(alloc: Global, loaded: &Loaded, limits: &Limits) -> Result<Request, AllocError>
-    ensures { IfOk result (λ q. request_doc q ≡ spec.targets_again (loaded_doc loaded.now) limits.now) }
+    ensures { IfOk result (λ q. request_doc q
+        ≡ spec.targets_again (loaded_doc loaded.now) limits.now) }
 {
     let version = loaded.targets().signed.version;
     Ok(Request {
@@ -163,7 +171,8 @@ pub(crate) fn file_again(
     limits: &Limits,
     served: Served,
 ) -> Result<Request, Error>
-    ensures asked { IfOk result (λ q. spec.file_again (loaded_doc loaded.now) limits.now served ≡ Some (request_doc q)) }
+    ensures asked { IfOk result
+        (λ q. spec.file_again (loaded_doc loaded.now) limits.now served ≡ Some (request_doc q)) }
     ensures none { IfErr result (IsUnlisted (loaded_doc loaded.now) limits.now served) }
 {
     match served {
@@ -185,7 +194,8 @@ fn plain_file(alloc: Global, role: &str) -> Result<String, AllocError>
 
 // The name of the file of a delegated role; none under consistent snapshots where the snapshot doesn't list it.
 fn role_file(alloc: Global, loaded: &Loaded, role: &str) -> Result<Option<String>, AllocError>
-    ensures { IfOk result (λ file. option_map string_bytes file ≡ spec.role_file (loaded_doc loaded.now) role.now) }
+    ensures { IfOk result (λ file. option_map string_bytes file
+        ≡ spec.role_file (loaded_doc loaded.now) role.now) }
 {
     let file = plain_file(alloc, role)?;
     if !loaded.root().signed.consistent_snapshot {
@@ -209,7 +219,8 @@ fn write_document<F: Files>(
     document: &Received,
     folder: &str,
 ) -> Result<(), Error>
-    ensures { WritesDocument F.tells (loaded_doc loaded.now) folder.now (received_doc document.now) (F.calls files.old) (F.calls files.new) result }
+    ensures { WritesDocument F.tells (loaded_doc loaded.now) folder.now (received_doc document.now)
+        (F.calls files.old) (F.calls files.new) result }
 {
     match role_file(alloc, loaded, document.role.as_str())? {
         Some(name) => {
@@ -228,7 +239,8 @@ pub(crate) fn write_role<F: Files>(
     place: usize,
     folder: &str,
 ) -> Result<(), Error>
-    ensures { WritesRole F.tells (loaded_doc loaded.now) folder.now place (F.calls files.old) (F.calls files.new) result }
+    ensures { WritesRole F.tells (loaded_doc loaded.now) folder.now place (F.calls files.old)
+        (F.calls files.new) result }
 {
     match loaded.received().get(place) {
         Some(document) => write_document(alloc, files, loaded, document, folder),

@@ -90,7 +90,8 @@ impl Plan {
 
     // The next root.
     fn next_root(&mut self) -> Option<Turn>
-        ensures next { IfSome result (λ turn. roots_down (roots_in self.old) ≡ turn ∷ roots_down (roots_in self.new)) }
+        ensures next { IfSome result
+            (λ turn. roots_down (roots_in self.old) ≡ turn ∷ roots_down (roots_in self.new)) }
         ensures end { IsNone result → roots_in self.old ≡ 0 }
         ensures turns { turns_in self.new ≡ turns_in self.old }
     {
@@ -104,7 +105,8 @@ impl Plan {
 
     // Adds the targets that these texts name.
     fn add_named<S: AsStr>(&mut self, alloc: Global, names: &[S]) -> Result<(), AllocError>
-        ensures turns { OnOk result (AddsNamed (map S.text names.now) (turns_in self.old) (turns_in self.new)) }
+        ensures turns { OnOk result
+            (AddsNamed (map S.text names.now) (turns_in self.old) (turns_in self.new)) }
         ensures roots { roots_in self.new ≡ roots_in self.old }
     {
         for name in names {
@@ -116,7 +118,8 @@ impl Plan {
 
     // Adds the targets of these names.
     fn add_all<V>(&mut self, listed: &BTreeMap<TargetName, V>) -> Result<(), AllocError>
-        ensures turns { OnOk result (turns_in self.new ≡ turns_in self.old ++ map turn.Target (keys listed.now)) }
+        ensures turns { OnOk result
+            (turns_in self.new ≡ turns_in self.old ++ map turn.Target (keys listed.now)) }
         ensures roots { roots_in self.new ≡ roots_in self.old }
     {
         for name in listed.keys() {
@@ -127,7 +130,8 @@ impl Plan {
 
     // Adds all targets that are listed.
     fn add_listed(&mut self, alloc: Global, targets: &Targets) -> Result<(), AllocError>
-        ensures turns { OnOk result (turns_in self.new ≡ turns_in self.old ++ listed_turns (tree_doc targets.now)) }
+        ensures turns { OnOk result
+            (turns_in self.new ≡ turns_in self.old ++ listed_turns (tree_doc targets.now)) }
         ensures roots { roots_in self.new ≡ roots_in self.old }
     {
         let listed = targets.targets_map(alloc)?;
@@ -142,7 +146,10 @@ impl Plan {
         targets: &Targets,
         subset: Option<&[S]>,
     ) -> Result<(), AllocError>
-        ensures turns { OnOk result (AddsTargets (tree_doc targets.now) (option_map (λ names. map S.text names.now) subset.entry) (turns_in self.old) (turns_in self.new)) }
+        ensures turns { OnOk result
+            (AddsTargets (tree_doc targets.now)
+            (option_map (λ names. map S.text names.now) subset.entry)
+            (turns_in self.old) (turns_in self.new)) }
         ensures roots { roots_in self.new ≡ roots_in self.old }
     {
         match subset {
@@ -153,7 +160,9 @@ impl Plan {
 
     // Adds the document of a role, if it was received.
     fn add_role(&mut self, places: &BTreeMap<&str, usize>, role: &str) -> Result<(), AllocError>
-        ensures turns { OnOk result (turns_in self.new ≡ turns_in self.old ++ with_role (get_by (λ k. slice_cmp nat_cmp role.now k.now) places.now) []) }
+        ensures turns { OnOk result
+            (turns_in self.new ≡ turns_in self.old ++ with_role
+            (get_by (λ k. slice_cmp nat_cmp role.now k.now) places.now) []) }
         ensures roots { roots_in self.new ≡ roots_in self.old }
     {
         match places.get(role) {
@@ -169,7 +178,9 @@ impl Plan {
         received: &[Received],
         names: &[&str],
     ) -> Result<(), AllocError>
-        ensures turns { OnOk result (turns_in self.new ≡ turns_in self.old ++ role_turns (received_docs received.now) (map (λ n. n.now) names.now)) }
+        ensures turns { OnOk result
+            (turns_in self.new ≡ turns_in self.old ++ role_turns (received_docs received.now)
+            (map (λ n. n.now) names.now)) }
         ensures roots { roots_in self.new ≡ roots_in self.old }
     {
         let places = places(alloc, received)?;
@@ -191,7 +202,8 @@ impl Plan {
 
     /// Adds the metadata.
     pub(crate) fn add_metadata(&mut self, alloc: Global, loaded: &Loaded) -> Result<(), AllocError>
-        ensures turns { OnOk result (turns_in self.new ≡ turns_in self.old ++ metadata_turns (loaded_doc loaded.now)) }
+        ensures turns { OnOk result
+            (turns_in self.new ≡ turns_in self.old ++ metadata_turns (loaded_doc loaded.now)) }
         ensures roots { roots_in self.new ≡ roots_in self.old }
     {
         self.add_files()?;
@@ -202,7 +214,9 @@ impl Plan {
 
 // Where the document of each role stands among those that were received; of two of one role the later counts.
 fn places(alloc: Global, received: &[Received]) -> Result<BTreeMap<&str, usize>, AllocError>
-    ensures { IfOk result (λ m. (name : _) → get_by (λ k. slice_cmp nat_cmp name k.now) m ≡ last_place (received_docs received.now) name) }
+    ensures { IfOk result (λ m. (name : _)
+        → get_by (λ k. slice_cmp nat_cmp name k.now) m
+        ≡ last_place (received_docs received.now) name) }
 {
     let mut places = BTreeMap::new(alloc);
     for (place, document) in received.iter().enumerate() {

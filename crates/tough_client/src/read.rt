@@ -62,8 +62,11 @@ impl<T: Transport, K: Keeper, C: Clock + Drop> Repository<T, K, C> {
 
     // Has the keeper note the time, and puts its receipt by.
     fn note_time(&mut self) -> Result<Instant, Error>
-        ensures noted { IfOk result (λ now. HasNoted K.keeps now.nanosecond (keeper_of self.old) (keeper_of self.new)) }
-        ensures refused { IfErr result (λ e. IsRefused K.keeps (keeper_of self.old) e (keeper_of self.new) ⊎ IsUnasked K.keeps (keeper_of self.old) e (keeper_of self.new)) }
+        ensures noted { IfOk result
+            (λ now. HasNoted K.keeps now.nanosecond (keeper_of self.old) (keeper_of self.new)) }
+        ensures refused { IfErr result
+            (λ e. IsRefused K.keeps (keeper_of self.old) e (keeper_of self.new)
+            ⊎ IsUnasked K.keeps (keeper_of self.old) e (keeper_of self.new)) }
         ensures kept { IsKept self.old self.new }
     {
         let now = self.clock.now();
@@ -84,8 +87,12 @@ impl<T: Transport, K: Keeper, C: Clock + Drop> Repository<T, K, C> {
 
     // Notes the time, which must be before any of the documents expires, where that counts.
     fn be_in_time(&mut self) -> Result<(), Error>
-        ensures timely { OnOk result (InTime K.keeps (enforced_of self.old) (documents_of self.old) (keeper_of self.old) (keeper_of self.new)) }
-        ensures late { IfErr result (λ e. NotInTime K.keeps (enforced_of self.old) (documents_of self.old) (keeper_of self.old) e (keeper_of self.new)) }
+        ensures timely { OnOk result
+            (InTime K.keeps (enforced_of self.old) (documents_of self.old)
+            (keeper_of self.old) (keeper_of self.new)) }
+        ensures late { IfErr result
+            (λ e. NotInTime K.keeps (enforced_of self.old) (documents_of self.old)
+            (keeper_of self.old) e (keeper_of self.new)) }
         ensures kept { IsKept self.old self.new }
     {
         match self.enforcement {
@@ -106,7 +113,9 @@ impl<T: Transport, K: Keeper, C: Clock + Drop> Repository<T, K, C> {
 
     // What is listed under the name.
     pub(crate) fn find(&self, name: &TargetName) -> Result<Option<&Target>, Error>
-        ensures found { IfOk result (λ o. option_map (λ t. target_doc t.now) o ≡ target_at (documents_of self.now) name.now) }
+        ensures found { IfOk result
+            (λ o. option_map (λ t. target_doc t.now) o
+            ≡ target_at (documents_of self.now) name.now) }
         ensures memory { IfErr result (λ e. e ≡ Error.Memory) }
     {
         match self
@@ -123,8 +132,14 @@ impl<T: Transport, K: Keeper, C: Clock + Drop> Repository<T, K, C> {
 
     // Starts to fetch a target that is listed under the name.
     fn fetch(&self, name: &TargetName, target: &Target) -> Result<TargetStream<T::Stream>, Error>
-        ensures begun { IfOk result (IsStreamOf T.refuses T.serves T.Stream.yields T.Stream.can_poll (documents_of self.now) (transport_of self.now) (targets_base_of self.now) name.now (target_doc target.now)) }
-        ensures refused { IfErr result (λ e. (e ≡ Error.Memory) ⊎ IsUnfetched T.refuses T.serves T.Stream.yields T.Stream.can_poll (documents_of self.now) (transport_of self.now) (targets_base_of self.now) name.now (target_doc target.now) e) }
+        ensures begun { IfOk result
+            (IsStreamOf T.refuses T.serves T.Stream.yields T.Stream.can_poll (documents_of self.now)
+            (transport_of self.now) (targets_base_of self.now) name.now (target_doc target.now)) }
+        ensures refused { IfErr result
+            (λ e. (e ≡ Error.Memory)
+            ⊎ IsUnfetched T.refuses T.serves T.Stream.yields T.Stream.can_poll
+            (documents_of self.now) (transport_of self.now) (targets_base_of self.now) name.now
+            (target_doc target.now) e) }
     {
         let digest = target.hashes.sha256.as_slice();
         let prefixed = self.loaded.root().signed.consistent_snapshot;
@@ -151,7 +166,8 @@ impl<T: Transport, K: Keeper, C: Clock + Drop> Repository<T, K, C> {
         &mut self,
         name: &TargetName,
     ) -> Result<Option<TargetStream<T::Stream>>, Error>
-        ensures reads { Reads T.refuses T.serves T.Stream.yields T.Stream.can_poll K.keeps self.old name.now result (keeper_of self.new) }
+        ensures reads { Reads T.refuses T.serves T.Stream.yields T.Stream.can_poll K.keeps self.old
+            name.now result (keeper_of self.new) }
         ensures kept { IsKept self.old self.new }
     {
         if let Err(error) = self.be_in_time() {
@@ -195,15 +211,27 @@ pub struct ReadTarget<'a, T, K, C> {
 impl<T: Transport, K: Keeper, C: Clock + Drop> Future for ReadTarget<'_, T, K, C> {
     type Output = Result<Option<TargetStream<T::Stream>>, Error>;
 
-    ghost gives = { λ m r. (next : K) × Reads T.refuses T.serves T.Stream.yields T.Stream.can_poll K.keeps m.repository.now m.name.now r next };
+    ghost gives = { λ m r. (next : K)
+        × Reads T.refuses T.serves T.Stream.yields T.Stream.can_poll K.keeps
+        m.repository.now m.name.now r next };
 
     fn poll(&mut self, _cx: &mut Context<'_>) -> Poll<Self::Output>
-        ensures value { IfReady result (λ r. (next : K) × Reads T.refuses T.serves T.Stream.yields T.Stream.can_poll K.keeps (repository_in self.old).now (name_in self.old) r next) }
-        ensures reads { IfReady result (λ r. Reads T.refuses T.serves T.Stream.yields T.Stream.can_poll K.keeps (repository_in self.old).now (name_in self.old) r (keeper_of (repository_in self.new).now)) }
+        ensures value { IfReady result
+            (λ r. (next : K)
+            × Reads T.refuses T.serves T.Stream.yields T.Stream.can_poll K.keeps
+            (repository_in self.old).now (name_in self.old) r next) }
+        ensures reads { IfReady result
+            (λ r. Reads T.refuses T.serves T.Stream.yields T.Stream.can_poll K.keeps
+            (repository_in self.old).now (name_in self.old) r
+            (keeper_of (repository_in self.new).now)) }
         ensures again { OnPending result ⊤ }
         ensures same { OnPending result ((x : _)
-            → ((next : K) × Reads T.refuses T.serves T.Stream.yields T.Stream.can_poll K.keeps (repository_in self.new).now (name_in self.new) x next)
-            → ((next : K) × Reads T.refuses T.serves T.Stream.yields T.Stream.can_poll K.keeps (repository_in self.old).now (name_in self.old) x next)) }
+            → ((next : K)
+            × Reads T.refuses T.serves T.Stream.yields T.Stream.can_poll K.keeps
+            (repository_in self.new).now (name_in self.new) x next)
+            → ((next : K)
+            × Reads T.refuses T.serves T.Stream.yields T.Stream.can_poll K.keeps
+            (repository_in self.old).now (name_in self.old) x next)) }
         ensures registered { OnPending result (Covers _cx.new (λ _. ⊥)) }
         ensures kept { Keeps _cx.old _cx.new }
         ensures lent { (repository_in self.new).ghost_name ≡ (repository_in self.old).ghost_name }

@@ -114,14 +114,16 @@ impl<T, K, C> Repository<T, K, C> {
 
     /// What the documents list: the targets' own before all, then those of the delegated roles in preorder.
     pub fn all_targets(&self) -> Result<Vec<(&TargetName, &Target)>, AllocError>
-        ensures { IfOk result (λ v. listed_docs v.items ≡ all_listed (tree_doc (targets_of (loaded_of self.now)).signed)) }
+        ensures { IfOk result (λ v. listed_docs v.items
+            ≡ all_listed (tree_doc (targets_of (loaded_of self.now)).signed)) }
     {
         self.loaded.targets().signed.targets_iter(self.alloc)
     }
 
     /// The delegated role of the name, as `Targets::delegated_role` answers it.
     pub fn delegated_role(&self, name: &str) -> Result<Option<&DelegatedRole>, AllocError>
-        ensures { IfOk result (λ o. option_map (λ r. role_tree r.now) o ≡ role_of (sought name.now (tree_doc (targets_of (loaded_of self.now)).signed))) }
+        ensures { IfOk result (λ o. option_map (λ r. role_tree r.now) o
+            ≡ role_of (sought name.now (tree_doc (targets_of (loaded_of self.now)).signed))) }
     {
         match self
             .loaded

@@ -52,8 +52,10 @@ impl<T: Transport, K: Keeper, C: Clock + Drop> Repository<T, K, C> {
 
     // The name of the file that the target is saved as.
     fn saved_name(&self, name: &TargetName, prefix: Prefix) -> Result<String, Error>
-        ensures named { IfOk result (λ file. IsSavedAs (documents_of self.now) name.now prefix (string_bytes file)) }
-        ensures unlisted { IfErr result (λ e. (e ≡ Error.Memory) ⊎ IsUnlisted (documents_of self.now) name.now prefix e) }
+        ensures named { IfOk result
+            (λ file. IsSavedAs (documents_of self.now) name.now prefix (string_bytes file)) }
+        ensures unlisted { IfErr result
+            (λ e. (e ≡ Error.Memory) ⊎ IsUnlisted (documents_of self.now) name.now prefix e) }
     {
         match prefix {
             Prefix::None => Ok(String::from_str(self.alloc, name.resolved())?),
@@ -83,7 +85,8 @@ impl<T: Transport, K: Keeper, C: Clock + Drop> Repository<T, K, C> {
 
     // The stream of a target that is listed.
     fn open_listed(&mut self, name: &TargetName) -> Result<TargetStream<T::Stream>, Error>
-        ensures opened { Opened T.refuses T.serves T.Stream.yields T.Stream.can_poll K.keeps self.old name.now result (keeper_of self.new) }
+        ensures opened { Opened T.refuses T.serves T.Stream.yields T.Stream.can_poll K.keeps
+            self.old name.now result (keeper_of self.new) }
         ensures kept { IsKept self.old self.new }
     {
         match self.open_target(name) {
@@ -104,7 +107,9 @@ impl<T: Transport, K: Keeper, C: Clock + Drop> Repository<T, K, C> {
         folder: &str,
         place: Place,
     ) -> Result<Saving<TargetStream<T::Stream>>, Error>
-        ensures readies { Readies T.refuses T.serves T.Stream.yields T.Stream.can_poll K.keeps F.tells self.old name.now folder.now place (F.calls files.old) (F.calls files.new) (keeper_of self.new) result }
+        ensures readies { Readies T.refuses T.serves T.Stream.yields T.Stream.can_poll K.keeps
+            F.tells self.old name.now folder.now place (F.calls files.old) (F.calls files.new)
+            (keeper_of self.new) result }
         ensures kept { IsKept self.old self.new }
     {
         let stream = match self.open_listed(name) {
@@ -125,7 +130,9 @@ impl<T: Transport, K: Keeper, C: Clock + Drop> Repository<T, K, C> {
         outdir: &str,
         prefix: Prefix,
     ) -> Result<Saving<TargetStream<T::Stream>>, Error>
-        ensures starts { Starts T.refuses T.serves T.Stream.yields T.Stream.can_poll K.keeps F.tells self.old name.now outdir.now prefix (F.calls files.old) (F.calls files.new) (keeper_of self.new) result }
+        ensures starts { Starts T.refuses T.serves T.Stream.yields T.Stream.can_poll K.keeps F.tells
+            self.old name.now outdir.now prefix (F.calls files.old) (F.calls files.new)
+            (keeper_of self.new) result }
         ensures kept { IsKept self.old self.new }
     {
         let folder = match open_folder(self.alloc, files, outdir) {
@@ -154,7 +161,8 @@ impl<T: Transport, K: Keeper, C: Clock + Drop> Repository<T, K, C> {
     ) -> SaveTarget<'a, T, K, C, F>
         ensures lent { (saved_from result).ghost_name ≡ self.entry.ghost_name }
         ensures files_lent { (files_in result).ghost_name ≡ files.entry.ghost_name }
-        ensures begins { ((saved_from result).now ≡ self.old) × ((files_in result).now ≡ files.old) }
+        ensures begins { ((saved_from result).now ≡ self.old)
+            × ((files_in result).now ≡ files.old) }
         ensures named { (saved_name_in result ≡ name.now) × (prefix_in result ≡ prefix) }
         ensures folder { (outdir_in result ≡ outdir.now) × (saving_in result ≡ None) }
     {
@@ -192,12 +200,19 @@ where
     F: Files,
     E: From<SaveError>,
     requires { S.can_poll (stream_of saving.old) }
-    ensures done { IfReady result (ComesOut E.from_gives F.tells (S.yields (stream_of saving.old)) (temp_of saving.old) (target_of saving.old) (F.calls files.old) (F.calls files.new)) }
+    ensures done { IfReady result
+        (ComesOut E.from_gives F.tells (S.yields (stream_of saving.old)) (temp_of saving.old)
+        (target_of saving.old) (F.calls files.old) (F.calls files.new)) }
     ensures follows { F.tells ≡ true → OnPending result ((r : _) (calls : _)
-        → Saves (S.yields (stream_of saving.new)) (temp_of saving.old) (target_of saving.old) r (F.calls files.new) calls
-        → Saves (S.yields (stream_of saving.old)) (temp_of saving.old) (target_of saving.old) r (F.calls files.old) calls) }
-    ensures same { OnPending result ((r : _) → Tells (S.yields (stream_of saving.new)) r → Tells (S.yields (stream_of saving.old)) r) }
-    ensures paths { (temp_of saving.new ≡ temp_of saving.old) × (target_of saving.new ≡ target_of saving.old) }
+        → Saves (S.yields (stream_of saving.new)) (temp_of saving.old) (target_of saving.old) r
+        (F.calls files.new) calls
+        → Saves (S.yields (stream_of saving.old)) (temp_of saving.old) (target_of saving.old) r
+        (F.calls files.old) calls) }
+    ensures same { OnPending result
+        ((r : _) → Tells (S.yields (stream_of saving.new)) r
+        → Tells (S.yields (stream_of saving.old)) r) }
+    ensures paths { (temp_of saving.new ≡ temp_of saving.old)
+        × (target_of saving.new ≡ target_of saving.old) }
     ensures again { OnPending result (S.can_poll (stream_of saving.new)) }
     ensures registered { OnPending result (Covers cx.new (S.needs (stream_of saving.new))) }
     ensures kept { Keeps cx.old cx.new }
@@ -232,10 +247,15 @@ pub(crate) fn go_on<S: Stream<Item = Result<Bytes, TransportError>>, F: Files>(
     cx: &mut Context<'_>,
 ) -> Poll<Result<(), Error>>
     requires { CanGoOn S.can_poll saving }
-    ensures done { IfReady result (Finishes S.yields F.tells name.now saving (F.calls files.old) (F.calls files.new)) }
-    ensures waits { OnPending result (IsSomeAnd waiting.new (Continues S.yields F.tells name.now saving (F.calls files.old) (F.calls files.new))) }
+    ensures done { IfReady result
+        (Finishes S.yields F.tells name.now saving (F.calls files.old) (F.calls files.new)) }
+    ensures waits { OnPending result
+        (IsSomeAnd waiting.new (Continues S.yields F.tells name.now saving
+        (F.calls files.old) (F.calls files.new))) }
     ensures again { OnPending result (IsSomeAnd waiting.new (CanGoOn S.can_poll)) }
-    ensures registered { OnPending result (Covers cx.new (λ n. IsSomeAnd waiting.new (λ s. S.needs (limited (checked (stream_of s))) n))) }
+    ensures registered { OnPending result
+        (Covers cx.new (λ n. IsSomeAnd waiting.new
+        (λ s. S.needs (limited (checked (stream_of s))) n))) }
     ensures kept { Keeps cx.old cx.new }
 {
     let mut saving = saving;
@@ -255,20 +275,39 @@ impl<T: Transport, K: Keeper, C: Clock + Drop, F: Files> Future for SaveTarget<'
 
     ghost can_poll = { λ m. IfSome m.saving (CanGoOn T.Stream.can_poll) };
 
-    ghost needs = { λ m n. IsSomeAnd m.saving (λ s. T.Stream.needs (limited (checked (stream_of s))) n) };
+    ghost needs = { λ m n. IsSomeAnd m.saving
+        (λ s. T.Stream.needs (limited (checked (stream_of s))) n) };
 
     // Some calls and some keeper's steps lead to what it may give.
-    ghost gives = { λ m r. (calls : List Told) × (next : K) × GoesOnSaving T.refuses T.serves T.Stream.yields T.Stream.can_poll K.keeps F.tells m.saving m.repository.now m.name.now m.outdir.now m.prefix (F.calls m.files.now) calls next r };
+    ghost gives = { λ m r. (calls : List Told) × (next : K)
+        × GoesOnSaving T.refuses T.serves T.Stream.yields T.Stream.can_poll K.keeps F.tells m.saving
+        m.repository.now m.name.now m.outdir.now m.prefix (F.calls m.files.now) calls next r };
 
     fn poll(&mut self, cx: &mut Context<'_>) -> Poll<Result<(), Error>>
         requires { IfSome self.old.saving (CanGoOn T.Stream.can_poll) }
-        ensures value { IfReady result (λ r. (calls : List Told) × (next : K) × GoesOnSaving T.refuses T.serves T.Stream.yields T.Stream.can_poll K.keeps F.tells self.old.saving self.old.repository.now self.old.name.now self.old.outdir.now self.old.prefix (F.calls self.old.files.now) calls next r) }
-        ensures saves { IfReady result (GoesOnSaving T.refuses T.serves T.Stream.yields T.Stream.can_poll K.keeps F.tells self.old.saving self.old.repository.now self.old.name.now self.old.outdir.now self.old.prefix (F.calls self.old.files.now) (F.calls self.new.files.now) (keeper_of self.new.repository.now)) }
+        ensures value { IfReady result
+            (λ r. (calls : List Told) × (next : K)
+            × GoesOnSaving T.refuses T.serves T.Stream.yields T.Stream.can_poll K.keeps F.tells
+            self.old.saving self.old.repository.now self.old.name.now self.old.outdir.now
+            self.old.prefix (F.calls self.old.files.now) calls next r) }
+        ensures saves { IfReady result
+            (GoesOnSaving T.refuses T.serves T.Stream.yields T.Stream.can_poll K.keeps F.tells
+            self.old.saving self.old.repository.now self.old.name.now self.old.outdir.now
+            self.old.prefix (F.calls self.old.files.now) (F.calls self.new.files.now)
+            (keeper_of self.new.repository.now)) }
         ensures again { OnPending result (IfSome self.new.saving (CanGoOn T.Stream.can_poll)) }
         ensures same { OnPending result ((r : _)
-            → ((calls : List Told) × (next : K) × GoesOnSaving T.refuses T.serves T.Stream.yields T.Stream.can_poll K.keeps F.tells self.new.saving self.new.repository.now self.new.name.now self.new.outdir.now self.new.prefix (F.calls self.new.files.now) calls next r)
-            → ((calls : List Told) × (next : K) × GoesOnSaving T.refuses T.serves T.Stream.yields T.Stream.can_poll K.keeps F.tells self.old.saving self.old.repository.now self.old.name.now self.old.outdir.now self.old.prefix (F.calls self.old.files.now) calls next r)) }
-        ensures registered { OnPending result (Covers cx.new (λ n. IsSomeAnd self.new.saving (λ s. T.Stream.needs (limited (checked (stream_of s))) n))) }
+            → ((calls : List Told) × (next : K)
+            × GoesOnSaving T.refuses T.serves T.Stream.yields T.Stream.can_poll K.keeps F.tells
+            self.new.saving self.new.repository.now self.new.name.now self.new.outdir.now
+            self.new.prefix (F.calls self.new.files.now) calls next r)
+            → ((calls : List Told) × (next : K)
+            × GoesOnSaving T.refuses T.serves T.Stream.yields T.Stream.can_poll K.keeps F.tells
+            self.old.saving self.old.repository.now self.old.name.now self.old.outdir.now
+            self.old.prefix (F.calls self.old.files.now) calls next r)) }
+        ensures registered { OnPending result
+            (Covers cx.new (λ n. IsSomeAnd self.new.saving
+            (λ s. T.Stream.needs (limited (checked (stream_of s))) n))) }
         ensures kept { Keeps cx.old cx.new }
     {
         match self.saving.take() {

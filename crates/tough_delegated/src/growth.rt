@@ -43,7 +43,8 @@ pub enum Progress<'a> {
 
 // The targets of a document.
 fn unnamed(document: Signed<DelegatedTargets>) -> Signed<Targets>
-    ensures { signed_doc tree_doc result ≡ record { role = (held_doc document).below; signatures = (held_doc document).signatures } }
+    ensures { signed_doc tree_doc result
+        ≡ record { role = (held_doc document).below; signatures = (held_doc document).signatures } }
 {
     let Signed { signed, signatures } = document;
     Signed {
@@ -62,7 +63,15 @@ fn stop<'a>(
     at: usize,
     entry: &'a Metafile,
 ) -> Result<Progress<'a>, AllocError>
-    ensures { IfOk result (λ p. progress_doc p ≡ wants (record { outer = open_doc inner ∷ opens_doc outer.items; loaded = names_in loaded; here = held_doc here; fetched = []; waiting = waiting_in here at }) (metafile_doc entry.now)) }
+    ensures { IfOk result (λ p. progress_doc p
+        ≡ wants (record {
+          outer = open_doc inner ∷ opens_doc outer.items;
+          loaded = names_in loaded;
+          here = held_doc here;
+          fetched = [];
+          waiting = waiting_in here at;
+        })
+        (metafile_doc entry.now)) }
 {
     outer.push_front(inner)?;
     let growth = Growth {
@@ -83,7 +92,9 @@ fn settle<'a>(
     mut outer: VecDeque<Open>,
     mut finished: Signed<DelegatedTargets>,
 ) -> Result<Progress<'a>, AllocError>
-    ensures { IfOk result (λ p. progress_doc p ≡ settle (metas_of snapshot.now) (names_in loaded) (held_doc finished) (opens_doc outer.items)) }
+    ensures { IfOk result (λ p. progress_doc p
+        ≡ settle (metas_of snapshot.now) (names_in loaded) (held_doc finished)
+        (opens_doc outer.items)) }
 {
     while let Some(level) = outer.pop_front() {
         match take_up(alloc, snapshot, &mut loaded, level, finished)? {
@@ -104,7 +115,9 @@ fn take_up<'a>(
     level: Open,
     finished: Signed<DelegatedTargets>,
 ) -> Result<Turns<'a>, AllocError>
-    ensures { IfOk result (λ t. turns_doc (names_in loaded.new) t ≡ taken_up (metas_of snapshot.now) (names_in loaded.old) (held_doc finished) (open_doc level)) }
+    ensures { IfOk result (λ t. turns_doc (names_in loaded.new) t
+        ≡ taken_up (metas_of snapshot.now) (names_in loaded.old)
+        (held_doc finished) (open_doc level)) }
 {
     let Open {
         document,
@@ -157,7 +170,8 @@ impl Growth {
 
     /// The role whose document is wanted.
     pub fn role(&self) -> Option<&DelegatedRole>
-        ensures { option_map (λ r. (role_tree r.now).0) result ≡ first_of (work_doc self.now).waiting }
+        ensures { option_map (λ r. (role_tree r.now).0) result
+            ≡ first_of (work_doc self.now).waiting }
     {
         roles_of(&self.here).get(self.at)
     }
@@ -174,7 +188,8 @@ impl Growth {
 
     /// Takes the document that was wanted, under its role's name.
     pub fn take(self, document: Signed<DelegatedTargets>) -> Result<Growth, AllocError>
-        ensures { IfOk result (λ g. work_doc g ≡ with_taken (work_doc self) (work_doc self).waiting (held_doc document)) }
+        ensures { IfOk result (λ g. work_doc g
+            ≡ with_taken (work_doc self) (work_doc self).waiting (held_doc document)) }
     {
         let Growth {
             outer,
@@ -210,7 +225,8 @@ impl Growth {
         alloc: Global,
         snapshot: &'a Snapshot,
     ) -> Result<Progress<'a>, AllocError>
-        ensures { IfOk result (λ p. progress_doc p ≡ go_on (metas_of snapshot.now) (work_doc self)) }
+        ensures { IfOk result (λ p. progress_doc p
+            ≡ go_on (metas_of snapshot.now) (work_doc self)) }
     {
         match look_from(alloc, snapshot, &self.loaded, roles_of(&self.here), self.at)? {
             Look::Through => give(alloc, snapshot, self),

@@ -9,7 +9,9 @@ ghost use Rattle.tough_delegated.specs.Once.{IsBare, AreBare, Distinct, runs};
 
 /// No name carries a document twice, whatever documents are taken.
 pub fn grows_once()
-    ensures { (metas : Metas) (top : HeldDoc) (documents : List HeldDoc) (t : SignedDoc TreeDoc) → IsBare top → AreBare documents → runs metas (begun metas top) documents ≡ grown t → Distinct (carriers_below t.role) }
+    ensures { (metas : Metas) (top : HeldDoc) (documents : List HeldDoc) (t : SignedDoc TreeDoc)
+        → IsBare top → AreBare documents → runs metas (begun metas top) documents ≡ grown t
+        → Distinct (carriers_below t.role) }
 {}
 
 ghost use Rattle.std.specs.Prelude.{ℕ, Bool, IsTrue, Option};
@@ -22,15 +24,25 @@ ghost use Rattle.tough_delegated.specs.Bare.{top_page};
 /// of its roles, holds throughout the tree: of the delegations of each document, and each of its roles that has one. The tree says for itself
 /// what the first document did.
 pub fn grows_under()
-    ensures under { (fits : Option DelegationsDoc → List ℕ → SignedDoc TargetsDoc → Bool) (metas : Metas) (top : HeldDoc) (documents : List HeldDoc) (t : SignedDoc TreeDoc) → IsBare top → AllTaken (λ g name page. IsTrue (fits g name page)) metas (begun metas top) documents → runs metas (begun metas top) documents ≡ grown t → Below (λ g name page. IsTrue (fits g name page)) t.role }
-    ensures top { (fits : Option DelegationsDoc → List ℕ → SignedDoc TargetsDoc → Bool) (metas : Metas) (top : HeldDoc) (documents : List HeldDoc) (t : SignedDoc TreeDoc) → IsBare top → AllTaken (λ g name page. IsTrue (fits g name page)) metas (begun metas top) documents → runs metas (begun metas top) documents ≡ grown t → top_page t ≡ page_of top }
+    ensures under { (fits : Option DelegationsDoc → List ℕ → SignedDoc TargetsDoc → Bool)
+        (metas : Metas) (top : HeldDoc) (documents : List HeldDoc) (t : SignedDoc TreeDoc)
+        → IsBare top
+        → AllTaken (λ g name page. IsTrue (fits g name page)) metas (begun metas top) documents
+        → runs metas (begun metas top) documents ≡ grown t
+        → Below (λ g name page. IsTrue (fits g name page)) t.role }
+    ensures top { (fits : Option DelegationsDoc → List ℕ → SignedDoc TargetsDoc → Bool)
+        (metas : Metas) (top : HeldDoc) (documents : List HeldDoc) (t : SignedDoc TreeDoc)
+        → IsBare top
+        → AllTaken (λ g name page. IsTrue (fits g name page)) metas (begun metas top) documents
+        → runs metas (begun metas top) documents ≡ grown t → top_page t ≡ page_of top }
 {}
 
 ghost use Rattle.tough_delegated.specs.Listed.{WantsListed};
 
 /// A document that is wanted is one that the snapshot lists so, for a role of the document whose list is being fetched.
 pub fn wanted_is_listed()
-    ensures { (metas : Metas) (top : HeldDoc) (documents : List HeldDoc) → WantsListed metas (runs metas (begun metas top) documents) }
+    ensures { (metas : Metas) (top : HeldDoc) (documents : List HeldDoc)
+        → WantsListed metas (runs metas (begun metas top) documents) }
 {}
 
 ghost use Rattle.tough_roles.specs.declared.signed.Signed.{Signed};
@@ -42,7 +54,8 @@ ghost use Rattle.tough_delegated.specs.View.{top_held};
 /// What reading ensures of targets, and of the document of a delegated role, is what these laws ask of them.
 pub fn read_is_bare()
     ensures top { (s : Signed Targets) → IsFresh s.signed → IsBare (top_held s) }
-    ensures document { (s : Signed DelegatedTargets) → IsFreshDelegated s.signed → IsBare (held_doc s) }
+    ensures document { (s : Signed DelegatedTargets) → IsFreshDelegated s.signed
+        → IsBare (held_doc s) }
 {}
 
 /// How many laws this file states.

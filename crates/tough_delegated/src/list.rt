@@ -37,7 +37,8 @@ pub(crate) fn take_roles(
 
 // Puts roles in, where the document has delegations.
 pub(crate) fn put_roles(document: &mut Signed<DelegatedTargets>, roles: Vec<DelegatedRole>)
-    ensures { held_doc document.new ≡ with_roles (map role_tree roles.items) (held_doc document.old) }
+    ensures { held_doc document.new
+        ≡ with_roles (map role_tree roles.items) (held_doc document.old) }
 {
     if let Some(delegations) = &mut document.signed.targets.delegations {
         delegations.roles = roles;
@@ -61,7 +62,8 @@ pub(crate) fn give_fetched(
     roles: Vec<DelegatedRole>,
     mut fetched: BTreeMap<String, Signed<DelegatedTargets>>,
 ) -> Result<VecDeque<DelegatedRole>, AllocError>
-    ensures { IfOk result (λ given. map role_tree given.items ≡ with_fetched (fetched_doc fetched.entries) (entries_of roles.items)) }
+    ensures { IfOk result (λ given. map role_tree given.items
+        ≡ with_fetched (fetched_doc fetched.entries) (entries_of roles.items)) }
 {
     let mut given = VecDeque::new(alloc);
     for role in roles {

@@ -28,7 +28,8 @@ fn entry_of<'a>(
     snapshot: &'a Snapshot,
     name: &str,
 ) -> Result<Option<&'a Metafile>, AllocError>
-    ensures { IfOk result (λ o. option_map (λ m. metafile_doc m.now) o ≡ listed_as (metas_of snapshot.now) name.now) }
+    ensures { IfOk result (λ o. option_map (λ m. metafile_doc m.now) o
+        ≡ listed_as (metas_of snapshot.now) name.now) }
 {
     let file = format!(in alloc; "{name}.json")?;
     Ok(snapshot.meta.get(file.as_str()))
@@ -42,7 +43,8 @@ pub(crate) fn look_from<'a>(
     roles: &[DelegatedRole],
     from: usize,
 ) -> Result<Look<'a>, AllocError>
-    ensures { IfOk result (λ l. look_doc (entries_of roles.now) l ≡ look (metas_of snapshot.now) (names_in loaded.now) (drop from (entries_of roles.now))) }
+    ensures { IfOk result (λ l. look_doc (entries_of roles.now) l
+        ≡ look (metas_of snapshot.now) (names_in loaded.now) (drop from (entries_of roles.now))) }
 {
     let mut at = from;
     while let Some(role) = roles.get(at) {

@@ -40,7 +40,10 @@ fn enter<'a>(
     role: DelegatedRole,
     document: Signed<DelegatedTargets>,
 ) -> Result<Turn<'a>, AllocError>
-    ensures { IfOk result (λ t. turn_doc (names_in loaded.new) t ≡ entered (role_tree role).0 (held_doc document) (names_in loaded.old) (look (metas_of snapshot.now) (names_in loaded.old) (listed_roles (held_doc document).below))) }
+    ensures { IfOk result (λ t. turn_doc (names_in loaded.new) t
+        ≡ entered (role_tree role).0 (held_doc document) (names_in loaded.old)
+        (look (metas_of snapshot.now) (names_in loaded.old)
+        (listed_roles (held_doc document).below))) }
 {
     match look_from(alloc, snapshot, loaded, roles_of(&document), 0)? {
         Look::Through => Ok(Turn::Past(with_document(role, Some(document)))),
@@ -59,7 +62,8 @@ pub(crate) fn take_turn<'a>(
     loaded: &mut BTreeSet<String>,
     role: DelegatedRole,
 ) -> Result<Turn<'a>, AllocError>
-    ensures { IfOk result (λ t. turn_doc (names_in loaded.new) t ≡ turn (metas_of snapshot.now) (names_in loaded.old) (role_tree role)) }
+    ensures { IfOk result (λ t. turn_doc (names_in loaded.new) t
+        ≡ turn (metas_of snapshot.now) (names_in loaded.old) (role_tree role)) }
 {
     let (role, document) = take_document(role);
     let Some(document) = document else {

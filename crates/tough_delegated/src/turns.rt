@@ -44,7 +44,9 @@ pub(crate) fn take_turns<'a>(
     mut done: Vec<DelegatedRole>,
     mut left: VecDeque<DelegatedRole>,
 ) -> Result<Turns<'a>, AllocError>
-    ensures { IfOk result (λ t. turns_doc (names_in loaded.new) t ≡ turns (metas_of snapshot.now) (names_in loaded.old) (held_doc document) (map role_tree done.items) (map role_tree left.items)) }
+    ensures { IfOk result (λ t. turns_doc (names_in loaded.new) t
+        ≡ turns (metas_of snapshot.now) (names_in loaded.old) (held_doc document)
+        (map role_tree done.items) (map role_tree left.items)) }
 {
     while let Some(role) = left.pop_front() {
         match take_turn(alloc, snapshot, loaded, role)? {

@@ -51,7 +51,8 @@ fn roles_signed_alone(alloc: Global, key: &Key) -> Result<BTreeMap<RoleType, Rol
 
 /// A root of this version, of a repository with consistent snapshots, whose one key signs every role.
 pub fn root(alloc: Global, version: NonZeroU64, key: Key) -> Result<Root, DemoError>
-    ensures head { IfOk result (λ r. IsHead EXPIRES.now (non_zero_u64_get version) (root_doc r).head) }
+    ensures head { IfOk result
+        (λ r. IsHead EXPIRES.now (non_zero_u64_get version) (root_doc r).head) }
     ensures keys { IfOk result (λ r. IsKnownAlone (key_doc key) (root_doc r).keys) }
     ensures roles { IfOk result (λ r. AreSignedAlone (key_doc key) (root_doc r).roles) }
     ensures consistent { IfOk result (λ r. IsTrue r.consistent_snapshot) }
@@ -66,7 +67,8 @@ pub fn root_with(
     key: Key,
     consistent: bool,
 ) -> Result<Root, DemoError>
-    ensures head { IfOk result (λ r. IsHead EXPIRES.now (non_zero_u64_get version) (root_doc r).head) }
+    ensures head { IfOk result
+        (λ r. IsHead EXPIRES.now (non_zero_u64_get version) (root_doc r).head) }
     ensures keys { IfOk result (λ r. IsKnownAlone (key_doc key) (root_doc r).keys) }
     ensures roles { IfOk result (λ r. AreSignedAlone (key_doc key) (root_doc r).roles) }
     ensures consistent { IfOk result (λ r. r.consistent_snapshot ≡ consistent) }
@@ -92,8 +94,19 @@ pub fn timestamp(
     version: NonZeroU64,
     snapshot: NonZeroU64,
 ) -> Result<Timestamp, DemoError>
-    ensures head { IfOk result (λ t. IsHead EXPIRES.now (non_zero_u64_get version) (timestamp_doc t).head) }
-    ensures meta { IfOk result (λ t. (timestamp_doc t).meta ≡ (codes "snapshot.json", record { version = non_zero_u64_get snapshot; length = None; hashes = None; extra = no_members }) ∷ []) }
+    ensures head { IfOk result
+        (λ t. IsHead EXPIRES.now (non_zero_u64_get version) (timestamp_doc t).head) }
+    ensures meta { IfOk result
+        (λ t. (timestamp_doc t).meta
+        ≡ (
+          codes "snapshot.json",
+          record {
+            version = non_zero_u64_get snapshot;
+            length = None;
+            hashes = None;
+            extra = no_members;
+          },
+        ) ∷ []) }
 {
     let metafile = Metafile {
         length: None,
@@ -110,8 +123,10 @@ pub fn timestamp_of(
     version: NonZeroU64,
     snapshot: Metafile,
 ) -> Result<Timestamp, DemoError>
-    ensures head { IfOk result (λ t. IsHead EXPIRES.now (non_zero_u64_get version) (timestamp_doc t).head) }
-    ensures meta { IfOk result (λ t. (timestamp_doc t).meta ≡ (codes "snapshot.json", metafile_doc snapshot) ∷ []) }
+    ensures head { IfOk result
+        (λ t. IsHead EXPIRES.now (non_zero_u64_get version) (timestamp_doc t).head) }
+    ensures meta { IfOk result
+        (λ t. (timestamp_doc t).meta ≡ (codes "snapshot.json", metafile_doc snapshot) ∷ []) }
     ensures extra { IfOk result (λ t. (timestamp_doc t).extra ≡ no_members) }
 {
     let mut meta = BTreeMap::new(alloc);
@@ -131,8 +146,10 @@ pub fn snapshot(
     version: NonZeroU64,
     targets: Metafile,
 ) -> Result<Snapshot, DemoError>
-    ensures head { IfOk result (λ s. IsHead EXPIRES.now (non_zero_u64_get version) (snapshot_doc s).head) }
-    ensures meta { IfOk result (λ s. (snapshot_doc s).meta ≡ (codes "targets.json", metafile_doc targets) ∷ []) }
+    ensures head { IfOk result
+        (λ s. IsHead EXPIRES.now (non_zero_u64_get version) (snapshot_doc s).head) }
+    ensures meta { IfOk result
+        (λ s. (snapshot_doc s).meta ≡ (codes "targets.json", metafile_doc targets) ∷ []) }
     ensures extra { IfOk result (λ s. (snapshot_doc s).extra ≡ no_members) }
 {
     let mut meta = BTreeMap::new(alloc);
@@ -146,7 +163,8 @@ pub fn snapshot_of(
     version: NonZeroU64,
     meta: BTreeMap<String, Metafile>,
 ) -> Result<Snapshot, DemoError>
-    ensures head { IfOk result (λ s. IsHead EXPIRES.now (non_zero_u64_get version) (snapshot_doc s).head) }
+    ensures head { IfOk result
+        (λ s. IsHead EXPIRES.now (non_zero_u64_get version) (snapshot_doc s).head) }
     ensures meta { IfOk result (λ s. (snapshot_doc s).meta ≡ metafiles_doc meta.entries) }
     ensures extra { IfOk result (λ s. (snapshot_doc s).extra ≡ no_members) }
 {
@@ -165,7 +183,8 @@ pub fn targets(
     version: NonZeroU64,
     listing: BTreeMap<TargetName, Target>,
 ) -> Result<Targets, DemoError>
-    ensures head { IfOk result (λ t. IsHead EXPIRES.now (non_zero_u64_get version) (targets_doc t).head) }
+    ensures head { IfOk result
+        (λ t. IsHead EXPIRES.now (non_zero_u64_get version) (targets_doc t).head) }
     ensures listing { IfOk result (λ t. (targets_doc t).targets ≡ listing_doc listing.entries) }
     ensures delegations { IfOk result (λ t. (targets_doc t).delegations ≡ Some no_delegations) }
     ensures extra { IfOk result (λ t. (targets_doc t).extra ≡ no_members) }

@@ -28,7 +28,8 @@ pub fn hashes(alloc: Global, bytes: &[u8]) -> Result<Hashes, DemoError>
 pub fn metafile(alloc: Global, version: NonZeroU64, bytes: &[u8]) -> Result<Metafile, DemoError>
     ensures version { IfOk result (λ m. non_zero_u64_get m.version ≡ non_zero_u64_get version) }
     ensures length { IfOk result (λ m. m.length ≡ Some (length bytes.now)) }
-    ensures digest { IfOk result (λ m. option_map (λ h. h.sha256.bytes) m.hashes ≡ Some (sha256 bytes.now)) }
+    ensures digest { IfOk result
+        (λ m. option_map (λ h. h.sha256.bytes) m.hashes ≡ Some (sha256 bytes.now)) }
 {
     let hashes = hashes(alloc, bytes)?;
     Ok(Metafile {

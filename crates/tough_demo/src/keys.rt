@@ -18,7 +18,8 @@ pub const PUBLIC: &str = "3b6a27bcceb6a42d62a3a8d02a6f0d73653215771de243a63ac048
 
 /// An Ed25519 key, its public part given in hexadecimal digits.
 pub fn ed25519(alloc: Global, public: &str) -> Result<Key, DemoError>
-    ensures { IfOk result (λ k. option_map ed25519_key (spelled hex_bytes public.now) ≡ Some (key_doc k)) }
+    ensures { IfOk result (λ k. option_map ed25519_key
+        (spelled hex_bytes public.now) ≡ Some (key_doc k)) }
 {
     Ok(Key::Ed25519 {
         keyval: Ed25519Key {
@@ -32,7 +33,8 @@ pub fn ed25519(alloc: Global, public: &str) -> Result<Key, DemoError>
 
 /// The signer by the key of `PUBLIC`.
 pub fn demo_signer(alloc: Global) -> Result<DemoSign, DemoError>
-    ensures { IfOk result (λ s. option_map ed25519_key (spelled hex_bytes PUBLIC.now) ≡ Some (key_doc s.key)) }
+    ensures { IfOk result (λ s. option_map ed25519_key (spelled hex_bytes PUBLIC.now)
+        ≡ Some (key_doc s.key)) }
 {
     Ok(DemoSign {
         key: ed25519(alloc, PUBLIC)?,
@@ -49,7 +51,8 @@ pub fn identifier(alloc: Global, key: &Key) -> Result<Decoded<Hex>, DemoError>
 
 /// A role that this key signs alone.
 pub fn signed_alone(alloc: Global, key: &Key) -> Result<RoleKeys, DemoError>
-    ensures identifiers { IfOk result (λ r. map (λ id. Some id.bytes) r.keyids.items ≡ key_id_of (key_doc key.now) ∷ []) }
+    ensures identifiers { IfOk result
+        (λ r. map (λ id. Some id.bytes) r.keyids.items ≡ key_id_of (key_doc key.now) ∷ []) }
     ensures threshold { IfOk result (λ r. non_zero_u64_get r.threshold ≡ 1) }
 {
     let mut keyids = Vec::new(alloc);

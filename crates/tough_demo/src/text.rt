@@ -20,7 +20,9 @@ pub fn sign<T: Role + Drop>(
     signer: &DemoSign,
 ) -> Result<Signed<T>, DemoError>
     ensures role { IfOk result (λ s. s.signed ≡ role) }
-    ensures signature { IfOk result (λ s. IsSignedAlone (key_doc signer.now.key) (text_by T.json role) (signatures_doc s.signatures.items)) }
+    ensures signature { IfOk result
+        (λ s. IsSignedAlone (key_doc signer.now.key) (text_by T.json role)
+        (signatures_doc s.signatures.items)) }
 {
     let text = role.canonical_form(alloc)?;
     let sig = Decoded::from_vec(alloc, signer.sign(alloc, text.as_slice())?)?;
@@ -35,7 +37,8 @@ pub fn sign<T: Role + Drop>(
 
 /// The document as an editor writes it to a file: JSON with two blanks a level, and a line feed at its end.
 pub fn pretty<T: Role>(alloc: Global, document: &Signed<T>) -> Result<Vec<u8>, DemoError>
-    ensures { IfOk result (λ b. (d : Data.Data) × (document_json T.json document.now ≡ Some d) × IsPretty d b.items) }
+    ensures { IfOk result (λ b. (d : Data.Data) × (document_json T.json document.now ≡ Some d)
+        × IsPretty d b.items) }
 {
     let value = document.to_value(alloc)?;
     let mut text = value.to_vec_pretty(alloc)?;

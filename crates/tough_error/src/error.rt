@@ -509,7 +509,7 @@ pub enum Error {
         /// Its parent's name.
         parent: String,
     },
-    /// The document of a role doesn't list a file. No call answers it.
+    /// The document of a role doesn't list a file that is to be cached.
     MetaMissing {
         /// The file's name.
         file: &'static str,

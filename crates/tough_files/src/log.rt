@@ -85,7 +85,8 @@ impl Log {
     // Notes a call, unless it found no memory. There is room for it.
     pub(crate) fn note(&mut self, request: Request, answer: Answer)
         requires { vec_len self.old.calls < vec_capacity self.old.calls }
-        ensures told { log_told self.new ≡ log_told self.old ++ told_of (asked_of request) (answered_of answer) }
+        ensures told { log_told self.new
+            ≡ log_told self.old ++ told_of (asked_of request) (answered_of answer) }
         ensures failures { self.new.failures ≡ count_after (answered_of answer) self.old.failures }
     {
         match &answer {
@@ -102,7 +103,8 @@ impl Log {
     // Notes a call that answers nothing but that it is done.
     pub(crate) fn note_done(&mut self, request: Request, outcome: Result<(), FilesError>)
         requires { vec_len self.old.calls < vec_capacity self.old.calls }
-        ensures told { log_told self.new ≡ log_told self.old ++ told_of (asked_of request) (done_or outcome) }
+        ensures told { log_told self.new
+            ≡ log_told self.old ++ told_of (asked_of request) (done_or outcome) }
         ensures failures { self.new.failures ≡ count_after (done_or outcome) self.old.failures }
     {
         match outcome {

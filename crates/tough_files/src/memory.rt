@@ -287,7 +287,8 @@ fn two_copied(alloc: Global, first: &str, second: &str) -> Result<(String, Strin
 
 // Copies of the texts.
 fn all_copied(alloc: Global, texts: &Vec<String>) -> Result<Vec<String>, AllocError>
-    ensures { IfOk result (λ copies. map string_bytes copies.items ≡ map string_bytes texts.now.items) }
+    ensures { IfOk result (λ copies. map string_bytes copies.items
+        ≡ map string_bytes texts.now.items) }
 {
     let mut copies = Vec::new(alloc);
     for text in texts {

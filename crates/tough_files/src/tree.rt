@@ -83,7 +83,8 @@ impl Tree {
 
     // A copy of the path behind the links.
     fn followed(&self, path: &str) -> Result<String, FilesError>
-        ensures path { IfOk result (λ text. string_bytes text ≡ followed (contents_of self.now) path.now) }
+        ensures path { IfOk result
+            (λ text. string_bytes text ≡ followed (contents_of self.now) path.now) }
         ensures memory { IfErr result (λ e. e ≡ Memory) }
     {
         copied(self.alloc, self.follow(path))
@@ -123,7 +124,9 @@ impl Tree {
 
     // Puts a node at a path.
     fn put(&mut self, path: String, node: Stored) -> Result<(), FilesError>
-        ensures ok { OnOk result (Same (change.put (contents_of self.old) (string_bytes path) (Some (node_of node))) (contents_of self.new)) }
+        ensures ok { OnOk result (Same
+            (change.put (contents_of self.old) (string_bytes path) (Some (node_of node)))
+            (contents_of self.new)) }
         ensures err { OnErr result (Same (contents_of self.old) (contents_of self.new)) }
         ensures memory { IfErr result (λ e. e ≡ Memory) }
     {
@@ -142,7 +145,8 @@ impl Tree {
 
     // Puts a node at a path where nothing stands.
     fn put_new(&mut self, path: String, node: Stored) -> Result<(), FilesError>
-        ensures { Gives (change.new_outcome (contents_of self.old) (string_bytes path) (node_of node)) (contents_of self.old) (done_or result) (contents_of self.new) }
+        ensures { Gives (change.new_outcome (contents_of self.old) (string_bytes path)
+            (node_of node)) (contents_of self.old) (done_or result) (contents_of self.new) }
     {
         if self.has_folder(path.as_str()) {
             self.put(path, node)
@@ -152,7 +156,9 @@ impl Tree {
     }
 
     pub(crate) fn kind(&self, path: &str, follow: bool) -> Result<FileKind, FilesError>
-        ensures { found_or result ≡ kind_answer (node_at (contents_of self.now) (seen follow (contents_of self.now) path.now)) }
+        ensures { found_or result
+            ≡ kind_answer (node_at (contents_of self.now)
+            (seen follow (contents_of self.now) path.now)) }
     {
         match self.node(self.seen(path, follow)) {
             None => Err(FilesError::NotFound),
@@ -163,14 +169,16 @@ impl Tree {
     }
 
     pub(crate) fn create(&mut self, path: &str) -> Result<(), FilesError>
-        ensures { Gives (create_outcome path.now (contents_of self.old)) (contents_of self.old) (done_or result) (contents_of self.new) }
+        ensures { Gives (create_outcome path.now (contents_of self.old)) (contents_of self.old)
+            (done_or result) (contents_of self.new) }
     {
         self.write(path, Vec::new(self.alloc))
     }
 
     // Makes a file of these bytes, in place of the one that is there.
     fn write(&mut self, path: &str, bytes: Vec<u8>) -> Result<(), FilesError>
-        ensures { Gives (write_outcome bytes.items path.now (contents_of self.old)) (contents_of self.old) (done_or result) (contents_of self.new) }
+        ensures { Gives (write_outcome bytes.items path.now (contents_of self.old))
+            (contents_of self.old) (done_or result) (contents_of self.new) }
     {
         match self.followed(path) {
             Ok(path) => self.write_at(path, bytes),
@@ -180,7 +188,9 @@ impl Tree {
 
     // The same, at a path itself.
     fn write_at(&mut self, path: String, bytes: Vec<u8>) -> Result<(), FilesError>
-        ensures { Gives (change.write_over bytes.items (contents_of self.old) (string_bytes path) (node_at (contents_of self.old) (string_bytes path))) (contents_of self.old) (done_or result) (contents_of self.new) }
+        ensures { Gives (change.write_over bytes.items (contents_of self.old) (string_bytes path)
+            (node_at (contents_of self.old) (string_bytes path))) (contents_of self.old)
+            (done_or result) (contents_of self.new) }
     {
         match self.node(path.as_str()) {
             None => self.put_new(path, Stored::File(bytes)),
@@ -191,7 +201,8 @@ impl Tree {
     }
 
     pub(crate) fn remove(&mut self, path: &str) -> Result<(), FilesError>
-        ensures { Gives (remove_outcome path.now (contents_of self.old)) (contents_of self.old) (done_or result) (contents_of self.new) }
+        ensures { Gives (remove_outcome path.now (contents_of self.old)) (contents_of self.old)
+            (done_or result) (contents_of self.new) }
     {
         match self.node(path) {
             None => Err(FilesError::NotFound),
@@ -204,7 +215,8 @@ impl Tree {
     }
 
     pub(crate) fn link(&mut self, original: &str, path: &str) -> Result<(), FilesError>
-        ensures { Gives (link_outcome original.now path.now (contents_of self.old)) (contents_of self.old) (done_or result) (contents_of self.new) }
+        ensures { Gives (link_outcome original.now path.now (contents_of self.old))
+            (contents_of self.old) (done_or result) (contents_of self.new) }
     {
         if self.node(path).is_some() {
             return Err(FilesError::Failed);
@@ -220,7 +232,9 @@ impl Tree {
 
     // The bytes of the file from `from` on, as many as the buffer takes.
     pub(crate) fn read(&self, path: &str, from: u64, buf: &mut [u8]) -> Result<usize, FilesError>
-        ensures answer { got_or buf.new result ≡ read_answer from (length buf.old) (node_at (contents_of self.now) (followed (contents_of self.now) path.now)) }
+        ensures answer { got_or buf.new result
+            ≡ read_answer from (length buf.old)
+            (node_at (contents_of self.now) (followed (contents_of self.now) path.now)) }
         ensures len { IfOk result (λ n. n ≤ length buf.new) }
     {
         match self.node(self.follow(path)) {
@@ -232,7 +246,8 @@ impl Tree {
     }
 
     pub(crate) fn append(&mut self, path: &str, bytes: &[u8]) -> Result<(), FilesError>
-        ensures { Gives (append_outcome path.now bytes.now (contents_of self.old)) (contents_of self.old) (done_or result) (contents_of self.new) }
+        ensures { Gives (append_outcome path.now bytes.now (contents_of self.old))
+            (contents_of self.old) (done_or result) (contents_of self.new) }
     {
         match self.followed(path) {
             Ok(path) => self.append_at(path, bytes),
@@ -242,7 +257,9 @@ impl Tree {
 
     // The same, at a path itself.
     fn append_at(&mut self, path: String, bytes: &[u8]) -> Result<(), FilesError>
-        ensures { Gives (change.append_over bytes.now (contents_of self.old) (string_bytes path) (node_at (contents_of self.old) (string_bytes path))) (contents_of self.old) (done_or result) (contents_of self.new) }
+        ensures { Gives (change.append_over bytes.now (contents_of self.old) (string_bytes path)
+            (node_at (contents_of self.old) (string_bytes path))) (contents_of self.old)
+            (done_or result) (contents_of self.new) }
     {
         match self.node(path.as_str()) {
             None => Err(FilesError::NotFound),
@@ -256,7 +273,8 @@ impl Tree {
     }
 
     pub(crate) fn copy(&mut self, from: &str, to: &str) -> Result<(), FilesError>
-        ensures { Gives (copy_outcome from.now to.now (contents_of self.old)) (contents_of self.old) (done_or result) (contents_of self.new) }
+        ensures { Gives (copy_outcome from.now to.now (contents_of self.old)) (contents_of self.old)
+            (done_or result) (contents_of self.new) }
     {
         match self.followed(from) {
             Ok(from) => self.copy_at(from.as_str(), to),
@@ -266,7 +284,9 @@ impl Tree {
 
     // The same, from a path itself.
     fn copy_at(&mut self, from: &str, to: &str) -> Result<(), FilesError>
-        ensures { Gives (change.copy_over to.now (contents_of self.old) (node_at (contents_of self.old) from.now)) (contents_of self.old) (done_or result) (contents_of self.new) }
+        ensures { Gives (change.copy_over to.now (contents_of self.old)
+            (node_at (contents_of self.old) from.now)) (contents_of self.old) (done_or result)
+            (contents_of self.new) }
     {
         match self.node(from) {
             None => Err(FilesError::NotFound),
@@ -280,7 +300,8 @@ impl Tree {
     }
 
     pub(crate) fn rename(&mut self, from: &str, to: &str) -> Result<(), FilesError>
-        ensures { Gives (rename_outcome from.now to.now (contents_of self.old)) (contents_of self.old) (done_or result) (contents_of self.new) }
+        ensures { Gives (rename_outcome from.now to.now (contents_of self.old))
+            (contents_of self.old) (done_or result) (contents_of self.new) }
     {
         match self.node(from) {
             None => Err(FilesError::NotFound),
@@ -298,7 +319,8 @@ impl Tree {
 
     // Makes an empty file at this path in the folder.
     pub(crate) fn create_new(&mut self, folder: &str, path: &str) -> Result<(), FilesError>
-        ensures { Gives (temp_outcome folder.now path.now (contents_of self.old)) (contents_of self.old) (named_if path.now result) (contents_of self.new) }
+        ensures { Gives (temp_outcome folder.now path.now (contents_of self.old))
+            (contents_of self.old) (named_if path.now result) (contents_of self.new) }
     {
         match self.node(folder) {
             None => Err(FilesError::NotFound),
@@ -309,7 +331,9 @@ impl Tree {
     }
 
     fn create_over(&mut self, path: &str) -> Result<(), FilesError>
-        ensures { Gives (temp_over path.now (contents_of self.old) (node_at (contents_of self.old) path.now)) (contents_of self.old) (named_if path.now result) (contents_of self.new) }
+        ensures { Gives (temp_over path.now (contents_of self.old)
+            (node_at (contents_of self.old) path.now)) (contents_of self.old)
+            (named_if path.now result) (contents_of self.new) }
     {
         if self.node(path).is_some() {
             return Err(FilesError::Failed);
@@ -322,7 +346,9 @@ impl Tree {
 
     // Puts this copy of what stands at the one path at the other, and takes out the first.
     fn move_to(&mut self, from: &str, to: &str, node: Stored) -> Result<(), FilesError>
-        ensures { Gives (change.move_over from.now to.now (node_of node) (contents_of self.old) (node_at (contents_of self.old) to.now)) (contents_of self.old) (done_or result) (contents_of self.new) }
+        ensures { Gives (change.move_over from.now to.now (node_of node) (contents_of self.old)
+            (node_at (contents_of self.old) to.now)) (contents_of self.old) (done_or result)
+            (contents_of self.new) }
     {
         if self.is_folder(to) {
             return Err(FilesError::Failed);
@@ -346,8 +372,14 @@ impl Tree {
     }
 
     pub(crate) fn canonical(&self, path: &str) -> Result<String, FilesError>
-        ensures answer { IfOk result (λ text. named (string_bytes text) ≡ canonical_answer (followed (contents_of self.now) path.now) (node_at (contents_of self.now) (followed (contents_of self.now) path.now))) }
-        ensures err { IfErr result (λ e. e ≢ Memory → refused e ≡ canonical_answer (followed (contents_of self.now) path.now) (node_at (contents_of self.now) (followed (contents_of self.now) path.now))) }
+        ensures answer { IfOk result
+            (λ text. named (string_bytes text)
+            ≡ canonical_answer (followed (contents_of self.now) path.now)
+            (node_at (contents_of self.now) (followed (contents_of self.now) path.now))) }
+        ensures err { IfErr result
+            (λ e. e ≢ Memory
+            → refused e ≡ canonical_answer (followed (contents_of self.now) path.now)
+            (node_at (contents_of self.now) (followed (contents_of self.now) path.now))) }
     {
         let path = self.follow(path);
         match self.node(path) {
@@ -359,7 +391,8 @@ impl Tree {
     }
 
     pub(crate) fn make_folders(&mut self, path: &str) -> Result<(), FilesError>
-        ensures { MakesFolders path.now (contents_of self.old) (done_or result) (contents_of self.new) }
+        ensures { MakesFolders path.now (contents_of self.old) (done_or result)
+            (contents_of self.new) }
     {
         match Path::new(path).parent() {
             None => Ok(()),
@@ -372,7 +405,9 @@ impl Tree {
 
     // Makes a folder where nothing stands.
     fn make_folder(&mut self, path: &str) -> Result<(), FilesError>
-        ensures { Gives (change.folder_over path.now (contents_of self.old) (node_at (contents_of self.old) path.now)) (contents_of self.old) (done_or result) (contents_of self.new) }
+        ensures { Gives (change.folder_over path.now (contents_of self.old)
+            (node_at (contents_of self.old) path.now)) (contents_of self.old) (done_or result)
+            (contents_of self.new) }
     {
         match self.node(path) {
             None => match copied(self.alloc, path) {
@@ -401,7 +436,8 @@ impl Tree {
 
     // The names of what stands in the folder, each once: `d/x` and `d//x` are two paths.
     fn names_in(&self, folder: &str) -> Result<Vec<String>, AllocError>
-        ensures { IfOk result (λ names. map string_bytes names.items ≡ entry_names folder.now [] self.now.nodes.entries) }
+        ensures { IfOk result (λ names. map string_bytes names.items
+            ≡ entry_names folder.now [] self.now.nodes.entries) }
     {
         let mut names = Vec::new(self.alloc);
         for (path, _) in self.nodes.iter() {
@@ -424,7 +460,8 @@ fn is_among(names: &[String], name: &str) -> bool
 // Adds the name, unless it is among these.
 #[tactic(auto, using(crate::proofs::Listing::among))]
 fn add_name(alloc: Global, names: &mut Vec<String>, name: &str) -> Result<(), AllocError>
-    ensures { OnOk result (map string_bytes names.new.items ≡ and_name (map string_bytes names.old.items) (Some name.now)) }
+    ensures { OnOk result (map string_bytes names.new.items
+        ≡ and_name (map string_bytes names.old.items) (Some name.now)) }
 {
     if is_among(names, name) {
         return Ok(());

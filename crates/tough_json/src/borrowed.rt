@@ -64,7 +64,8 @@ fn members_in(
     alloc: Global,
     members: &Vec<(&str, Borrowed<'_>)>,
 ) -> Result<Map<String, Value>, ReadError>
-    ensures { Converts (λ m. members_view m.entries) result (of_members (json_members members.now.items) no_members) }
+    ensures { Converts (λ m. members_view m.entries) result
+        (of_members (json_members members.now.items) no_members) }
 {
     let mut values = Map::new(alloc);
     for member in members {
@@ -156,7 +157,8 @@ pub fn borrowed<'a>(
 
 /// The last of the members of the name: the one that counts.
 pub fn last_of<'a>(members: Vec<(&'a str, Borrowed<'a>)>, name: &str) -> Option<Borrowed<'a>>
-    ensures { option_map json_view result ≡ last_member name.now (json_members members.entry.items) }
+    ensures { option_map json_view result
+        ≡ last_member name.now (json_members members.entry.items) }
 {
     let mut left = members;
     while let Some((key, value)) = left.pop() {
@@ -173,7 +175,8 @@ pub fn others_in(
     members: &[(&str, Borrowed<'_>)],
     name: &str,
 ) -> Result<Map<String, Value>, ReadError>
-    ensures { (ms : Members) → of_members (json_members members.now) no_members ≡ Some ms → Reads (λ m. members_view m.entries) result (Some (without name.now ms)) }
+    ensures { (ms : Members) → of_members (json_members members.now) no_members ≡ Some ms
+        → Reads (λ m. members_view m.entries) result (Some (without name.now ms)) }
 {
     let mut values = Map::new(alloc);
     for member in members {
@@ -192,7 +195,9 @@ pub fn in_order<'a>(
     alloc: Global,
     members: Vec<(&'a str, Borrowed<'a>)>,
 ) -> Result<BTreeMap<&'a str, Borrowed<'a>>, AllocError>
-    ensures { IfOk result (λ m. (ms : Members) → of_members (json_members members.entry.items) no_members ≡ Some ms → listed m.entries ≡ Some ms) }
+    ensures { IfOk result (λ m. (ms : Members)
+        → of_members (json_members members.entry.items) no_members ≡ Some ms
+        → listed m.entries ≡ Some ms) }
 {
     let mut found = BTreeMap::new(alloc);
     for (name, value) in members {
@@ -207,7 +212,8 @@ pub fn take_member<'a>(
     members: Vec<(&'a str, Borrowed<'a>)>,
     name: &str,
 ) -> Result<(Borrowed<'a>, Map<String, Value>), ReadError>
-    ensures { (ms : Members) → of_members (json_members members.entry.items) no_members ≡ Some ms → TakesMember (λ m. members_view m.entries) name.now ms result }
+    ensures { (ms : Members) → of_members (json_members members.entry.items) no_members ≡ Some ms
+        → TakesMember (λ m. members_view m.entries) name.now ms result }
 {
     let others = match others_in(alloc, &members, name) {
         Ok(others) => others,

@@ -25,7 +25,8 @@ pub fn canonical(alloc: Global, value: &Value) -> Result<Vec<u8>, CjsonError>
     ensures err { IfErr result (λ e. IsRefused (view value.now) e) }
     ensures only { (t : List ℕ) → Canon (view value.now) t → IsTextOrMemory t result }
     ensures text { IfOk result (λ t. canonical_of (view value.now) ≡ Some t.items) }
-    ensures none { IfErr result (λ e. e ≢ CjsonError.Memory → canonical_of (view value.now) ≡ None) }
+    ensures none { IfErr result
+        (λ e. e ≢ CjsonError.Memory → canonical_of (view value.now) ≡ None) }
     ensures float { has_float (view value.now) ≡ true → result ≡ Err CjsonError.Float }
     ensures small { has_float (view value.now) ≡ false → IsSmall (view value.now) }
 {

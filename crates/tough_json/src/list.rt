@@ -73,7 +73,8 @@ pub fn list<T: FromJson + Drop>(
     members: &mut Map<String, Value>,
     name: &str,
 ) -> Result<Vec<T>, ReadError>
-    ensures { Takes (λ v. map T.doc v.items) result (members_view members.new.entries) (required name.now (listing T.at) (members_view members.old.entries)) }
+    ensures { Takes (λ v. map T.doc v.items) result (members_view members.new.entries)
+        (required name.now (listing T.at) (members_view members.old.entries)) }
 {
     match take(members, name) {
         Some(Value::Array(items)) => match list_of(alloc, items) {

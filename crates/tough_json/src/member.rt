@@ -12,8 +12,10 @@ use std::num::NonZeroU64;
 use tough_base::{Decode, DecodeError, Decoded, Hex};
 
 fn remove(members: &mut Map<String, Value>, name: &str) -> Option<Value>
-    ensures value { option_map view result ≡ get_member name.now (members_view members.old.entries) }
-    ensures left { members_view members.new.entries ≡ without name.now (members_view members.old.entries) }
+    ensures value { option_map view result
+        ≡ get_member name.now (members_view members.old.entries) }
+    ensures left { members_view members.new.entries
+        ≡ without name.now (members_view members.old.entries) }
 {
     members.remove(name)
 }
@@ -29,8 +31,10 @@ fn trim(members: &mut Map<String, Value>)
 
 // Takes a member out.
 pub fn take(members: &mut Map<String, Value>, name: &str) -> Option<Value>
-    ensures value { option_map view result ≡ get_member name.now (members_view members.old.entries) }
-    ensures left { members_view members.new.entries ≡ without name.now (members_view members.old.entries) }
+    ensures value { option_map view result
+        ≡ get_member name.now (members_view members.old.entries) }
+    ensures left { members_view members.new.entries
+        ≡ without name.now (members_view members.old.entries) }
 {
     let found = remove(members, name);
     trim(members);
@@ -43,7 +47,8 @@ pub fn text(
     members: &mut Map<String, Value>,
     name: &str,
 ) -> Result<String, ReadError>
-    ensures { Takes string_bytes result (members_view members.new.entries) (required name.now text (members_view members.old.entries)) }
+    ensures { Takes string_bytes result (members_view members.new.entries)
+        (required name.now text (members_view members.old.entries)) }
 {
     match take(members, name) {
         Some(Value::String(text)) => Ok(text),
@@ -57,7 +62,8 @@ pub fn positive(
     members: &mut Map<String, Value>,
     name: &str,
 ) -> Result<NonZeroU64, ReadError>
-    ensures { Takes non_zero_u64_get result (members_view members.new.entries) (required name.now positive (members_view members.old.entries)) }
+    ensures { Takes non_zero_u64_get result (members_view members.new.entries)
+        (required name.now positive (members_view members.old.entries)) }
 {
     let Some(number) = take(members, name).and_then(|value| value.as_u64()) else {
         return Err(member_shape(alloc, name, "(no number from 1 on)"));
@@ -71,7 +77,8 @@ pub fn positive(
 // A member that is there and not null.
 pub fn present(members: &mut Map<String, Value>, name: &str) -> Option<Value>
     ensures value { option_map view result ≡ present name.now (members_view members.old.entries) }
-    ensures left { members_view members.new.entries ≡ without name.now (members_view members.old.entries) }
+    ensures left { members_view members.new.entries
+        ≡ without name.now (members_view members.old.entries) }
 {
     match take(members, name) {
         Some(Value::Null) => None,
@@ -85,7 +92,8 @@ pub fn length(
     members: &mut Map<String, Value>,
     name: &str,
 ) -> Result<Option<u64>, ReadError>
-    ensures { Takes (λ n. n) result (members_view members.new.entries) (optional name.now whole (members_view members.old.entries)) }
+    ensures { Takes (λ n. n) result (members_view members.new.entries)
+        (optional name.now whole (members_view members.old.entries)) }
 {
     match present(members, name) {
         None => Ok(None),
@@ -102,7 +110,8 @@ pub fn decoded<T: Decode>(
     members: &mut Map<String, Value>,
     name: &str,
 ) -> Result<Decoded<T>, ReadError>
-    ensures { Takes (λ d. d) result (members_view members.new.entries) (required name.now (decoded T.decodes) (members_view members.old.entries)) }
+    ensures { Takes (λ d. d) result (members_view members.new.entries)
+        (required name.now (decoded T.decodes) (members_view members.old.entries)) }
 {
     match take(members, name) {
         Some(Value::String(text)) => match Decoded::from_str(alloc, text.as_str()) {
@@ -120,7 +129,8 @@ pub fn hexadecimal(
     members: &mut Map<String, Value>,
     name: &str,
 ) -> Result<Decoded<Hex>, ReadError>
-    ensures { Takes (λ d. d) result (members_view members.new.entries) (required name.now hexadecimal (members_view members.old.entries)) }
+    ensures { Takes (λ d. d) result (members_view members.new.entries)
+        (required name.now hexadecimal (members_view members.old.entries)) }
 {
     decoded(alloc, members, name)
 }
@@ -131,7 +141,8 @@ pub fn instant(
     members: &mut Map<String, Value>,
     name: &str,
 ) -> Result<jiff::Timestamp, ReadError>
-    ensures { Takes (λ t. t.nanosecond) result (members_view members.new.entries) (required name.now instant (members_view members.old.entries)) }
+    ensures { Takes (λ t. t.nanosecond) result (members_view members.new.entries)
+        (required name.now instant (members_view members.old.entries)) }
 {
     match take(members, name) {
         Some(Value::String(text)) => match text.as_str().parse::<jiff::Timestamp>() {
@@ -148,7 +159,8 @@ pub fn value(
     members: &mut Map<String, Value>,
     name: &str,
 ) -> Result<Value, ReadError>
-    ensures { Takes view result (members_view members.new.entries) (required name.now Some (members_view members.old.entries)) }
+    ensures { Takes view result (members_view members.new.entries)
+        (required name.now Some (members_view members.old.entries)) }
 {
     match take(members, name) {
         Some(value) => Ok(value),
@@ -162,7 +174,8 @@ pub fn object(
     members: &mut Map<String, Value>,
     name: &str,
 ) -> Result<Map<String, Value>, ReadError>
-    ensures { Takes (λ m. members_view m.entries) result (members_view members.new.entries) (required name.now as_object (members_view members.old.entries)) }
+    ensures { Takes (λ m. members_view m.entries) result (members_view members.new.entries)
+        (required name.now as_object (members_view members.old.entries)) }
 {
     match take(members, name) {
         Some(Value::Object(inner)) => Ok(inner),
@@ -176,7 +189,8 @@ pub fn list(
     members: &mut Map<String, Value>,
     name: &str,
 ) -> Result<Vec<Value>, ReadError>
-    ensures { Takes (λ v. items_view v.items) result (members_view members.new.entries) (required name.now as_items (members_view members.old.entries)) }
+    ensures { Takes (λ v. items_view v.items) result (members_view members.new.entries)
+        (required name.now as_items (members_view members.old.entries)) }
 {
     match take(members, name) {
         Some(Value::Array(items)) => Ok(items),
@@ -186,7 +200,8 @@ pub fn list(
 
 // A truth value that must be there.
 pub fn truth(alloc: Global, members: &mut Map<String, Value>, name: &str) -> Result<bool, ReadError>
-    ensures { Takes (λ b. b) result (members_view members.new.entries) (required name.now truth (members_view members.old.entries)) }
+    ensures { Takes (λ b. b) result (members_view members.new.entries)
+        (required name.now truth (members_view members.old.entries)) }
 {
     match take(members, name) {
         Some(Value::Bool(found)) => Ok(found),

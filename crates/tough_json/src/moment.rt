@@ -53,7 +53,8 @@ fn push_date(out: &mut String, date: Date) -> Result<(), AllocError>
 fn push_places(out: &mut String, count: u8, nanoseconds: u32) -> Result<(), AllocError>
     requires few { count ≤ 9 }
     requires fraction { nanoseconds < 1_000_000_000 }
-    ensures { OnOk result (string_bytes out.new ≡ string_bytes out.old ++ places count 1_000_000_000 nanoseconds) }
+    ensures { OnOk result (string_bytes out.new
+        ≡ string_bytes out.old ++ places count 1_000_000_000 nanoseconds) }
 {
     let mut left = nanoseconds;
     let mut place = 1_000_000_000;
@@ -67,7 +68,8 @@ fn push_places(out: &mut String, count: u8, nanoseconds: u32) -> Result<(), Allo
 
 // The hour, minute and second, and the decimals that are needed.
 fn push_time(out: &mut String, time: Time) -> Result<(), AllocError>
-    ensures { OnOk result (string_bytes out.new ≡ string_bytes out.old ++ time_text (decimals time.subsec_nanosecond) time) }
+    ensures { OnOk result (string_bytes out.new
+        ≡ string_bytes out.old ++ time_text (decimals time.subsec_nanosecond) time) }
 {
     push_two(out, time.hour() as u8)?;
     out.push(':')?;
@@ -126,5 +128,6 @@ pub fn moment_text(alloc: Global, instant: Timestamp) -> Result<String, MomentEr
 pub fn moment_laws()
     ensures shown { (z : ℤ) (text : List ℕ) → (moment_text z ≡ Some text) ↔ IsMoment z text }
     ensures before { (z : ℤ) → IsBeforeAll z → moment_text z ≡ None }
-    ensures back { (z : ℤ) (text : List ℕ) → IsTimestampNanos z → moment_text z ≡ Some text → parse_timestamp text ≡ Ok z }
+    ensures back { (z : ℤ) (text : List ℕ) → IsTimestampNanos z → moment_text z ≡ Some text
+        → parse_timestamp text ≡ Ok z }
 {}

@@ -110,7 +110,8 @@ fn append_piece(
     name: &str,
     text: &[u8],
 ) -> Result<(), AllocError>
-    ensures { OnOk result (out.new.items ≡ out.old.items ++ ((if is_first then [] else 44 ∷ []) ++ piece name.now text.now)) }
+    ensures { OnOk result (out.new.items
+        ≡ out.old.items ++ ((if is_first then [] else 44 ∷ []) ++ piece name.now text.now)) }
 {
     if !is_first {
         out.extend_from_slice(b",")?;
@@ -148,7 +149,8 @@ impl ObjectText {
     /// One more member, behind the others. `Refused` where the value has no text, or the name isn't ASCII, has a control
     /// character, a quote or a backslash, or isn't above those before it by its bytes.
     pub fn push(&mut self, alloc: Global, name: &str, value: &Value) -> Result<(), PieceError>
-        ensures { OnOk result ((form : Kind) (ms : Members) → Stands form ms self.old → AreBelow name.now ms × Stands form (and_last ms name.now (view value.now)) self.new) }
+        ensures { OnOk result ((form : Kind) (ms : Members) → Stands form ms self.old
+            → AreBelow name.now ms × Stands form (and_last ms name.now (view value.now)) self.new) }
     {
         let text = text_in(alloc, self.form, value)?;
         self.push_text(name, text.as_slice())
@@ -156,7 +158,9 @@ impl ObjectText {
 
     /// The same, where the text of the value is known.
     pub fn push_text(&mut self, name: &str, text: &[u8]) -> Result<(), PieceError>
-        ensures { OnOk result ((form : Kind) (ms : Members) (d : Data) → Stands form ms self.old → text_in form d ≡ Some text.now → AreBelow name.now ms × Stands form (and_last ms name.now d) self.new) }
+        ensures { OnOk result ((form : Kind) (ms : Members) (d : Data) → Stands form ms self.old
+            → text_in form d ≡ Some text.now → AreBelow name.now ms
+            × Stands form (and_last ms name.now d) self.new) }
     {
         if !is_simple(name) {
             return Err(PieceError::Refused);
@@ -173,7 +177,8 @@ impl ObjectText {
 
     /// The text of the object of these members.
     pub fn finish(self) -> Result<Vec<u8>, AllocError>
-        ensures { IfOk result (λ t. (form : Kind) (ms : Members) → Stands form ms self → text_in form (object ms) ≡ Some t.items) }
+        ensures { IfOk result (λ t. (form : Kind) (ms : Members) → Stands form ms self
+            → text_in form (object ms) ≡ Some t.items) }
     {
         let ObjectText { mut text, .. } = self;
         text.extend_from_slice(b"}")?;
@@ -190,7 +195,9 @@ pub fn object_with(
     name: &str,
     text: &[u8],
 ) -> Result<Vec<u8>, PieceError>
-    ensures { IfOk result (λ t. (d : Data) → text_in form d ≡ Some text.now → text_in form (object (replaced name.now d (members_view members.now.entries))) ≡ Some t.items) }
+    ensures { IfOk result (λ t. (d : Data) → text_in form d ≡ Some text.now
+        → text_in form (object (replaced name.now d
+        (members_view members.now.entries))) ≡ Some t.items) }
 {
     let mut object = ObjectText::new(alloc, form)?;
     for (key, member) in members.iter() {

@@ -30,7 +30,8 @@ pub fn table_of<K: Ord + Drop, T: FromEntry<K> + Drop>(
     alloc: Global,
     members: Map<String, Value>,
 ) -> Result<BTreeMap<K, T>, ReadError>
-    ensures { Reads (λ m. map (λ e. (e.0, T.doc e.1)) m.entries) result (table_from (λ there. true) K.cmp T.at [] (members_view members.entries)) }
+    ensures { Reads (λ m. map (λ e. (e.0, T.doc e.1)) m.entries) result
+        (table_from (λ there. true) K.cmp T.at [] (members_view members.entries)) }
 {
     let mut table = BTreeMap::new(alloc);
     for (name, value) in members {

@@ -24,8 +24,10 @@ pub fn value_of(alloc: Global, bytes: &[u8]) -> Result<Value, ReadError>
 
 /// The value as compact JSON; where it nests no deeper than is read, it is read as this value.
 pub fn bytes_of(alloc: Global, value: &Value) -> Result<Vec<u8>, AllocError>
-    ensures text { IfOk result (λ b. has_float (view value.now) ≡ false → b.items ≡ compact_text (view value.now)) }
-    ensures back { IfOk result (λ b. depth (view value.now) ≤ max_depth → json_of b.items ≡ Some (view value.now)) }
+    ensures text { IfOk result
+        (λ b. has_float (view value.now) ≡ false → b.items ≡ compact_text (view value.now)) }
+    ensures back { IfOk result
+        (λ b. depth (view value.now) ≤ max_depth → json_of b.items ≡ Some (view value.now)) }
 {
     let text = value.to_string(alloc)?;
     Ok(text.into_bytes())

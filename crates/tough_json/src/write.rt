@@ -26,7 +26,8 @@ pub fn with(
     name: &str,
     value: Value,
 ) -> Result<Map<String, Value>, WriteError>
-    ensures { Writes (λ m. members_view m.entries) result (with name.now (view value) (members_view members.entries)) }
+    ensures { Writes (λ m. members_view m.entries) result
+        (with name.now (view value) (members_view members.entries)) }
 {
     if !is_free(&members, name) {
         return Err(WriteError::Unwritable);
@@ -42,7 +43,8 @@ pub fn with_optional(
     name: &str,
     value: Option<Value>,
 ) -> Result<Map<String, Value>, WriteError>
-    ensures { Writes (λ m. members_view m.entries) result (with_optional name.now (option_map view value) (members_view members.entries)) }
+    ensures { Writes (λ m. members_view m.entries) result
+        (with_optional name.now (option_map view value) (members_view members.entries)) }
 {
     match value {
         Some(value) => with(alloc, members, name, value),
@@ -80,7 +82,8 @@ pub fn with_text(
     name: &str,
     text: &str,
 ) -> Result<Map<String, Value>, WriteError>
-    ensures { Writes (λ m. members_view m.entries) result (with name.now (string text.now) (members_view members.entries)) }
+    ensures { Writes (λ m. members_view m.entries) result
+        (with name.now (string text.now) (members_view members.entries)) }
 {
     let value = Value::String(String::from_str(alloc, text)?);
     with(alloc, members, name, value)
@@ -93,7 +96,8 @@ pub fn put(
     name: &str,
     value: Value,
 ) -> Result<(), AllocError>
-    ensures { OnOk result (members_view members.new.entries ≡ put name.now (view value) (members_view members.old.entries)) }
+    ensures { OnOk result (members_view members.new.entries
+        ≡ put name.now (view value) (members_view members.old.entries)) }
 {
     drop(members.insert(String::from_str(alloc, name)?, value)?);
     Ok(())

@@ -22,7 +22,8 @@ pub fn copy(members: &Map<String, Value>) -> Result<Map<String, Value>, AllocErr
 }
 
 impl Clone for RsaKey {
-    ghost is_clone = { λ k c. (c.public ≡ k.public) × (members_view c._extra.entries ≡ members_view k._extra.entries) };
+    ghost is_clone = { λ k c. (c.public ≡ k.public)
+        × (members_view c._extra.entries ≡ members_view k._extra.entries) };
 
     fn clone(&self) -> Result<RsaKey, AllocError> {
         let public = self.public.clone()?;
@@ -32,7 +33,8 @@ impl Clone for RsaKey {
 }
 
 impl Clone for Ed25519Key {
-    ghost is_clone = { λ k c. (c.public ≡ k.public) × (members_view c._extra.entries ≡ members_view k._extra.entries) };
+    ghost is_clone = { λ k c. (c.public ≡ k.public)
+        × (members_view c._extra.entries ≡ members_view k._extra.entries) };
 
     fn clone(&self) -> Result<Ed25519Key, AllocError> {
         let public = self.public.clone()?;
@@ -42,7 +44,8 @@ impl Clone for Ed25519Key {
 }
 
 impl Clone for EcdsaKey {
-    ghost is_clone = { λ k c. (c.public ≡ k.public) × (members_view c._extra.entries ≡ members_view k._extra.entries) };
+    ghost is_clone = { λ k c. (c.public ≡ k.public)
+        × (members_view c._extra.entries ≡ members_view k._extra.entries) };
 
     fn clone(&self) -> Result<EcdsaKey, AllocError> {
         let public = self.public.clone()?;

@@ -13,7 +13,8 @@ use tough_json::error::{ReadError, member_shape, shape, within};
 use tough_json::member::{decoded, take};
 
 fn keytype(alloc: Global, members: &mut Map<String, Value>, name: &str) -> Result<Kind, ReadError>
-    ensures { Takes (λ k. k) result (members_view members.new.entries) (required name.now kind_at (members_view members.old.entries)) }
+    ensures { Takes (λ k. k) result (members_view members.new.entries)
+        (required name.now kind_at (members_view members.old.entries)) }
 {
     match take(members, name) {
         Some(Value::String(text)) => match Kind::of(text.as_str()) {
@@ -30,7 +31,8 @@ fn scheme(
     name: &str,
     kind: Kind,
 ) -> Result<(), ReadError>
-    ensures { Takes (λ k. k) result (members_view members.new.entries) (required name.now (scheme_at kind) (members_view members.old.entries)) }
+    ensures { Takes (λ k. k) result (members_view members.new.entries)
+        (required name.now (scheme_at kind) (members_view members.old.entries)) }
 {
     match take(members, name) {
         Some(Value::String(text)) => {
@@ -49,7 +51,8 @@ fn keyval_of<T: Decode>(
     alloc: Global,
     value: Value,
 ) -> Result<(Decoded<T>, Map<String, Value>), ReadError>
-    ensures { Reads (λ p. (p.0, members_view p.1.entries)) result (keyval_at T.decodes (view value)) }
+    ensures { Reads (λ p. (p.0, members_view p.1.entries)) result
+        (keyval_at T.decodes (view value)) }
 {
     let Value::Object(mut members) = value else {
         return Err(shape(alloc, "(no object)"));
@@ -63,7 +66,8 @@ fn keyval<T: Decode>(
     members: &mut Map<String, Value>,
     name: &str,
 ) -> Result<(Decoded<T>, Map<String, Value>), ReadError>
-    ensures { Takes (λ p. (p.0, members_view p.1.entries)) result (members_view members.new.entries) (required name.now (keyval_at T.decodes) (members_view members.old.entries)) }
+    ensures { Takes (λ p. (p.0, members_view p.1.entries)) result (members_view members.new.entries)
+        (required name.now (keyval_at T.decodes) (members_view members.old.entries)) }
 {
     match take(members, name) {
         Some(value) => match keyval_of(alloc, value) {

@@ -17,7 +17,8 @@ fn keyval_value<T: Decode>(
     public: &Decoded<T>,
     extra: &Map<String, Value>,
 ) -> Result<Value, WriteError>
-    ensures { Writes view result (keyval_json T.decodes public.now (members_view extra.now.entries)) }
+    ensures { Writes view result
+        (keyval_json T.decodes public.now (members_view extra.now.entries)) }
 {
     let value = digits(alloc, public)?;
     let members = with(alloc, copy_members(alloc, extra)?, "public", value)?;

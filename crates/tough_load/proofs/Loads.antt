@@ -1,7 +1,7 @@
 -- How what a load may come to follows from one step of it.
 use Rattle.std.specs.Prelude.{◌≡◌, ℕ, List, [], ◌∷◌, Result, Option, Some, None, IfSome, IsSome, Vec, option_map}
 use Rattle.std.specs.declared.alloc.Global.{Global}
-use Rattle.std.proofs.Common.{refl, sym, ◌∙◌, inl, inr, subst}
+use Rattle.std.proofs.Common.{refl, sym, ap, ◌∙◌, inl, inr, subst}
 use Rattle.url.specs.Parts.{Parts}
 use Rattle.futures.specs.Runs.{Runs}
 use Rattle.tough_keys.specs.Same.{Verifies}
@@ -18,16 +18,21 @@ use Rattle.tough_update.specs.Stages.{LoadedDoc, CoreDoc, Taken}
 use Rattle.tough_update.specs.Questions.{Question}
 use Rattle.tough_update.specs.Questions as ask
 use Rattle.tough_update.specs.Answered.{AnswerDoc}
-use Rattle.tough_update.specs.View.{core_doc}
+use Rattle.tough_update.specs.Counts.{with_fetch, with_tree}
+use Rattle.tough_update.specs.Counted.{Counted, turned}
+use Rattle.tough_update.specs.View.{core_doc, counts_of}
+use Rattle.tough_update.specs.declared.machine.Core.{Core}
 use Rattle.tough_update.specs.Machine.{question}
 use Rattle.tough_update.specs.Promises.{Goes, ended}
 use Rattle.tough_vault.specs.Act.{Act}
 use Rattle.tough_load.specs.Fetching.{Comes, IsStarted, answer_of, bounds}
 use Rattle.tough_load.specs.declared.load.Load.{Load}
 use Rattle.tough_load.specs.Loading.{Allows, Reaches, Walks}
+use Rattle.tough_load.specs.Counting.{HasCounted, EndsCounting}
 use Rattle.tough_load.specs.Advancing.{MayReach, MayGive, Stays, Advances, Finishes}
 use Rattle.tough_load.specs.Words.{transport_of, base_of, verifier_of, settings_of, keeper_of, core_of, fetch_of}
 use Rattle.tough_load.proofs.Trails.{Walks_same, Walks_step, Walks-trans}
+use Rattle.tough_load.proofs.Going.{keeps-setting, done-at}
 
 module _ {T S K : Type 0} (refuses : T → Parts → TransportError → Type 0) (serves : T → Parts → Runs Item) (keeps : Verifies → K → Act → Result Receipt StepError → K → Type 0) (yields : S → Runs Item)
     (verifies : Verifies) (base : Parts) (t : T) where
@@ -62,6 +67,10 @@ module _ {T S K : Type 0} (refuses : T → Parts → TransportError → Type 0) 
 at_equal : {X Y Z : Type 0} (P : X → Y → Z → Type 0) (x x' : X) (y y' : Y) (z z' : Z) → x ≡ x' → y ≡ y' → z ≡ z' → P x y z → P x' y' z'
 at_equal P x x' y y' z z' e f g h = subst (λ w. P x' y' w) g (subst (λ w. P x' w z) f (subst (λ w. P w y z) e h))
 
+-- an answer is counted
+counts-on : (v : Verifies) (old new : Core) (a : AnswerDoc) → Goes v (core_doc old) a (core_doc new) → counts_of new ≡ with_tree (core_doc new).stage (with_fetch (core_doc old).stage a (counts_of old)) → HasCounted v old → HasCounted v new
+counts-on v old new a goes counts h = subst (λ n. Counted v (core_doc new) n) (sym counts) (turned (core_doc old) (core_doc new) (counts_of old) a h goes)
+
 module _ {T K : Type 0} (refuses : T → Parts → TransportError → Type 0) (serves : T → Parts → Runs Item) (keeps : Verifies → K → Act → Result Receipt StepError → K → Type 0) {S : Type 0} (yields : S → Runs Item) where
   pub allows-walks : (v : Verifies) (base : Parts) (t : T) (q : Question) (k : K) (a : AnswerDoc) (next : K) → Allows refuses serves keeps yields v base t q k a next → Walks keeps v k next
   allows-walks v base t ask.Moment k a next h = Walks_same keeps v k next h.1
@@ -81,16 +90,22 @@ module _ {T K C V S : Type 0} (refuses : T → Parts → TransportError → Type
     -- an answer that was allowed
     pub by-answer : (a : AnswerDoc) → fetch_of old ≡ None → fetch_of new ≡ None
         → Allows refuses serves keeps yields (verifies (verifier_of old)) (base_of old) (transport_of old) (question (core_doc (core_of old))) (keeper_of old) a (keeper_of new)
-        → Goes (verifies (verifier_of old)) (core_doc (core_of old)) a (core_doc (core_of new)) → Advances refuses serves keeps yields verifies old new
-    by-answer a idle none allowed goes = record {
-      stays = record { transport = tr; base = ba; verifier = ve; settings = se; walked = allows-walks refuses serves keeps yields (verifies (verifier_of old)) (base_of old) (transport_of old) (question (core_doc (core_of old))) (keeper_of old) a (keeper_of new) allowed };
+        → Goes (verifies (verifier_of old)) (core_doc (core_of old)) a (core_doc (core_of new))
+        → counts_of (core_of new) ≡ with_tree (core_doc (core_of new)).stage (with_fetch (core_doc (core_of old)).stage a (counts_of (core_of old)))
+        → Advances refuses serves keeps yields verifies old new
+    by-answer a idle none allowed goes counts = record {
+      stays = record { transport = tr; base = ba; verifier = ve; settings = se; setting = keeps-setting (verifies (verifier_of old)) (core_doc (core_of old)) a (core_doc (core_of new)) goes; walked = allows-walks refuses serves keeps yields (verifies (verifier_of old)) (base_of old) (transport_of old) (question (core_doc (core_of old))) (keeper_of old) a (keeper_of new) allowed };
       follows = λ c k h. Reaches_answer refuses serves keeps yields (verifies (verifier_of old)) (base_of old) (transport_of old) (fetch_of old) a (core_doc (core_of old)) (core_doc (core_of new)) (keeper_of old) (keeper_of new) c k idle allowed goes
           (subst (λ f. Reaches refuses serves keeps yields (verifies (verifier_of old)) (base_of old) (transport_of old) f (core_doc (core_of new)) (keeper_of new) c k) (none ∙ sym idle) (at_old (fetch_of new) (core_doc (core_of new)) (keeper_of new) c k h));
+      counted = counts-on (verifies (verifier_of old)) (core_of old) (core_of new) a goes counts;
     }
 
     module _ (ke : keeper_of new ≡ keeper_of old) (f' : Collect S) (running : fetch_of new ≡ Some f') where
-      kept : Stays refuses serves keeps yields verifies old new
-      kept = record { transport = tr; base = ba; verifier = ve; settings = se; walked = Walks_same keeps (verifies (verifier_of old)) (keeper_of old) (keeper_of new) ke }
+      kept : core_of new ≡ core_of old → Stays refuses serves keeps yields verifies old new
+      kept co = record { transport = tr; base = ba; verifier = ve; settings = se; setting = ap (λ m. (core_doc m).setting) co; walked = Walks_same keeps (verifies (verifier_of old)) (keeper_of old) (keeper_of new) ke }
+
+      still : core_of new ≡ core_of old → HasCounted (verifies (verifier_of old)) (core_of old) → HasCounted (verifies (verifier_of old)) (core_of new)
+      still co h = subst (HasCounted (verifies (verifier_of old))) (sym co) h
 
       at_fetch : (c : CoreDoc) (k : K) → core_of new ≡ core_of old → MayReach refuses serves keeps yields verifies new c k
           → Reaches refuses serves keeps yields (verifies (verifier_of old)) (base_of old) (transport_of old) (Some f') (core_doc (core_of old)) (keeper_of old) c k
@@ -100,38 +115,45 @@ module _ {T K C V S : Type 0} (refuses : T → Parts → TransportError → Type
       -- a fetch begins
       pub by-start : (r : RequestDoc) → core_of new ≡ core_of old → fetch_of old ≡ None → question (core_doc (core_of old)) ≡ ask.Fetch r → IsStarted serves yields (transport_of old) (base_of old) r f' → Advances refuses serves keeps yields verifies old new
       by-start r co idle asked s = record {
-        stays = kept;
+        stays = kept co;
         follows = λ c k h. Reaches_started refuses serves keeps yields (verifies (verifier_of old)) (base_of old) (transport_of old) (fetch_of old) f' r (core_doc (core_of old)) (keeper_of old) c k idle asked s (at_fetch c k co h);
+        counted = still co;
       }
 
       -- the fetch goes on
       pub by-poll : (f : Collect S) → core_of new ≡ core_of old → fetch_of old ≡ Some f → ((r : Result (Vec ℕ Global) TransportError) → Comes yields f' r → Comes yields f r) → Advances refuses serves keeps yields verifies old new
       by-poll f co is same = record {
-        stays = kept;
+        stays = kept co;
         follows = λ c k h. Reaches_pending refuses serves keeps yields (verifies (verifier_of old)) (base_of old) (transport_of old) (fetch_of old) f f' (core_doc (core_of old)) (keeper_of old) c k is same (at_fetch c k co h);
+        counted = still co;
       }
 
     -- the fetch is done
     pub by-end : (f : Collect S) (outcome : Result (Vec ℕ Global) TransportError) (a : AnswerDoc) → keeper_of new ≡ keeper_of old → fetch_of old ≡ Some f → fetch_of new ≡ None → Comes yields f outcome → a ≡ answer_of outcome
-        → Goes (verifies (verifier_of old)) (core_doc (core_of old)) a (core_doc (core_of new)) → Advances refuses serves keeps yields verifies old new
-    by-end f outcome a ke is none came e goes = record {
-      stays = record { transport = tr; base = ba; verifier = ve; settings = se; walked = Walks_same keeps (verifies (verifier_of old)) (keeper_of old) (keeper_of new) ke };
+        → Goes (verifies (verifier_of old)) (core_doc (core_of old)) a (core_doc (core_of new))
+        → counts_of (core_of new) ≡ with_tree (core_doc (core_of new)).stage (with_fetch (core_doc (core_of old)).stage a (counts_of (core_of old)))
+        → Advances refuses serves keeps yields verifies old new
+    by-end f outcome a ke is none came e goes counts = record {
+      stays = record { transport = tr; base = ba; verifier = ve; settings = se; setting = keeps-setting (verifies (verifier_of old)) (core_doc (core_of old)) a (core_doc (core_of new)) goes; walked = Walks_same keeps (verifies (verifier_of old)) (keeper_of old) (keeper_of new) ke };
       follows = λ c k h. Reaches_came refuses serves keeps yields (verifies (verifier_of old)) (base_of old) (transport_of old) (fetch_of old) f outcome a (core_doc (core_of old)) (core_doc (core_of new)) (keeper_of old) c k is came e goes
           (subst (λ x. Reaches refuses serves keeps yields (verifies (verifier_of old)) (base_of old) (transport_of old) None (core_doc (core_of new)) x c k) ke
           (subst (λ x. Reaches refuses serves keeps yields (verifies (verifier_of old)) (base_of old) (transport_of old) x (core_doc (core_of new)) (keeper_of new) c k) none (at_old (fetch_of new) (core_doc (core_of new)) (keeper_of new) c k h)));
+      counted = counts-on (verifies (verifier_of old)) (core_of old) (core_of new) a goes counts;
     }
 
     -- nothing more is asked
     pub by-outcome : {X : Type 0} (view : X → Result LoadedDoc Failure) (o : Option X) → keeper_of new ≡ keeper_of old → fetch_of old ≡ None → option_map view o ≡ ended (core_doc (core_of old)).stage
-        → (IsSome o → core_doc (core_of new) ≡ record { setting = (core_doc (core_of old)).setting; stage = Taken }) → IfSome o (λ r. Finishes refuses serves keeps yields verifies old (view r) new)
-    by-outcome view None ke idle e l = tt
-    by-outcome view (Some r) ke idle e l = record {
-      stays = record { transport = tr; base = ba; verifier = ve; settings = se; walked = Walks_same keeps (verifies (verifier_of old)) (keeper_of old) (keeper_of new) ke };
+        → (IsSome o → core_doc (core_of new) ≡ record { setting = (core_doc (core_of old)).setting; stage = Taken }) → counts_of (core_of new) ≡ counts_of (core_of old)
+        → IfSome o (λ r. Finishes refuses serves keeps yields verifies old (view r) new)
+    by-outcome view None ke idle e l counts = tt
+    by-outcome view (Some r) ke idle e l counts = record {
+      stays = record { transport = tr; base = ba; verifier = ve; settings = se; setting = ap (λ (d : CoreDoc). d.setting) (l refl); walked = Walks_same keeps (verifies (verifier_of old)) (keeper_of old) (keeper_of new) ke };
       ends = (core_doc (core_of old), rw idle ([], (refl, ke)), sym e, l refl);
+      counted = λ h. record { last = core_doc (core_of old); counted = subst (λ n. Counted (verifies (verifier_of old)) (core_doc (core_of old)) n) (sym counts) h; setting_is = refl; ended = done-at (core_doc (core_of old)).stage (view r) (sym e) };
     }
 
   pub advances-same : (l : Load T K C V S) → Advances refuses serves keeps yields verifies l l
-  advances-same l = record { stays = record { transport = refl; base = refl; verifier = refl; settings = refl; walked = Walks_same keeps (verifies (verifier_of l)) (keeper_of l) (keeper_of l) refl }; follows = λ c k h. h }
+  advances-same l = record { stays = record { transport = refl; base = refl; verifier = refl; settings = refl; setting = refl; walked = Walks_same keeps (verifies (verifier_of l)) (keeper_of l) (keeper_of l) refl }; follows = λ c k h. h; counted = λ h. h }
 
   module _ (a b c : Load T K C V S) where
     stays-trans : Stays refuses serves keeps yields verifies a b → Stays refuses serves keeps yields verifies b c → Stays refuses serves keeps yields verifies a c
@@ -140,16 +162,26 @@ module _ {T K C V S : Type 0} (refuses : T → Parts → TransportError → Type
       base = g.base ∙ f.base;
       verifier = g.verifier ∙ f.verifier;
       settings = g.settings ∙ f.settings;
+      setting = g.setting ∙ f.setting;
       walked = Walks-trans keeps (verifies (verifier_of a)) (keeper_of a) (keeper_of b) (keeper_of c) f.walked (subst (λ v. Walks keeps (verifies v) (keeper_of b) (keeper_of c)) f.verifier g.walked);
     }
 
+    -- what the second has counted, by its own verifier
+    counts-at : Advances refuses serves keeps yields verifies a b → HasCounted (verifies (verifier_of a)) (core_of a) → HasCounted (verifies (verifier_of b)) (core_of b)
+    counts-at f h = subst (λ v. HasCounted (verifies v) (core_of b)) (sym f.stays.verifier) (f.counted h)
+
     pub advances-trans : Advances refuses serves keeps yields verifies a b → Advances refuses serves keeps yields verifies b c → Advances refuses serves keeps yields verifies a c
-    advances-trans f g = record { stays = stays-trans f.stays g.stays; follows = λ d k h. f.follows d k (g.follows d k h) }
+    advances-trans f g = record { stays = stays-trans f.stays g.stays; follows = λ d k h. f.follows d k (g.follows d k h); counted = λ h. subst (λ v. HasCounted (verifies v) (core_of c)) f.stays.verifier (g.counted (counts-at f h)) }
 
     pub finishes-after : (o : Result LoadedDoc Failure) → Advances refuses serves keeps yields verifies a b → Finishes refuses serves keeps yields verifies b o c → Finishes refuses serves keeps yields verifies a o c
     finishes-after o f h =
         let e = h.ends in
-        record { stays = stays-trans f.stays h.stays; ends = (e.0, f.follows e.0 (keeper_of c) e.1, e.2, e.3) }
+        record {
+          stays = stays-trans f.stays h.stays;
+          ends = (e.0, f.follows e.0 (keeper_of c) e.1, e.2, e.3);
+          counted = λ had. subst (λ s. EndsCounting (verifies (verifier_of a)) s o (counts_of (core_of c))) f.stays.setting
+              (subst (λ v. EndsCounting (verifies v) (core_doc (core_of b)).setting o (counts_of (core_of c))) f.stays.verifier (h.counted (counts-at f had)));
+        }
 
     pub gives-after : (o : Result LoadedDoc Failure) → Advances refuses serves keeps yields verifies a b → MayGive refuses serves keeps yields verifies b o → MayGive refuses serves keeps yields verifies a o
     gives-after o f h =

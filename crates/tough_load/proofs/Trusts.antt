@@ -22,13 +22,13 @@ use Rattle.tough_update.specs.Questions as ask
 use Rattle.tough_update.specs.Answered.{AnswerDoc}
 use Rattle.tough_update.specs.Answered as got
 use Rattle.tough_update.specs.Machine.{question, question_at}
-use Rattle.tough_update.specs.Promises.{Goes, ended}
 use Rattle.tough_update.specs.Runs.{Keeps, run, Along, IsFresh}
 use Rattle.tough_update.proofs.lemmas.Whole.{loaded}
 use Rattle.tough_vault.specs.Act.{Act, CheckedIfOk}
 use Rattle.tough_load.specs.Fetching.{Fetches, bounds}
 use Rattle.tough_load.specs.Loading.{Allows, Leads, Ends}
 use Rattle.tough_load.specs.Vouching.{Vouches}
+use Rattle.tough_load.proofs.Going.{keeps-setting, done-at}
 
 both-true : (b c : Bool) → b ≡ true → c ≡ true → IsTrue (b && c)
 both-true true c h k = k
@@ -43,10 +43,6 @@ digest-has (Some d) bytes h = (bytes_eq-Decides (sha256 bytes) d).1 h
 
 fits-true : (url : Parts) (r : RequestDoc) (bytes : List ℕ) → Fits (bounds url r) bytes → IsTrue (fits_request r bytes)
 fits-true url r bytes h = both-true _ _ (within (length bytes) r.max_size h.0) (digest-has r.sha256 bytes h.1)
-
-done-at : (s : StageDoc) (r : Result LoadedDoc Failure) → ended s ≡ Some r → s ≡ at.Done r
-done-at (at.Done x) r h = cc (h)
-done-at _ r h = absurd (cc (h))
 
 module _ {T S K : Type 0} (refuses : T → Parts → TransportError → Type 0) (serves : T → Parts → Runs Item) (keeps : Verifies → K → Act → Result Receipt StepError → K → Type 0) (yields : S → Runs Item)
     (verifies : Verifies) (base : Parts) (t : T) where
@@ -90,10 +86,6 @@ module _ {T S K : Type 0} (refuses : T → Parts → TransportError → Type 0) 
 module _ {T S K : Type 0} (refuses : T → Parts → TransportError → Type 0) (serves : T → Parts → Runs Item) (keeps : Verifies → K → Act → Result Receipt StepError → K → Type 0) (yields : S → Runs Item)
     (checks : (verifies : Verifies) (old : K) (act : Act) (r : Result Receipt StepError) (new : K) → keeps verifies old act r new → CheckedIfOk verifies act r) where
   -- the setting stays
-  keeps-setting : (verifies : Verifies) (c : CoreDoc) (a : AnswerDoc) (mid : CoreDoc) → Goes verifies c a mid → mid.setting ≡ c.setting
-  keeps-setting verifies c a mid (inl e) = ap (λ (d : CoreDoc). d.setting) e
-  keeps-setting verifies c a mid (inr e) = ap (λ (d : CoreDoc). d.setting) e
-
   leads-setting : (verifies : Verifies) (base : Parts) (t : T) (answers : List AnswerDoc) (c : CoreDoc) (k : K) (c' : CoreDoc) (k' : K)
       → Leads refuses serves keeps yields verifies base t c k answers c' k' → c'.setting ≡ c.setting
   leads-setting verifies base t [] c k c' k' h = ap (λ (d : CoreDoc). d.setting) h.0

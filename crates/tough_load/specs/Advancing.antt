@@ -10,9 +10,10 @@ use Rattle.tough_net.specs.declared.error.TransportError.{TransportError}
 use Rattle.tough_net.specs.Items.{Item}
 use Rattle.tough_update.specs.Failure.{Failure}
 use Rattle.tough_update.specs.Stages.{LoadedDoc, CoreDoc}
-use Rattle.tough_update.specs.View.{core_doc}
+use Rattle.tough_update.specs.View.{core_doc, counts_of}
 use Rattle.tough_load.specs.declared.load.Load.{Load}
 use Rattle.tough_load.specs.Loading.{Reaches, Ends, Gives, Walks}
+use Rattle.tough_load.specs.Counting.{HasCounted, EndsCounting}
 use Rattle.tough_load.specs.Words.{transport_of, base_of, verifier_of, settings_of, keeper_of, core_of, fetch_of}
 
 module _ {T K C V S : Type 0} (refuses : T → Parts → TransportError → Type 0) (serves : T → Parts → Runs Item) (keeps : Verifies → K → Act → Result Receipt StepError → K → Type 0) (yields : S → Runs Item)
@@ -31,14 +32,17 @@ module _ {T K C V S : Type 0} (refuses : T → Parts → TransportError → Type
     pub base : base_of new ≡ base_of old
     pub verifier : verifier_of new ≡ verifier_of old
     pub settings : settings_of new ≡ settings_of old
+    pub setting : (core_doc (core_of new)).setting ≡ (core_doc (core_of old)).setting
     pub walked : Walks keeps (verifies (verifier_of old)) (keeper_of old) (keeper_of new)
 
-  -- what it may come to now, it might have come to before
+  -- what it may come to now, it might have come to before; and it counts on
   pub record Advances (old new : Load T K C V S) : Type 0 where
     pub stays : Stays old new
     pub follows : (c : CoreDoc) (k : K) → MayReach new c k → MayReach old c k
+    pub counted : HasCounted (verifies (verifier_of old)) (core_of old) → HasCounted (verifies (verifier_of old)) (core_of new)
 
-  -- it came to this outcome
+  -- it came to this outcome, and its counts to these
   pub record Finishes (old : Load T K C V S) (outcome : Result LoadedDoc Failure) (new : Load T K C V S) : Type 0 where
     pub stays : Stays old new
     pub ends : Ends refuses serves keeps yields (verifies (verifier_of old)) (base_of old) (transport_of old) (fetch_of old) (core_doc (core_of old)) (keeper_of old) outcome (core_doc (core_of new)) (keeper_of new)
+    pub counted : HasCounted (verifies (verifier_of old)) (core_of old) → EndsCounting (verifies (verifier_of old)) (core_doc (core_of old)).setting outcome (counts_of (core_of new))

@@ -7,3 +7,4 @@ pub mod Base
 pub mod Loader
 pub mod Vouching
 pub mod Parts
+pub mod Counting

@@ -4,7 +4,8 @@ use Rattle.url.specs.Parts.{Parts}
 use Rattle.tough_vault.specs.Checks.{enforces}
 use Rattle.tough_update.specs.declared.limits.Limits.{Limits}
 use Rattle.tough_update.specs.Stages.{CoreDoc, Moment}
-use Rattle.tough_update.specs.View.{core_doc}
+use Rattle.tough_update.specs.Counts.{none_yet}
+use Rattle.tough_update.specs.View.{core_doc, counts_of}
 use Rattle.tough_load.specs.declared.loader.RepositoryLoader.{RepositoryLoader}
 use Rattle.tough_load.specs.declared.load.Load.{Load}
 use Rattle.tough_load.specs.Base.{with_slash}
@@ -53,6 +54,7 @@ module _ {T V C K : Type 0} where
 -- A load at its beginning, with all that the loader was given: its update asks first, nothing is fetched and no step taken.
 pub record IsBegun {T V C K S : Type 0} (from : RepositoryLoader T V C K) (l : Load T K C V S) : Type 0 where
   pub core : core_doc (part.core_of l) ≡ first_core (settings_of from)
+  pub counts : counts_of (part.core_of l) ≡ none_yet
   pub base : with_slash (settings_of from).metadata_base ≡ Ok (part.base_of l)
   pub targets_base : with_slash (settings_of from).targets_base ≡ Ok (part.settings_of l).targets_base
   pub limits : (part.settings_of l).limits ≡ (settings_of from).limits

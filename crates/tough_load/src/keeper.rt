@@ -29,14 +29,17 @@ pub trait Keeper: Drop {
         ensures { keeps (V.verifies verifier.now) self.old (act_of act.now) result self.new };
 
     /// A step that succeeded has made its checks on what it was given.
-    ghost checks: { (verifies : Verifies) (old : Self) (act : ActDoc) (result : Result Told Refused) (new : Self) → keeps verifies old act result new → CheckedIfOk verifies act result };
+    ghost checks: { (verifies : Verifies) (old : Self) (act : ActDoc) (result : Result Told Refused)
+        (new : Self) → keeps verifies old act result new → CheckedIfOk verifies act result };
 }
 
 impl<S: Store> Keeper for &mut Vault<S> {
     // It is still the same loan, so that the lender learns what the steps left.
-    ghost keeps = { λ verifies k act result next. Acts S.tells S.files S.count verifies act (parts_of k.now) (parts_of next.now) result × (next.ghost_name ≡ k.ghost_name) };
+    ghost keeps = { λ verifies k act result next. Acts S.tells S.files S.count verifies act
+        (parts_of k.now) (parts_of next.now) result × (next.ghost_name ≡ k.ghost_name) };
 
-    ghost checks = { λ verifies old act result new h. checked S.tells S.files S.count verifies act (parts_of old.now) (parts_of new.now) result h.0 };
+    ghost checks = { λ verifies old act result new h. checked S.tells S.files S.count verifies act
+        (parts_of old.now) (parts_of new.now) result h.0 };
 
     fn take<V: Verify>(
         &mut self,

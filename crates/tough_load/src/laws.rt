@@ -1,20 +1,24 @@
 //! What a load that succeeds promises.
 
-ghost use Rattle.std.specs.Prelude.{◌≡◌, Ok};
+ghost use Rattle.std.specs.Prelude.{◌≡◌, Ok, Result};
 ghost use Rattle.url.specs.Parts.{Parts};
 ghost use Rattle.tough_vault.specs.Act.{NoteTime};
+ghost use Rattle.tough_update.specs.Failure.{Failure};
 ghost use Rattle.tough_update.specs.Stages.{LoadedDoc, CoreDoc};
-ghost use Rattle.tough_update.specs.View.{core_doc};
+ghost use Rattle.tough_update.specs.View.{core_doc, counts_of};
 ghost use Rattle.tough_load.specs.declared.loader.RepositoryLoader.{RepositoryLoader as Loader};
 ghost use Rattle.tough_load.specs.declared.load.Load.{Load};
 ghost use Rattle.tough_load.specs.Loader.{IsBegun, first_core, settings_of, transport_of, verifier_of, keeper_of};
 ghost use Rattle.tough_load.specs.Loading.{Ends};
 ghost use Rattle.tough_load.specs.Vouching.{Vouches, HasStepped};
+ghost use Rattle.tough_load.specs.Advancing.{Finishes};
+ghost use Rattle.tough_load.specs.Counting.{CountsFew};
 ghost use Rattle.tough_load.specs.Words as part;
 
 use crate::keeper::Keeper;
 use tough_net::Transport;
 use tough_roles::Verify;
+use tough_update::laws;
 use tough_vault::Clock;
 
 /// A load that a loader made, and that succeeds, gives documents that are trusted: a chain of roots from the bytes that were handed in ends
@@ -22,18 +26,37 @@ use tough_vault::Clock;
 /// expired when the load noted the time; and the root after the last one was asked for. Its machine and its keeper are as these answers leave
 /// them. For every verifier, transport, clock and keeper (TUF specification 5).
 pub fn loads_are_trusted<T: Transport, V: Verify + Drop, C: Clock + Drop, K: Keeper>()
-    ensures { (from : Loader T V C K) (l : Load T K C V T.Stream) (d : LoadedDoc) (left : CoreDoc) (kept : K) → IsBegun from l
-        → Ends T.refuses T.serves K.keeps T.Stream.yields (V.verifies (part.verifier_of l)) (part.base_of l) (part.transport_of l) (part.fetch_of l) (core_doc (part.core_of l)) (part.keeper_of l) (Ok d) left kept
-        → Vouches T.refuses T.serves K.keeps T.Stream.yields (V.verifies (verifier_of from)) (part.base_of l) (transport_of from) (first_core (settings_of from)) (keeper_of from) left kept d }
+    ensures { (from : Loader T V C K) (l : Load T K C V T.Stream) (d : LoadedDoc) (left : CoreDoc)
+        (kept : K) → IsBegun from l
+        → Ends T.refuses T.serves K.keeps T.Stream.yields (V.verifies (part.verifier_of l))
+        (part.base_of l) (part.transport_of l) (part.fetch_of l) (core_doc (part.core_of l))
+        (part.keeper_of l) (Ok d) left kept
+        → Vouches T.refuses T.serves K.keeps T.Stream.yields (V.verifies (verifier_of from))
+        (part.base_of l) (transport_of from) (first_core (settings_of from))
+        (keeper_of from) left kept d }
 {}
 
 /// A load that succeeds had its keeper note the moment that it began at: of the steps that led the keeper to what it is now, one noted it, and
 /// succeeded.
 pub fn notes_the_time<T: Transport, V: Verify, K: Keeper>()
-    ensures { (base : Parts) (t : T) (v : V) (c : CoreDoc) (k : K) (left : CoreDoc) (kept : K) (d : LoadedDoc)
+    ensures { (base : Parts) (t : T) (v : V) (c : CoreDoc) (k : K) (left : CoreDoc)
+        (kept : K) (d : LoadedDoc)
         → Vouches T.refuses T.serves K.keeps T.Stream.yields (V.verifies v) base t c k left kept d
         → HasStepped K.keeps (V.verifies v) k (NoteTime d.known.start) kept }
 {}
 
+/// A load that a loader made, and that has ended, has fetched at most as many roots as its limit allows, and at most as many documents of
+/// delegated roles as roles were listed when one of them was asked for, whatever came. Where it succeeded, the documents that it counts are
+/// those of its tree, at most as many as the snapshot lists names (TUF specification 5.3 and 5.6). `Load::core` has the counts.
+pub fn loads_count_few<T: Transport, V: Verify + Drop, C: Clock + Drop, K: Keeper>()
+    ensures { (from : Loader T V C K) (l new : Load T K C V T.Stream) (r : Result LoadedDoc Failure)
+        → IsBegun from l
+        → Finishes T.refuses T.serves K.keeps T.Stream.yields V.verifies l r new
+        → CountsFew (V.verifies (verifier_of from)) (settings_of from).limits r
+        (counts_of (part.core_of new)) }
+{
+    laws::counts_few();
+}
+
 /// How many laws this file states.
-pub const LAWS: usize = 2;
+pub const LAWS: usize = 3;

@@ -75,7 +75,8 @@ fn answer_of(outcome: Result<Vec<u8>, TransportError>) -> Answer
 
 // The same digest, if one is stated.
 fn copy_digest(alloc: Global, digest: &Option<Vec<u8>>) -> Result<Option<Vec<u8>>, AllocError>
-    ensures { IfOk result (λ d. option_map (λ v. v.items) d ≡ option_map (λ v. v.items) digest.now) }
+    ensures { IfOk result (λ d. option_map (λ v. v.items) d
+        ≡ option_map (λ v. v.items) digest.now) }
 {
     match digest {
         None => Ok(None),
@@ -90,9 +91,13 @@ fn start<T: Transport>(
     base: &Url,
     request: &Request,
 ) -> Result<Collect<T::Stream>, Fault>
-    ensures started { IfOk result (IsStarted T.serves T.Stream.yields transport.now base.now (request_doc request.now)) }
-    ensures can_poll { IfOk result (λ f. T.Stream.can_poll (collected f) × (length (held_by f) ≤ (bounds_of f).max)) }
-    ensures refused { IfErr result (λ e. Fetches T.refuses T.serves transport.now base.now (request_doc request.now) (got.NotStarted e)) }
+    ensures started { IfOk result
+        (IsStarted T.serves T.Stream.yields transport.now base.now (request_doc request.now)) }
+    ensures can_poll { IfOk result
+        (λ f. T.Stream.can_poll (collected f) × (length (held_by f) ≤ (bounds_of f).max)) }
+    ensures refused { IfErr result
+        (λ e. Fetches T.refuses T.serves transport.now base.now
+        (request_doc request.now) (got.NotStarted e)) }
 {
     let url = match base.join(request.name.as_str()) {
         Ok(url) => url,
@@ -148,9 +153,11 @@ impl<T: Transport, K: Keeper, C: Clock + Drop, V: Verify + Drop> Load<T, K, C, V
     fn collect(&mut self, cx: &mut Context<'_>) -> Poll<()>
         requires running { CanPoll T.Stream.can_poll self.old.fetch }
         requires fetching { IsSome self.old.fetch }
-        ensures goes { Advances T.refuses T.serves K.keeps T.Stream.yields V.verifies self.old self.new }
+        ensures goes { Advances T.refuses T.serves K.keeps T.Stream.yields
+            V.verifies self.old self.new }
         ensures again { CanPoll T.Stream.can_poll self.new.fetch }
-        ensures registered { OnPending result (Covers cx.new (λ s. IsSomeAnd self.new.fetch (λ f. T.Stream.needs (collected f) s))) }
+        ensures registered { OnPending result
+            (Covers cx.new (λ s. IsSomeAnd self.new.fetch (λ f. T.Stream.needs (collected f) s))) }
         ensures kept { Keeps cx.old cx.new }
     {
         let Some(fetch) = &mut self.fetch else {
@@ -170,8 +177,11 @@ impl<T: Transport, K: Keeper, C: Clock + Drop, V: Verify + Drop> Load<T, K, C, V
     // Does what the machine asks for, and gives the outcome where nothing is left.
     fn advance(&mut self) -> Option<Result<Loaded, UpdateError>>
         requires idle { self.old.fetch ≡ None }
-        ensures done { IfSome result (λ r. Finishes T.refuses T.serves K.keeps T.Stream.yields V.verifies self.old (outcome_doc r) self.new) }
-        ensures goes { IsNone result → Advances T.refuses T.serves K.keeps T.Stream.yields V.verifies self.old self.new }
+        ensures done { IfSome result
+            (λ r. Finishes T.refuses T.serves K.keeps T.Stream.yields V.verifies self.old
+            (outcome_doc r) self.new) }
+        ensures goes { IsNone result
+            → Advances T.refuses T.serves K.keeps T.Stream.yields V.verifies self.old self.new }
         ensures again { CanPoll T.Stream.can_poll self.new.fetch }
     {
         let answer = match self.core.ask() {
@@ -209,18 +219,27 @@ impl<T: Transport, K: Keeper, C: Clock + Drop, V: Verify + Drop> Future for Load
 
     ghost needs = { λ m s. IsSomeAnd (fetch_of m) (λ f. T.Stream.needs (collected f) s) };
 
-    ghost gives = { λ m r. MayGive T.refuses T.serves K.keeps T.Stream.yields V.verifies m (outcome_doc r) };
+    ghost gives = { λ m r. MayGive T.refuses T.serves K.keeps T.Stream.yields
+        V.verifies m (outcome_doc r) };
 
     fn poll(&mut self, cx: &mut Context<'_>) -> Poll<Self::Output>
         requires { CanPoll T.Stream.can_poll (fetch_of self.old) }
-        ensures value { IfReady result (λ r. MayGive T.refuses T.serves K.keeps T.Stream.yields V.verifies self.old (outcome_doc r)) }
+        ensures value { IfReady result
+            (λ r. MayGive T.refuses T.serves K.keeps T.Stream.yields V.verifies
+            self.old (outcome_doc r)) }
         ensures same { OnPending result ((r : _)
             → MayGive T.refuses T.serves K.keeps T.Stream.yields V.verifies self.new (outcome_doc r)
-            → MayGive T.refuses T.serves K.keeps T.Stream.yields V.verifies self.old (outcome_doc r)) }
-        ensures done { IfReady result (λ r. Finishes T.refuses T.serves K.keeps T.Stream.yields V.verifies self.old (outcome_doc r) self.new) }
-        ensures goes { OnPending result (Advances T.refuses T.serves K.keeps T.Stream.yields V.verifies self.old self.new) }
+            → MayGive T.refuses T.serves K.keeps T.Stream.yields V.verifies
+            self.old (outcome_doc r)) }
+        ensures done { IfReady result
+            (λ r. Finishes T.refuses T.serves K.keeps T.Stream.yields V.verifies self.old
+            (outcome_doc r) self.new) }
+        ensures goes { OnPending result
+            (Advances T.refuses T.serves K.keeps T.Stream.yields V.verifies self.old self.new) }
         ensures again { OnPending result (CanPoll T.Stream.can_poll (fetch_of self.new)) }
-        ensures registered { OnPending result (Covers cx.new (λ s. IsSomeAnd (fetch_of self.new) (λ f. T.Stream.needs (collected f) s))) }
+        ensures registered { OnPending result
+            (Covers cx.new (λ s. IsSomeAnd (fetch_of self.new)
+            (λ f. T.Stream.needs (collected f) s))) }
         ensures kept { Keeps cx.old cx.new }
     {
         for _ in 0..BUDGET {

@@ -49,7 +49,15 @@ impl<'a> RepositoryLoader<'a, Unset, Unset, Unset, Unset> {
         metadata_base_url: Url,
         targets_base_url: Url,
     ) -> RepositoryLoader<'a, Unset, Unset, Unset, Unset>
-        ensures { settings_of result ≡ record { root = root.now; metadata_base = metadata_base_url; targets_base = targets_base_url; limits = default_limits; enforced = true } }
+        ensures { settings_of result
+            ≡ record {
+              root = root.now;
+              metadata_base = metadata_base_url;
+              targets_base
+                  = targets_base_url;
+              limits = default_limits;
+              enforced = true;
+            } }
     {
         RepositoryLoader {
             settings: Settings {
@@ -75,7 +83,8 @@ impl<'a, V, C, K> RepositoryLoader<'a, Unset, V, C, K> {
     pub fn transport<T>(self, transport: T) -> RepositoryLoader<'a, T, V, C, K>
         ensures given { transport_of result ≡ transport }
         ensures settings { settings_of result ≡ settings_of self.entry }
-        ensures others { (verifier_of result ≡ verifier_of self.entry) × (clock_of result ≡ clock_of self.entry) × (keeper_of result ≡ keeper_of self.entry) }
+        ensures others { (verifier_of result ≡ verifier_of self.entry)
+            × (clock_of result ≡ clock_of self.entry) × (keeper_of result ≡ keeper_of self.entry) }
     {
         RepositoryLoader {
             settings: self.settings,
@@ -94,7 +103,8 @@ impl<'a, T, C, K> RepositoryLoader<'a, T, Unset, C, K> {
     pub fn verifier<V>(self, verifier: V) -> RepositoryLoader<'a, T, V, C, K>
         ensures given { verifier_of result ≡ verifier }
         ensures settings { settings_of result ≡ settings_of self.entry }
-        ensures others { (transport_of result ≡ transport_of self.entry) × (clock_of result ≡ clock_of self.entry) × (keeper_of result ≡ keeper_of self.entry) }
+        ensures others { (transport_of result ≡ transport_of self.entry)
+            × (clock_of result ≡ clock_of self.entry) × (keeper_of result ≡ keeper_of self.entry) }
     {
         RepositoryLoader {
             settings: self.settings,
@@ -113,7 +123,9 @@ impl<'a, T, V, K> RepositoryLoader<'a, T, V, Unset, K> {
     pub fn clock<C>(self, clock: C) -> RepositoryLoader<'a, T, V, C, K>
         ensures given { clock_of result ≡ clock }
         ensures settings { settings_of result ≡ settings_of self.entry }
-        ensures others { (transport_of result ≡ transport_of self.entry) × (verifier_of result ≡ verifier_of self.entry) × (keeper_of result ≡ keeper_of self.entry) }
+        ensures others { (transport_of result ≡ transport_of self.entry)
+            × (verifier_of result ≡ verifier_of self.entry)
+            × (keeper_of result ≡ keeper_of self.entry) }
     {
         RepositoryLoader {
             settings: self.settings,
@@ -132,7 +144,9 @@ impl<'a, T, V, C> RepositoryLoader<'a, T, V, C, Unset> {
     pub fn keeper<K>(self, keeper: K) -> RepositoryLoader<'a, T, V, C, K>
         ensures given { keeper_of result ≡ keeper }
         ensures settings { settings_of result ≡ settings_of self.entry }
-        ensures others { (transport_of result ≡ transport_of self.entry) × (verifier_of result ≡ verifier_of self.entry) × (clock_of result ≡ clock_of self.entry) }
+        ensures others { (transport_of result ≡ transport_of self.entry)
+            × (verifier_of result ≡ verifier_of self.entry)
+            × (clock_of result ≡ clock_of self.entry) }
     {
         RepositoryLoader {
             settings: self.settings,
@@ -149,8 +163,11 @@ impl<'a, T, V, C, K> RepositoryLoader<'a, T, V, C, K> {
 
     /// What an update takes at most.
     pub fn limits(self, limits: Limits) -> RepositoryLoader<'a, T, V, C, K>
-        ensures settings { settings_of result ≡ record (settings_of self.entry) { limits = limits } }
-        ensures others { (transport_of result ≡ transport_of self.entry) × (verifier_of result ≡ verifier_of self.entry) × (clock_of result ≡ clock_of self.entry) × (keeper_of result ≡ keeper_of self.entry) }
+        ensures settings { settings_of result
+            ≡ record (settings_of self.entry) { limits = limits } }
+        ensures others { (transport_of result ≡ transport_of self.entry)
+            × (verifier_of result ≡ verifier_of self.entry)
+            × (clock_of result ≡ clock_of self.entry) × (keeper_of result ≡ keeper_of self.entry) }
     {
         let settings = Settings {
             limits,
@@ -164,8 +181,11 @@ impl<'a, T, V, C, K> RepositoryLoader<'a, T, V, C, K> {
         self,
         enforcement: ExpirationEnforcement,
     ) -> RepositoryLoader<'a, T, V, C, K>
-        ensures settings { settings_of result ≡ record (settings_of self.entry) { enforced = enforces enforcement } }
-        ensures others { (transport_of result ≡ transport_of self.entry) × (verifier_of result ≡ verifier_of self.entry) × (clock_of result ≡ clock_of self.entry) × (keeper_of result ≡ keeper_of self.entry) }
+        ensures settings { settings_of result
+            ≡ record (settings_of self.entry) { enforced = enforces enforcement } }
+        ensures others { (transport_of result ≡ transport_of self.entry)
+            × (verifier_of result ≡ verifier_of self.entry)
+            × (clock_of result ≡ clock_of self.entry) × (keeper_of result ≡ keeper_of self.entry) }
     {
         let settings = Settings {
             enforcement,
@@ -199,7 +219,9 @@ impl<T: Transport, V: Verify + Drop, C: Clock + Drop, K: Keeper> RepositoryLoade
     /// where it then can't be parsed, that of the metadata first.
     pub fn load(self) -> Result<Load<T, K, C, V>, UpdateError>
         ensures begun { IfOk result (IsBegun self.entry) }
-        ensures refused { IfErr result (λ e. IsUnbegun (settings_of self.entry).metadata_base e ⊎ IsUnbegun (settings_of self.entry).targets_base e) }
+        ensures refused { IfErr result
+            (λ e. IsUnbegun (settings_of self.entry).metadata_base e
+            ⊎ IsUnbegun (settings_of self.entry).targets_base e) }
     {
         let RepositoryLoader {
             settings,

@@ -34,7 +34,8 @@ impl<T: Transport, K, C, V> Load<T, K, C, V> {
 impl<T: Transport, K: Keeper, C: Clock + Drop, V: Verify + Drop> Future for LoadRun<T, K, C, V> {
     type Output = (Result<Loaded, UpdateError>, Load<T, K, C, V>);
 
-    ghost can_poll = { λ m. IsSomeAnd (running_in m) (λ l. CanPoll T.Stream.can_poll (fetch_of l)) };
+    ghost can_poll = { λ m. IsSomeAnd (running_in m)
+        (λ l. CanPoll T.Stream.can_poll (fetch_of l)) };
 
     ghost needs = { λ m s. IsSomeAnd (running_in m)
         (λ l. IsSomeAnd (fetch_of l) (λ f. T.Stream.needs (collected f) s)) };

@@ -17,7 +17,8 @@ pub(crate) fn take_step<K: Keeper, V: Verify>(
     receipts: &mut Vec<Receipt>,
     act: &Act<'_>,
 ) -> Answer
-    ensures { Steps K.keeps (V.verifies verifier.now) (act_of act.now) keeper.old (answer_doc result) keeper.new }
+    ensures { Steps K.keeps (V.verifies verifier.now) (act_of act.now) keeper.old
+        (answer_doc result) keeper.new }
 {
     if receipts.reserve(1).is_err() {
         return Answer::Step(Err(StepError::Memory));

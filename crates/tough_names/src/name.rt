@@ -159,7 +159,8 @@ impl Eq for TargetName {
 impl PartialOrd for TargetName {
     ghost partial_cmp = { as_partial_cmp by_raw_then_resolved };
 
-    ghost laws = { partial_order_from_own_ties (Prim.search (comparing, rules)) (Prim.search (comparing, rules)) };
+    ghost laws = { partial_order_from_own_ties (Prim.search (comparing, rules))
+        (Prim.search (comparing, rules)) };
 
     fn partial_cmp(&self, other: &TargetName) -> Option<Ordering> {
         Some(self.cmp(other))
@@ -173,7 +174,8 @@ impl Ord for TargetName {
 
     ghost matches_partial_cmp = { λ a b. refl };
 
-    ghost matches_eq = { λ a b. both_tied _ _ _ _ (texts_ties a.raw b.raw) (texts_ties a.resolved b.resolved) };
+    ghost matches_eq = { λ a b. both_tied _ _ _ _ (texts_ties a.raw b.raw)
+        (texts_ties a.resolved b.resolved) };
 
     fn cmp(&self, other: &TargetName) -> Ordering {
         self.raw

@@ -35,7 +35,8 @@ impl Model for PathPattern {
 
     ghost view = { λ p. string_bytes p.text };
 
-    ghost invariant = { λ p. parts_in (chars (string_bytes p.text)) ≡ Some (parts_of p.items.items) };
+    ghost invariant = { λ p. parts_in (chars (string_bytes p.text))
+        ≡ Some (parts_of p.items.items) };
 }
 
 impl PathPattern {
@@ -45,7 +46,9 @@ impl PathPattern {
     pub fn new(alloc: Global, text: String) -> Result<PathPattern, PatternError>
         ensures value { IfOk result (λ pattern. pattern ≡ string_bytes text) }
         ensures accepts { IfOk result (λ _. IsPattern (chars (string_bytes text))) }
-        ensures refuses { IfErr result (λ e. e ≢ PatternError.Memory → (e ≡ PatternError.Glob) × (IsPattern (chars (string_bytes text)) → ⊥)) }
+        ensures refuses { IfErr result
+            (λ e. e ≢ PatternError.Memory → (e ≡ PatternError.Glob)
+            × (IsPattern (chars (string_bytes text)) → ⊥)) }
     {
         let items = read(alloc, text.as_str())?;
         Ok(PathPattern { text, items })

@@ -43,9 +43,16 @@ pub fn fetch_whole<T: Transport>(
     ensures refused { IfErr result (λ e. T.refuses transport.now url.now e ⊎ IsMemory e) }
     ensures can_poll { IfOk result (λ m. T.Stream.can_poll (collected m)) }
     ensures bounds { IfOk result (λ m. bounds_of m
-        ≡ record { url = serialize url.now; max = max_size; specifier = specifier.now; digest = option_map (λ d. d.items) sha256 }) }
+        ≡ record {
+          url = serialize url.now;
+          max = max_size;
+          specifier = specifier.now;
+          digest
+              = option_map (λ d. d.items) sha256;
+        }) }
     ensures fresh { IfOk result (λ m. held_by m ≡ []) }
-    ensures served { IfOk result (λ m. Within (T.serves transport.now url.now) (T.Stream.yields (collected m))) }
+    ensures served { IfOk result
+        (λ m. Within (T.serves transport.now url.now) (T.Stream.yields (collected m))) }
 {
     let text = String::from_str(alloc, url.as_str())?;
     Ok(Collect {
@@ -65,7 +72,8 @@ impl<S> Collect<S> {
         requires { length (held_by self.old) ≤ (bounds_of self.old).max }
         ensures joined { OnOk result (held_by self.new ≡ held_by self.old ++ piece.now) }
         ensures within { OnOk result (length (held_by self.new) ≤ (bounds_of self.old).max) }
-        ensures err { IfErr result (λ e. IsMemory e ⊎ Exceeds (bounds_of self.old) (held_by self.old ++ piece.now) e) }
+        ensures err { IfErr result
+            (λ e. IsMemory e ⊎ Exceeds (bounds_of self.old) (held_by self.old ++ piece.now) e) }
         ensures others { self.new ≡ record self.old { bytes = self.new.bytes } }
     {
         if piece.len() as u64 > self.max_size - self.bytes.len() as u64 {

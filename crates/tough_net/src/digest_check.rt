@@ -46,7 +46,8 @@ impl<S> DigestCheck<S> {
     }
 
     fn take_in(&mut self, item: &Result<Bytes, TransportError>)
-        ensures fed { (m : List ℕ) → Holds256 self.old.hasher m → Holds256 self.new.hasher (m ++ bytes_of item.now) }
+        ensures fed { (m : List ℕ) → Holds256 self.old.hasher m
+            → Holds256 self.new.hasher (m ++ bytes_of item.now) }
         ensures others { self.new ≡ record self.old { hasher = self.new.hasher } }
     {
         if let Ok(bytes) = item {

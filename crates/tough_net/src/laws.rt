@@ -17,7 +17,8 @@ use futures::Stream;
 
 /// A limit below the greatest `u64` is never passed by what is handed on, also after an error.
 pub fn never_over_limit<S: Stream<Item = Result<Bytes, TransportError>>>(stream: &MaxSize<S>)
-    ensures { (limit_of stream.now).max < 2 ^ 64 - 1 → (limit_of stream.now).size ≤ (limit_of stream.now).max → (xs : _) (last : _)
+    ensures { (limit_of stream.now).max < 2 ^ 64 - 1
+        → (limit_of stream.now).size ≤ (limit_of stream.now).max → (xs : _) (last : _)
         → Limits (limit_of stream.now) (S.yields (limited stream.now)) xs last
         → (limit_of stream.now).size + length (all_bytes xs last) ≤ (limit_of stream.now).max }
 {}
@@ -31,7 +32,8 @@ pub fn ended_has_digest<S: Stream<Item = Result<Bytes, TransportError>>>(stream:
 
 /// What is collected of a file in memory is the file, and fits.
 pub fn collected_is_file()
-    ensures { (bounds : Bounds) (bytes : List ℕ) (v : _) → Collects bounds (CutsFile (Some bytes)) [] (Ok v)
+    ensures { (bounds : Bounds) (bytes : List ℕ) (v : _)
+        → Collects bounds (CutsFile (Some bytes)) [] (Ok v)
         → (v.items ≡ bytes) × Fits bounds bytes }
 {}
 

@@ -30,7 +30,14 @@ impl<S> MaxSize<S> {
         specifier: &'static str,
     ) -> MaxSize<S>
         ensures stream { limited result ≡ stream }
-        ensures limit { limit_of result ≡ record { url = string_bytes url; max = max_size; specifier = specifier.now; size = 0 } }
+        ensures limit { limit_of result
+            ≡ record {
+              url = string_bytes url;
+              max = max_size;
+              specifier
+                  = specifier.now;
+              size = 0;
+            } }
     {
         MaxSize {
             alloc,

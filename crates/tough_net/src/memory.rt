@@ -45,8 +45,11 @@ impl MemoryTransport {
 
     /// Puts a file at the URL of this text, in the place of the one that is there.
     pub fn insert(&mut self, url: &str, bytes: Bytes) -> Result<(), AllocError>
-        ensures ok { OnOk result ((other : List ℕ) → file_at self.new other ≡ update bytes_eq (file_at self.old) url.now (Some bytes) other) }
-        ensures err { OnErr result ((other : List ℕ) → file_at self.new other ≡ file_at self.old other) }
+        ensures ok { OnOk result ((other : List ℕ)
+            → file_at self.new other ≡ update bytes_eq (file_at self.old)
+            url.now (Some bytes) other) }
+        ensures err { OnErr result
+            ((other : List ℕ) → file_at self.new other ≡ file_at self.old other) }
     {
         let url = String::from_str(self.alloc, url)?;
         self.files.insert(url, bytes)?;

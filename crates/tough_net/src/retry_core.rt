@@ -29,7 +29,13 @@ impl Model for RetryCore {
 
     ghost view = { λ c. record {
       settings = c.settings;
-      progress = record { received = c.received; retries = c.retries; pause = as_nanos c.pause; is_ranged = c.is_ranged; is_over = c.is_over };
+      progress = record {
+        received = c.received;
+        retries = c.retries;
+        pause = as_nanos c.pause;
+        is_ranged = c.is_ranged;
+        is_over = c.is_over;
+      };
     } };
 
     ghost invariant = { λ c. c.retries ≤ c.settings.tries };
@@ -75,7 +81,8 @@ impl RetryCore {
     /// What is to be done after an event. Once it answered `Finish` or `Fail`, it answers `Finish` to each further event.
     pub fn next(&mut self, event: RetryEvent) -> RetryAction
         ensures action { result ≡ (turn self.old.settings self.old.progress event).action }
-        ensures progress { self.new.progress ≡ (turn self.old.settings self.old.progress event).progress }
+        ensures progress { self.new.progress
+            ≡ (turn self.old.settings self.old.progress event).progress }
         ensures settings { self.new.settings ≡ self.old.settings }
     {
         if self.is_over {
@@ -97,7 +104,8 @@ impl RetryCore {
 
     fn fail(&mut self, error: HttpError) -> RetryAction
         ensures action { result ≡ (failed self.old.settings self.old.progress error).action }
-        ensures progress { self.new.progress ≡ (failed self.old.settings self.old.progress error).progress }
+        ensures progress { self.new.progress
+            ≡ (failed self.old.settings self.old.progress error).progress }
         ensures settings { self.new.settings ≡ self.old.settings }
     {
         self.is_over = true;
@@ -106,7 +114,8 @@ impl RetryCore {
 
     fn retry(&mut self) -> RetryAction
         ensures action { result ≡ (retried self.old.settings self.old.progress).action }
-        ensures progress { self.new.progress ≡ (retried self.old.settings self.old.progress).progress }
+        ensures progress { self.new.progress
+            ≡ (retried self.old.settings self.old.progress).progress }
         ensures settings { self.new.settings ≡ self.old.settings }
     {
         let tries = self.settings.tries;
@@ -122,8 +131,10 @@ impl RetryCore {
     }
 
     fn answer(&mut self, class: AnswerClass, accepts_ranges: bool) -> RetryAction
-        ensures action { result ≡ (answered self.old.settings self.old.progress accepts_ranges class).action }
-        ensures progress { self.new.progress ≡ (answered self.old.settings self.old.progress accepts_ranges class).progress }
+        ensures action { result ≡ (answered self.old.settings self.old.progress
+            accepts_ranges class).action }
+        ensures progress { self.new.progress
+            ≡ (answered self.old.settings self.old.progress accepts_ranges class).progress }
         ensures settings { self.new.settings ≡ self.old.settings }
     {
         match class {
@@ -139,8 +150,10 @@ impl RetryCore {
 
     // More bytes than a `u64` counts can't be asked for.
     fn receive(&mut self, len: u64) -> RetryAction
-        ensures action { result ≡ (turned self.old.settings self.old.progress (RetryEvent.Piece len)).action }
-        ensures progress { self.new.progress ≡ (turned self.old.settings self.old.progress (RetryEvent.Piece len)).progress }
+        ensures action { result ≡ (turned self.old.settings self.old.progress
+            (RetryEvent.Piece len)).action }
+        ensures progress { self.new.progress
+            ≡ (turned self.old.settings self.old.progress (RetryEvent.Piece len)).progress }
         ensures settings { self.new.settings ≡ self.old.settings }
     {
         match self.received.checked_add(len) {

@@ -71,7 +71,8 @@ pub trait Transport: Drop {
     fn fetch(&self, url: &Url) -> Result<Self::Stream, TransportError>
         ensures can_poll { IfOk result Self.Stream.can_poll }
         ensures refused { IfErr result (refuses self.now url.now) }
-        ensures served { IfOk result (λ s. Within (serves self.now url.now) (Self.Stream.yields s)) };
+        ensures served { IfOk result
+            (λ s. Within (serves self.now url.now) (Self.Stream.yields s)) };
 }
 
 /// Fetches a URL, and bounds what comes. The specifier says where the limit of `max_size` bytes comes from.
@@ -86,7 +87,8 @@ pub fn fetch_max_size<T: Transport>(
     ensures can_poll { IfOk result (λ m. T.Stream.can_poll (limited m)) }
     ensures limit { IfOk result (λ m. limit_of m
         ≡ record { url = serialize url.now; max = max_size; specifier = specifier.now; size = 0 }) }
-    ensures served { IfOk result (λ m. Within (T.serves transport.now url.now) (T.Stream.yields (limited m))) }
+    ensures served { IfOk result
+        (λ m. Within (T.serves transport.now url.now) (T.Stream.yields (limited m))) }
 {
     let text = String::from_str(alloc, url.as_str())?;
     let stream = transport.fetch(url)?;
@@ -109,7 +111,8 @@ pub fn fetch_sha256<T: Transport>(
     ensures url { IfOk result (λ m. url_of m ≡ serialize url.now) }
     ensures expected { IfOk result (λ m. expected_of m ≡ sha256) }
     ensures fresh { IfOk result (λ m. HasTaken m [] × (failure_of m ≡ None)) }
-    ensures served { IfOk result (λ m. Within (T.serves transport.now url.now) (T.Stream.yields (limited (checked m)))) }
+    ensures served { IfOk result
+        (λ m. Within (T.serves transport.now url.now) (T.Stream.yields (limited (checked m)))) }
 {
     let text = String::from_str(alloc, url.as_str())?;
     let stream = fetch_max_size(alloc, transport, url, max_size, specifier)?;

@@ -171,7 +171,8 @@ pub fn copy_signatures(signatures: &Vec<Signature>) -> Result<Vec<Signature>, Al
 }
 
 impl<T: Clone> Clone for Signed<T> {
-    ghost is_clone = { λ s c. T.is_clone s.signed c.signed × (signatures_doc c.signatures.items ≡ signatures_doc s.signatures.items) };
+    ghost is_clone = { λ s c. T.is_clone s.signed c.signed
+        × (signatures_doc c.signatures.items ≡ signatures_doc s.signatures.items) };
 
     fn clone(&self) -> Result<Signed<T>, AllocError> {
         let signed = self.signed.clone()?;

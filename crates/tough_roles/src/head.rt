@@ -22,7 +22,11 @@ pub fn head_of(
     alloc: Global,
     members: &mut Map<String, Value>,
 ) -> Result<(String, NonZeroU64, jiff::Timestamp), ReadError>
-    ensures { Takes (λ p. record { spec_version = string_bytes p.0; version = non_zero_u64_get p.1; expires = p.2.nanosecond }) result (members_view members.new.entries) (head_at (members_view members.old.entries)) }
+    ensures { Takes (λ p. record {
+      spec_version = string_bytes p.0;
+      version = non_zero_u64_get p.1;
+      expires = p.2.nanosecond;
+    }) result (members_view members.new.entries) (head_at (members_view members.old.entries)) }
 {
     let spec_version = text(alloc, members, "spec_version")?;
     let version = positive(alloc, members, "version")?;
@@ -38,7 +42,8 @@ fn with_instant(
     name: &str,
     instant: jiff::Timestamp,
 ) -> Result<Map<String, Value>, WriteError>
-    ensures { Writes (λ m. members_view m.entries) result (with_moment name.now instant.nanosecond (members_view members.entries)) }
+    ensures { Writes (λ m. members_view m.entries) result
+        (with_moment name.now instant.nanosecond (members_view members.entries)) }
 {
     match moment_text(alloc, instant) {
         Ok(text) => with(alloc, members, name, Value::String(text)),
@@ -57,7 +62,13 @@ pub fn with_head(
     version: NonZeroU64,
     expires: jiff::Timestamp,
 ) -> Result<Map<String, Value>, WriteError>
-    ensures { Writes (λ m. members_view m.entries) result (head_json kind.now (record { spec_version = spec_version.now; version = non_zero_u64_get version; expires = expires.nanosecond }) (members_view members.entries)) }
+    ensures { Writes (λ m. members_view m.entries) result
+        (head_json kind.now (record {
+          spec_version = spec_version.now;
+          version = non_zero_u64_get version;
+          expires
+              = expires.nanosecond;
+        }) (members_view members.entries)) }
 {
     let typed = with_text(alloc, members, "_type", kind)?;
     let expires = with_instant(alloc, typed, "expires", expires)?;

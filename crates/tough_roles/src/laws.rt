@@ -30,57 +30,82 @@ pub fn verified_exactly()
 
 /// What reading says of a signed root is an equation on its plain form.
 pub fn signed_root()
-    ensures read { (d : Data.Data) (s : Signed Root) → IsSigned (λ e x. root_at e ≡ Some (root_doc x)) d s → signed_at root_at d ≡ Some (signed_doc root_doc s) }
-    ensures refused { (d : Data.Data) → IsNotSigned (λ e. root_at e ≡ None) d → signed_at root_at d ≡ None }
-    ensures written { (s : Signed Root) → document_json (λ x. root_json (root_doc x)) s ≡ signed_json root_json (signed_doc root_doc s) }
+    ensures read { (d : Data.Data) (s : Signed Root)
+        → IsSigned (λ e x. root_at e ≡ Some (root_doc x)) d s
+        → signed_at root_at d ≡ Some (signed_doc root_doc s) }
+    ensures refused { (d : Data.Data) → IsNotSigned (λ e. root_at e ≡ None) d
+        → signed_at root_at d ≡ None }
+    ensures written { (s : Signed Root)
+        → document_json (λ x. root_json (root_doc x)) s
+        ≡ signed_json root_json (signed_doc root_doc s) }
 {}
 
 /// The same of a signed timestamp.
 pub fn signed_timestamp()
-    ensures read { (d : Data.Data) (s : Signed Timestamp) → IsSigned (λ e x. timestamp_at e ≡ Some (timestamp_doc x)) d s → signed_at timestamp_at d ≡ Some (signed_doc timestamp_doc s) }
-    ensures refused { (d : Data.Data) → IsNotSigned (λ e. timestamp_at e ≡ None) d → signed_at timestamp_at d ≡ None }
-    ensures written { (s : Signed Timestamp) → document_json (λ x. timestamp_json (timestamp_doc x)) s ≡ signed_json timestamp_json (signed_doc timestamp_doc s) }
+    ensures read { (d : Data.Data) (s : Signed Timestamp)
+        → IsSigned (λ e x. timestamp_at e ≡ Some (timestamp_doc x)) d s
+        → signed_at timestamp_at d ≡ Some (signed_doc timestamp_doc s) }
+    ensures refused { (d : Data.Data) → IsNotSigned (λ e. timestamp_at e ≡ None) d
+        → signed_at timestamp_at d ≡ None }
+    ensures written { (s : Signed Timestamp)
+        → document_json (λ x. timestamp_json (timestamp_doc x)) s
+        ≡ signed_json timestamp_json (signed_doc timestamp_doc s) }
 {}
 
 /// The same of a signed snapshot.
 pub fn signed_snapshot()
-    ensures read { (d : Data.Data) (s : Signed Snapshot) → IsSigned (λ e x. snapshot_at e ≡ Some (snapshot_doc x)) d s → signed_at snapshot_at d ≡ Some (signed_doc snapshot_doc s) }
-    ensures refused { (d : Data.Data) → IsNotSigned (λ e. snapshot_at e ≡ None) d → signed_at snapshot_at d ≡ None }
-    ensures written { (s : Signed Snapshot) → document_json (λ x. snapshot_json (snapshot_doc x)) s ≡ signed_json snapshot_json (signed_doc snapshot_doc s) }
+    ensures read { (d : Data.Data) (s : Signed Snapshot)
+        → IsSigned (λ e x. snapshot_at e ≡ Some (snapshot_doc x)) d s
+        → signed_at snapshot_at d ≡ Some (signed_doc snapshot_doc s) }
+    ensures refused { (d : Data.Data) → IsNotSigned (λ e. snapshot_at e ≡ None) d
+        → signed_at snapshot_at d ≡ None }
+    ensures written { (s : Signed Snapshot)
+        → document_json (λ x. snapshot_json (snapshot_doc x)) s
+        ≡ signed_json snapshot_json (signed_doc snapshot_doc s) }
 {}
 
 /// A role whose signatures verify holds no float, so its document has a compact text.
 pub fn verified_is_written()
-    ensures root { (v : Verifies) (p : Option Policy) (s : SignedDoc RootDoc) → verdict v p (text_by root_json s.role) s.signatures ≡ Ok tt → AreSpelled s.signatures
-        → (text : List ℕ) × (option_and_then (text_in forms.Compact) (signed_json root_json s) ≡ Some text) }
-    ensures timestamp { (v : Verifies) (p : Option Policy) (s : SignedDoc TimestampDoc) → verdict v p (text_by timestamp_json s.role) s.signatures ≡ Ok tt → AreSpelled s.signatures
-        → (text : List ℕ) × (option_and_then (text_in forms.Compact) (signed_json timestamp_json s) ≡ Some text) }
-    ensures snapshot { (v : Verifies) (p : Option Policy) (s : SignedDoc SnapshotDoc) → verdict v p (text_by snapshot_json s.role) s.signatures ≡ Ok tt → AreSpelled s.signatures
-        → (text : List ℕ) × (option_and_then (text_in forms.Compact) (signed_json snapshot_json s) ≡ Some text) }
+    ensures root { (v : Verifies) (p : Option Policy) (s : SignedDoc RootDoc)
+        → verdict v p (text_by root_json s.role) s.signatures ≡ Ok tt → AreSpelled s.signatures
+        → (text : List ℕ)
+        × (option_and_then (text_in forms.Compact) (signed_json root_json s) ≡ Some text) }
+    ensures timestamp { (v : Verifies) (p : Option Policy) (s : SignedDoc TimestampDoc)
+        → verdict v p (text_by timestamp_json s.role) s.signatures ≡ Ok tt → AreSpelled s.signatures
+        → (text : List ℕ)
+        × (option_and_then (text_in forms.Compact) (signed_json timestamp_json s) ≡ Some text) }
+    ensures snapshot { (v : Verifies) (p : Option Policy) (s : SignedDoc SnapshotDoc)
+        → verdict v p (text_by snapshot_json s.role) s.signatures ≡ Ok tt → AreSpelled s.signatures
+        → (text : List ℕ)
+        × (option_and_then (text_in forms.Compact) (signed_json snapshot_json s) ≡ Some text) }
 {}
 
 /// The compact text of a JSON value is read as the value.
 pub fn text_reads_back()
-    ensures { (d : Data.Data) (text : List ℕ) → IsReadable d → text_in forms.Compact d ≡ Some text → json_of text ≡ Some d }
+    ensures { (d : Data.Data) (text : List ℕ) → IsReadable d → text_in forms.Compact d ≡ Some text
+        → json_of text ≡ Some d }
 {}
 
 /// The text of a signed root, whose keys stand under their own identifiers, is read as it.
 pub fn root_reads_back()
-    ensures { (s : SignedDoc RootDoc) (d : Data.Data) (text : List ℕ) → IsTimestampNanos s.role.head.expires → AreOwn s.role.keys → AreOrdered s.role
+    ensures { (s : SignedDoc RootDoc) (d : Data.Data) (text : List ℕ)
+        → IsTimestampNanos s.role.head.expires → AreOwn s.role.keys → AreOrdered s.role
         → signed_json root_json s ≡ Some d → IsReadable d → text_in forms.Compact d ≡ Some text
         → option_and_then (signed_at root_at) (json_of text) ≡ Some s }
 {}
 
 /// The text of a signed timestamp is read as it.
 pub fn timestamp_reads_back()
-    ensures { (s : SignedDoc TimestampDoc) (d : Data.Data) (text : List ℕ) → IsTimestampNanos s.role.head.expires
+    ensures { (s : SignedDoc TimestampDoc) (d : Data.Data) (text : List ℕ)
+        → IsTimestampNanos s.role.head.expires
         → signed_json timestamp_json s ≡ Some d → IsReadable d → text_in forms.Compact d ≡ Some text
         → option_and_then (signed_at timestamp_at) (json_of text) ≡ Some s }
 {}
 
 /// The text of a signed snapshot is read as it.
 pub fn snapshot_reads_back()
-    ensures { (s : SignedDoc SnapshotDoc) (d : Data.Data) (text : List ℕ) → IsTimestampNanos s.role.head.expires
+    ensures { (s : SignedDoc SnapshotDoc) (d : Data.Data) (text : List ℕ)
+        → IsTimestampNanos s.role.head.expires
         → signed_json snapshot_json s ≡ Some d → IsReadable d → text_in forms.Compact d ≡ Some text
         → option_and_then (signed_at snapshot_at) (json_of text) ≡ Some s }
 {}

@@ -24,7 +24,8 @@ pub fn file_name(
     version: NonZeroU64,
     name: &str,
 ) -> Result<String, AllocError>
-    ensures { IfOk result (λ s. string_bytes s ≡ file_name consistent_snapshot (non_zero_u64_get version) name.now) }
+    ensures { IfOk result (λ s. string_bytes s
+        ≡ file_name consistent_snapshot (non_zero_u64_get version) name.now) }
 {
     if consistent_snapshot {
         versioned(alloc, version.get(), name)

@@ -79,7 +79,8 @@ pub fn keys(
     members: &mut Map<String, Value>,
     name: &str,
 ) -> Result<BTreeMap<Decoded<Hex>, Key>, ReadError>
-    ensures { Takes (λ m. keys_doc m.entries) result (members_view members.new.entries) (required name.now keys_at (members_view members.old.entries)) }
+    ensures { Takes (λ m. keys_doc m.entries) result (members_view members.new.entries)
+        (required name.now keys_at (members_view members.old.entries)) }
 {
     match take(members, name) {
         Some(Value::Object(inner)) => match keys_of(alloc, inner) {
@@ -96,7 +97,8 @@ pub fn keyids(
     members: &mut Map<String, Value>,
     name: &str,
 ) -> Result<Vec<Decoded<Hex>>, ReadError>
-    ensures { Takes (λ v. v.items) result (members_view members.new.entries) (required name.now (listing hexadecimal) (members_view members.old.entries)) }
+    ensures { Takes (λ v. v.items) result (members_view members.new.entries)
+        (required name.now (listing hexadecimal) (members_view members.old.entries)) }
 {
     list(alloc, members, name)
 }
@@ -145,7 +147,8 @@ fn roles(
     members: &mut Map<String, Value>,
     name: &str,
 ) -> Result<BTreeMap<RoleType, RoleKeys>, ReadError>
-    ensures { Takes (λ m. roles_doc m.entries) result (members_view members.new.entries) (required name.now roles_at (members_view members.old.entries)) }
+    ensures { Takes (λ m. roles_doc m.entries) result (members_view members.new.entries)
+        (required name.now roles_at (members_view members.old.entries)) }
 {
     match take(members, name) {
         Some(Value::Object(inner)) => match table_of(alloc, inner) {

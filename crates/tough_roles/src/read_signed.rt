@@ -39,7 +39,8 @@ fn parts_of(
     alloc: Global,
     document: Borrowed<'_>,
 ) -> Result<(Borrowed<'_>, Vec<Signature>), ReadError>
-    ensures { (d : Data) → of_json (value_view document.entry) ≡ Some d → ReadsParts (λ v. signatures_doc v.items) result (signed_parts d) }
+    ensures { (d : Data) → of_json (value_view document.entry) ≡ Some d
+        → ReadsParts (λ v. signatures_doc v.items) result (signed_parts d) }
 {
     let Borrowed::Object(members) = document else {
         return Err(shape(alloc, "(no object)"));
@@ -54,7 +55,8 @@ pub(crate) fn signed_of<T: Role>(
     alloc: Global,
     document: Borrowed<'_>,
 ) -> Result<Signed<T>, ReadError>
-    ensures read { (d : Data) → of_json (value_view document.entry) ≡ Some d → ReadsValue (IsSigned T.is_read) (IsNotSigned T.is_refused) result d }
+    ensures read { (d : Data) → of_json (value_view document.entry) ≡ Some d
+        → ReadsValue (IsSigned T.is_read) (IsNotSigned T.is_refused) result d }
     ensures fresh { IfOk result (λ s. T.is_fresh s.signed) }
 {
     let (role, signatures) = match parts_of(alloc, document) {

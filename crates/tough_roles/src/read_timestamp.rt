@@ -34,7 +34,8 @@ fn hashes(
     members: &mut Map<String, Value>,
     name: &str,
 ) -> Result<Option<Hashes>, ReadError>
-    ensures { Takes (option_map hashes_doc) result (members_view members.new.entries) (optional name.now hashes_at (members_view members.old.entries)) }
+    ensures { Takes (option_map hashes_doc) result (members_view members.new.entries)
+        (optional name.now hashes_at (members_view members.old.entries)) }
 {
     match present(members, name) {
         None => Ok(None),
@@ -78,7 +79,8 @@ fn metafiles_of(
     alloc: Global,
     members: Map<String, Value>,
 ) -> Result<BTreeMap<String, Metafile>, ReadError>
-    ensures { Reads (λ m. metafiles_doc m.entries) result (each metafile_at (members_view members.entries)) }
+    ensures { Reads (λ m. metafiles_doc m.entries) result
+        (each metafile_at (members_view members.entries)) }
 {
     let mut metafiles = BTreeMap::new(alloc);
     for (name, value) in members {
@@ -93,7 +95,8 @@ pub(crate) fn metafiles(
     members: &mut Map<String, Value>,
     name: &str,
 ) -> Result<BTreeMap<String, Metafile>, ReadError>
-    ensures { Takes (λ m. metafiles_doc m.entries) result (members_view members.new.entries) (required name.now (mapping metafile_at) (members_view members.old.entries)) }
+    ensures { Takes (λ m. metafiles_doc m.entries) result (members_view members.new.entries)
+        (required name.now (mapping metafile_at) (members_view members.old.entries)) }
 {
     match take(members, name) {
         Some(Value::Object(inner)) => match metafiles_of(alloc, inner) {

@@ -53,8 +53,10 @@ pub trait Role {
 
     /// The role that the JSON is, as `from_value` reads it.
     fn from_borrowed(alloc: Global, value: Borrowed<'_>) -> Result<Self, ReadError>
-        ensures read { (d : Data) → of_json (value_view value.entry) ≡ Some d → ReadsValue is_read is_refused result d }
-        ensures kept { (d : Data) → of_json (value_view value.entry) ≡ Some d → IfOk result is_kept }
+        ensures read { (d : Data) → of_json (value_view value.entry) ≡ Some d
+            → ReadsValue is_read is_refused result d }
+        ensures kept { (d : Data) → of_json (value_view value.entry) ≡ Some d
+            → IfOk result is_kept }
         ensures fresh { IfOk result is_fresh }
     {
         match value_in(alloc, &value) {

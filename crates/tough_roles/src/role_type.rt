@@ -103,7 +103,8 @@ impl Eq for RoleType {
 impl PartialOrd for RoleType {
     ghost partial_cmp = { as_partial_cmp role_cmp };
 
-    ghost laws = { partial_order_from_own_ties (Prim.search (comparing, rules)) (Prim.search (comparing, rules)) };
+    ghost laws = { partial_order_from_own_ties (Prim.search (comparing, rules))
+        (Prim.search (comparing, rules)) };
 
     fn partial_cmp(&self, other: &RoleType) -> Option<Ordering> {
         Some(self.cmp(other))

@@ -44,7 +44,8 @@ impl<T: Role> Signed<T> {
     pub fn to_value(&self, alloc: Global) -> Result<Value, WriteError>
         ensures written { Writes view result (document_json T.json self.now) }
         ensures unwritable { IsErrOf result writes.Unwritable → T.json self.now.signed ≡ None }
-        ensures back { T.is_kept self.now.signed → IfOk result (λ v. IsSigned T.is_read (view v) self.now) }
+        ensures back { T.is_kept self.now.signed
+            → IfOk result (λ v. IsSigned T.is_read (view v) self.now) }
     {
         let role = self.signed.to_value(alloc)?;
         Ok(signed_value(alloc, role, &self.signatures)?)
@@ -53,9 +54,13 @@ impl<T: Role> Signed<T> {
     /// The text of the document as compact JSON, which is read as the document where it nests no deeper than is read;
     /// `Unwritable` where its role has no JSON, or that holds a float.
     pub fn compact(&self, alloc: Global) -> Result<Vec<u8>, WriteError>
-        ensures written { Writes (λ t. t.items) result (option_and_then (text_in forms.Compact) (document_json T.json self.now)) }
-        ensures unwritable { IsErrOf result writes.Unwritable → option_and_then (text_in forms.Compact) (T.json self.now.signed) ≡ None }
-        ensures back { T.is_kept self.now.signed → NestsWithin max_depth (document_json T.json self.now) → IfOk result (λ t. IsTextOf T.is_read self.now t.items) }
+        ensures written { Writes (λ t. t.items) result
+            (option_and_then (text_in forms.Compact) (document_json T.json self.now)) }
+        ensures unwritable { IsErrOf result writes.Unwritable
+            → option_and_then (text_in forms.Compact) (T.json self.now.signed) ≡ None }
+        ensures back { T.is_kept self.now.signed
+            → NestsWithin max_depth (document_json T.json self.now)
+            → IfOk result (λ t. IsTextOf T.is_read self.now t.items) }
     {
         let value = self.to_value(alloc)?;
         if holds_float(&value) {
@@ -67,7 +72,8 @@ impl<T: Role> Signed<T> {
 
     // The same text, where the role is written in pieces.
     fn text_in_pieces(&self, alloc: Global, form: Form) -> Result<Vec<u8>, PieceError>
-        ensures { IfOk result (λ t. option_and_then (text_in form) (document_json T.json self.now) ≡ Some t.items) }
+        ensures { IfOk result (λ t. option_and_then (text_in form)
+            (document_json T.json self.now) ≡ Some t.items) }
     {
         let role = self.signed.text_in_pieces(alloc, form)?;
         let text = signed_text(alloc, form, role.as_slice(), &self.signatures)?;
@@ -76,7 +82,8 @@ impl<T: Role> Signed<T> {
 
     /// The text of the document, canonical or compact; `Unwritable` where its role has no JSON, or that has no such text.
     pub fn text(&self, alloc: Global, form: Form) -> Result<Vec<u8>, WriteError>
-        ensures { Writes (λ t. t.items) result (option_and_then (text_in form) (document_json T.json self.now)) }
+        ensures { Writes (λ t. t.items) result
+            (option_and_then (text_in form) (document_json T.json self.now)) }
     {
         match self.text_in_pieces(alloc, form) {
             Ok(text) => Ok(text),

@@ -39,7 +39,13 @@ impl Snapshot {
         version: NonZeroU64,
         expires: jiff::Timestamp,
     ) -> Snapshot
-        ensures { snapshot_doc result ≡ bare_snapshot (record { spec_version = string_bytes spec_version; version = non_zero_u64_get version; expires = expires.nanosecond }) }
+        ensures { snapshot_doc result
+            ≡ bare_snapshot (record {
+              spec_version = string_bytes spec_version;
+              version
+                  = non_zero_u64_get version;
+              expires = expires.nanosecond;
+            }) }
     {
         Snapshot {
             spec_version,
@@ -78,7 +84,8 @@ impl Role for Snapshot {
 
     ghost is_fresh = { λ x. ⊤ };
 
-    ghost file = { λ x consistent. file_name consistent (snapshot_doc x).head.version (codes "snapshot.json") };
+    ghost file = { λ x consistent. file_name consistent (snapshot_doc x).head.version
+        (codes "snapshot.json") };
 
     ghost id = { λ x. standard types.Snapshot };
 

@@ -53,7 +53,13 @@ impl Timestamp {
         version: NonZeroU64,
         expires: jiff::Timestamp,
     ) -> Timestamp
-        ensures { timestamp_doc result ≡ bare_timestamp (record { spec_version = string_bytes spec_version; version = non_zero_u64_get version; expires = expires.nanosecond }) }
+        ensures { timestamp_doc result
+            ≡ bare_timestamp (record {
+              spec_version = string_bytes spec_version;
+              version
+                  = non_zero_u64_get version;
+              expires = expires.nanosecond;
+            }) }
     {
         Timestamp {
             spec_version,

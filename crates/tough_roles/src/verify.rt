@@ -36,7 +36,8 @@ fn is_signed<V: Verify>(
     signature: &Signature,
     verifier: &V,
 ) -> bool
-    ensures { result ≡ under (V.verifies verifier.now) text.now signature.now.sig.bytes (key_of (keys_doc keys.now.entries) signature.now.keyid.bytes) }
+    ensures { result ≡ under (V.verifies verifier.now) text.now signature.now.sig.bytes
+        (key_of (keys_doc keys.now.entries) signature.now.keyid.bytes) }
 {
     match keys.get(&signature.keyid) {
         Some(key) => verifier.verify(key, text, signature.sig.as_slice()),
@@ -52,7 +53,8 @@ fn counts<V: Verify>(
     signature: &Signature,
     verifier: &V,
 ) -> bool
-    ensures { result ≡ is_valid (V.verifies verifier.now) (keys_doc keys.now.entries) (bytes_of keyids.now) text.now (signature_doc signature.now) }
+    ensures { result ≡ is_valid (V.verifies verifier.now) (keys_doc keys.now.entries)
+        (bytes_of keyids.now) text.now (signature_doc signature.now) }
 {
     is_listed(keyids, &signature.keyid) && is_signed(keys, text, signature, verifier)
 }
@@ -65,7 +67,9 @@ fn valid_count<V: Verify>(
     signatures: &[Signature],
     verifier: &V,
 ) -> usize
-    ensures { result ≡ count_by (λ s. is_valid (V.verifies verifier.now) (keys_doc keys.now.entries) (bytes_of keyids.now) text.now (signature_doc s)) signatures.now }
+    ensures { result ≡ count_by
+        (λ s. is_valid (V.verifies verifier.now) (keys_doc keys.now.entries) (bytes_of keyids.now)
+        text.now (signature_doc s)) signatures.now }
 {
     signatures
         .iter()
@@ -75,7 +79,10 @@ fn valid_count<V: Verify>(
 
 // The place of the first identifier that stood before; the cost grows as n log n for n signatures.
 fn repeated(alloc: Global, signatures: &[Signature]) -> Result<Option<usize>, AllocError>
-    ensures { IfOk result (λ place. MatchOption place (some_twice (signatures_doc signatures.now) ≡ false) (λ i. (i < length signatures.now) × StandsAgain (signatures_doc signatures.now) i × (some_twice (signatures_doc signatures.now) ≡ true))) }
+    ensures { IfOk result (λ place. MatchOption place
+        (some_twice (signatures_doc signatures.now) ≡ false)
+        (λ i. (i < length signatures.now) × StandsAgain (signatures_doc signatures.now) i
+        × (some_twice (signatures_doc signatures.now) ≡ true))) }
 {
     let mut seen = BTreeSet::new(alloc);
     for (i, signature) in signatures.iter().enumerate() {
@@ -97,7 +104,10 @@ pub fn judge<V: Verify>(
     signatures: &[Signature],
     verifier: &V,
 ) -> Result<(), Error>
-    ensures verdict { Answers result (verdict (V.verifies verifier.now) (Some (policy_of (keys_doc known.now.entries) (role_keys_doc keys.now))) (Some text.now) (signatures_doc signatures.now)) }
+    ensures verdict { Answers result
+        (verdict (V.verifies verifier.now)
+        (Some (policy_of (keys_doc known.now.entries) (role_keys_doc keys.now))) (Some text.now)
+        (signatures_doc signatures.now)) }
     ensures named { IfErr result (λ e. Names role (signatures_doc signatures.now) e) }
 {
     let twice = repeated(alloc, signatures)?;
@@ -124,7 +134,9 @@ fn answer<T: Role, V: Verify>(
     role: &Signed<T>,
     verifier: &V,
 ) -> Result<(), Error>
-    ensures verdict { Answers result (verdict (V.verifies verifier.now) (policy (root_doc root.now) T.TYPE) (text_by T.json role.now.signed) (signatures_doc role.now.signatures.items)) }
+    ensures verdict { Answers result
+        (verdict (V.verifies verifier.now) (policy (root_doc root.now) T.TYPE)
+        (text_by T.json role.now.signed) (signatures_doc role.now.signatures.items)) }
     ensures named { IfErr result (λ e. Names T.TYPE (signatures_doc role.now.signatures.items) e) }
 {
     let Some(keys) = root.roles.get(&T::TYPE) else {
@@ -157,10 +169,15 @@ impl Root {
         role: &Signed<T>,
         verifier: &V,
     ) -> Result<(), Error>
-        ensures verdict { Answers result (verdict (V.verifies verifier.now) (policy (root_doc self.now) T.TYPE) (text_by T.json role.now.signed) (signatures_doc role.now.signatures.items)) }
-        ensures ok { IfOk result (λ u. ReachesUnder (V.verifies verifier.now) (root_doc self.now) T.TYPE T.json (signed_doc (λ x. x) role.now)) }
-        ensures only { ReachesUnder (V.verifies verifier.now) (root_doc self.now) T.TYPE T.json (signed_doc (λ x. x) role.now) → IsOkOrMemory result }
-        ensures named { IfErr result (λ e. Names T.TYPE (signatures_doc role.now.signatures.items) e) }
+        ensures verdict { Answers result
+            (verdict (V.verifies verifier.now) (policy (root_doc self.now) T.TYPE)
+            (text_by T.json role.now.signed) (signatures_doc role.now.signatures.items)) }
+        ensures ok { IfOk result (λ u. ReachesUnder (V.verifies verifier.now) (root_doc self.now)
+            T.TYPE T.json (signed_doc (λ x. x) role.now)) }
+        ensures only { ReachesUnder (V.verifies verifier.now) (root_doc self.now) T.TYPE T.json
+            (signed_doc (λ x. x) role.now) → IsOkOrMemory result }
+        ensures named { IfErr result
+            (λ e. Names T.TYPE (signatures_doc role.now.signatures.items) e) }
     {
         answer(alloc, self, role, verifier)
     }

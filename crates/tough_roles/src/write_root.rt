@@ -50,8 +50,10 @@ fn roles_value(
     alloc: Global,
     roles: &BTreeMap<RoleType, RoleKeys>,
 ) -> Result<Map<String, Value>, WriteError>
-    ensures written { Writes (λ m. members_view m.entries) result (roles_json (roles_doc roles.now.entries) no_members) }
-    ensures ordered { IfOk result (λ m. IsStrictlySortedBy role_cmp (keys_of (roles_doc roles.now.entries))) }
+    ensures written { Writes (λ m. members_view m.entries) result
+        (roles_json (roles_doc roles.now.entries) no_members) }
+    ensures ordered { IfOk result
+        (λ m. IsStrictlySortedBy role_cmp (keys_of (roles_doc roles.now.entries))) }
 {
     let mut members = Map::new(alloc);
     for (role, keys) in roles.iter() {
@@ -66,8 +68,10 @@ pub fn keys_value(
     alloc: Global,
     keys: &BTreeMap<Decoded<Hex>, Key>,
 ) -> Result<Map<String, Value>, WriteError>
-    ensures written { Writes (λ m. members_view m.entries) result (keys_json (keys_doc keys.now.entries) no_members) }
-    ensures ordered { IfOk result (λ m. IsStrictlySortedBy by_bytes (keys_of (keys_doc keys.now.entries))) }
+    ensures written { Writes (λ m. members_view m.entries) result
+        (keys_json (keys_doc keys.now.entries) no_members) }
+    ensures ordered { IfOk result
+        (λ m. IsStrictlySortedBy by_bytes (keys_of (keys_doc keys.now.entries))) }
 {
     let mut members = Map::new(alloc);
     for (id, key) in keys.iter() {
@@ -84,7 +88,8 @@ fn with_tables(
     members: Map<String, Value>,
     root: &Root,
 ) -> Result<Map<String, Value>, WriteError>
-    ensures written { Writes (λ m. members_view m.entries) result (tables_json (root_doc root.now) (members_view members.entries)) }
+    ensures written { Writes (λ m. members_view m.entries) result
+        (tables_json (root_doc root.now) (members_view members.entries)) }
     ensures ordered { IfOk result (λ m. AreOrdered (root_doc root.now)) }
 {
     let listed = roles_value(alloc, &root.roles)?;

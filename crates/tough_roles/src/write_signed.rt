@@ -25,7 +25,8 @@ fn signature_value(alloc: Global, signature: &Signature) -> Result<Value, AllocE
 
 // Each signature as an item.
 fn signature_values(alloc: Global, signatures: &[Signature]) -> Result<Vec<Value>, AllocError>
-    ensures { IfOk result (λ v. all_json signature_json (signatures_doc signatures.now) ≡ Some (items_view v.items)) }
+    ensures { IfOk result (λ v. all_json signature_json (signatures_doc signatures.now)
+        ≡ Some (items_view v.items)) }
 {
     let mut values = Vec::new(alloc);
     for signature in signatures {
@@ -42,7 +43,8 @@ pub(crate) fn signed_value(
     role: Value,
     signatures: &[Signature],
 ) -> Result<Value, AllocError>
-    ensures { IfOk result (λ v. signed_parts_json (view role) (signatures_doc signatures.now) ≡ Some (view v)) }
+    ensures { IfOk result (λ v. signed_parts_json (view role)
+        (signatures_doc signatures.now) ≡ Some (view v)) }
 {
     let items = signature_values(alloc, signatures)?;
     let mut members = Map::new(alloc);
@@ -58,7 +60,9 @@ pub(crate) fn signed_text(
     role: &[u8],
     signatures: &[Signature],
 ) -> Result<Vec<u8>, PieceError>
-    ensures { IfOk result (λ t. (d : Data) → text_in form d ≡ Some role.now → option_and_then (text_in form) (signed_parts_json d (signatures_doc signatures.now)) ≡ Some t.items) }
+    ensures { IfOk result (λ t. (d : Data) → text_in form d ≡ Some role.now
+        → option_and_then (text_in form)
+        (signed_parts_json d (signatures_doc signatures.now)) ≡ Some t.items) }
 {
     let items = Value::Array(signature_values(alloc, signatures)?);
     let mut object = ObjectText::new(alloc, form)?;

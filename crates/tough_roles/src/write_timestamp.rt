@@ -31,7 +31,8 @@ pub fn hashes_value(alloc: Global, hashes: &Hashes) -> Result<Value, WriteError>
 
 // The JSON of the hashes, if there are some.
 fn optional_hashes(alloc: Global, hashes: &Option<Hashes>) -> Result<Option<Value>, WriteError>
-    ensures { Writes (option_map view) result (optional_json hashes_json (option_map hashes_doc hashes.now)) }
+    ensures { Writes (option_map view) result
+        (optional_json hashes_json (option_map hashes_doc hashes.now)) }
 {
     match hashes {
         None => Ok(None),
@@ -57,7 +58,8 @@ pub(crate) fn metafiles_value(
     alloc: Global,
     metafiles: &BTreeMap<String, Metafile>,
 ) -> Result<Map<String, Value>, WriteError>
-    ensures { Writes (λ m. members_view m.entries) result (named metafile_json (metafiles_doc metafiles.now.entries)) }
+    ensures { Writes (λ m. members_view m.entries) result
+        (named metafile_json (metafiles_doc metafiles.now.entries)) }
 {
     let mut members = Map::new(alloc);
     for (name, metafile) in metafiles.iter() {

@@ -72,7 +72,9 @@ pub fn make_temp<F: Files>(
     folder: &str,
     place: &Place,
 ) -> Result<String, SaveError>
-    ensures { F.tells ≡ true → MakesTemp folder.now (parent_of place.now) (path_of place.now) result (F.calls files.old) (F.calls files.new) }
+    ensures { F.tells ≡ true
+        → MakesTemp folder.now (parent_of place.now) (path_of place.now) result
+        (F.calls files.old) (F.calls files.new) }
 {
     let parent = place.parent();
     if let Err(e) = files.make_folders(parent) {

@@ -14,7 +14,10 @@ use tough_net::Transport;
 
 /// The stream of a target that ends without an error gave bytes that have the digest that is listed (TUF specification 5.7.2).
 pub fn ended_has_digest<T: Transport>()
-    ensures { (t : T) (base : Parts) (name : List ℕ) (size : ℕ) (digest : List ℕ) (s : Check (Bounded T.Stream)) → HasBegun T.serves T.Stream.yields t base name size digest s
-        → (pieces : List (List ℕ)) → Checked s (Limits (limit_of (checked s)) (T.Stream.yields (limited (checked s)))) (map Ok pieces) None
+    ensures { (t : T) (base : Parts) (name : List ℕ) (size : ℕ) (digest : List ℕ)
+        (s : Check (Bounded T.Stream)) → HasBegun T.serves T.Stream.yields t base name size digest s
+        → (pieces : List (List ℕ))
+        → Checked s (Limits (limit_of (checked s))
+        (T.Stream.yields (limited (checked s)))) (map Ok pieces) None
         → sha256 (joined_pieces pieces) ≡ digest }
 {}

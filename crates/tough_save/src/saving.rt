@@ -46,14 +46,17 @@ impl<S> Saving<S> {
 
     // Removes the temporary file, as far as the files can.
     fn discard<F: Files>(&self, files: &mut F)
-        ensures { F.tells ≡ true → Discards (temp_of self.now) (F.calls files.old) (F.calls files.new) }
+        ensures { F.tells ≡ true
+            → Discards (temp_of self.now) (F.calls files.old) (F.calls files.new) }
     {
         let _ = files.remove(self.temp.as_str());
     }
 
     // Appends a piece; after a refusal the temporary file is removed.
     fn append<F: Files>(&self, files: &mut F, piece: &Bytes) -> Result<(), SaveError>
-        ensures tried { F.tells ≡ true → Tries (append_to (temp_of self.now) piece.now) step.Write (temp_of self.now) (temp_of self.now) result (F.calls files.old) (F.calls files.new) }
+        ensures tried { F.tells ≡ true
+            → Tries (append_to (temp_of self.now) piece.now) step.Write (temp_of self.now)
+            (temp_of self.now) result (F.calls files.old) (F.calls files.new) }
         ensures of_files { IfErr result IsOfFiles }
     {
         match files.append(self.temp.as_str(), piece.as_slice()) {
@@ -67,7 +70,9 @@ impl<S> Saving<S> {
 
     // Gives the file its name; after a refusal the temporary file is removed.
     fn rename<F: Files>(&self, files: &mut F) -> Result<(), SaveError>
-        ensures tried { F.tells ≡ true → Tries (rename_to (temp_of self.now) (target_of self.now)) step.Rename (target_of self.now) (temp_of self.now) result (F.calls files.old) (F.calls files.new) }
+        ensures tried { F.tells ≡ true
+            → Tries (rename_to (temp_of self.now) (target_of self.now)) step.Rename
+            (target_of self.now) (temp_of self.now) result (F.calls files.old) (F.calls files.new) }
         ensures of_files { IfErr result IsOfFiles }
     {
         match files.rename(self.temp.as_str(), self.path.as_str()) {
@@ -89,13 +94,20 @@ impl<S: Stream<Item = Result<Bytes, TransportError>>> Saving<S> {
         cx: &mut Context<'_>,
     ) -> Poll<Result<(), SaveError>>
         requires { S.can_poll (stream_of self.old) }
-        ensures saves { F.tells ≡ true → IfReady result (λ r. Saves (S.yields (stream_of self.old)) (temp_of self.old) (target_of self.old) r (F.calls files.old) (F.calls files.new)) }
+        ensures saves { F.tells ≡ true
+            → IfReady result (λ r. Saves (S.yields (stream_of self.old)) (temp_of self.old)
+            (target_of self.old) r (F.calls files.old) (F.calls files.new)) }
         ensures tells { IfReady result (Tells (S.yields (stream_of self.old))) }
         ensures follows { F.tells ≡ true → OnPending result ((r : _) (calls : _)
-            → Saves (S.yields (stream_of self.new)) (temp_of self.old) (target_of self.old) r (F.calls files.new) calls
-            → Saves (S.yields (stream_of self.old)) (temp_of self.old) (target_of self.old) r (F.calls files.old) calls) }
-        ensures same { OnPending result ((r : _) → Tells (S.yields (stream_of self.new)) r → Tells (S.yields (stream_of self.old)) r) }
-        ensures paths { (temp_of self.new ≡ temp_of self.old) × (target_of self.new ≡ target_of self.old) }
+            → Saves (S.yields (stream_of self.new)) (temp_of self.old) (target_of self.old) r
+            (F.calls files.new) calls
+            → Saves (S.yields (stream_of self.old)) (temp_of self.old) (target_of self.old) r
+            (F.calls files.old) calls) }
+        ensures same { OnPending result
+            ((r : _) → Tells (S.yields (stream_of self.new)) r
+            → Tells (S.yields (stream_of self.old)) r) }
+        ensures paths { (temp_of self.new ≡ temp_of self.old)
+            × (target_of self.new ≡ target_of self.old) }
         ensures again { OnPending result (S.can_poll (stream_of self.new)) }
         ensures registered { OnPending result (Covers cx.new (S.needs (stream_of self.new))) }
         ensures kept { Keeps cx.old cx.new }

@@ -45,7 +45,8 @@ pub fn file_name(
     digest: &[u8],
     prefixed: bool,
 ) -> Result<String, AllocError>
-    ensures { IfOk result (λ name. string_bytes name ≡ spec.file_name resolved.now digest.now prefixed) }
+    ensures { IfOk result (λ name. string_bytes name
+        ≡ spec.file_name resolved.now digest.now prefixed) }
 {
     if prefixed {
         let mut name = digits(alloc, digest)?;
@@ -80,9 +81,11 @@ pub fn fetch_target<T: Transport>(
     length: u64,
     digest: &[u8],
 ) -> Result<TargetStream<T::Stream>, FetchError>
-    ensures begun { IfOk result (HasBegun T.serves T.Stream.yields transport.now base.now name.now length digest.now) }
+    ensures begun { IfOk result
+        (HasBegun T.serves T.Stream.yields transport.now base.now name.now length digest.now) }
     ensures can_poll { IfOk result (λ s. T.Stream.can_poll (limited (checked s))) }
-    ensures refused { IfErr result (IsUnbegun T.refuses transport.now base.now name.now digest.now) }
+    ensures refused { IfErr result
+        (IsUnbegun T.refuses transport.now base.now name.now digest.now) }
 {
     let url = match base.join(name) {
         Ok(url) => url,

@@ -7,7 +7,8 @@ use tough_files::{Files, FilesError};
 
 /// Makes the file, or empties the one that is there, and then appends the bytes.
 pub fn write_file<F: Files>(files: &mut F, path: &str, bytes: &[u8]) -> Result<(), FilesError>
-    ensures { F.tells ≡ true → Writes path.now bytes.now result (F.calls files.old) (F.calls files.new) }
+    ensures { F.tells ≡ true
+        → Writes path.now bytes.now result (F.calls files.old) (F.calls files.new) }
 {
     match files.create(path) {
         Ok(()) => files.append(path, bytes),

@@ -56,7 +56,8 @@ fn copy_listing(
 
 // The same document, but with these delegations.
 fn copy_own(document: &Targets, delegations: Option<Delegations>) -> Result<Targets, AllocError>
-    ensures { IfOk result (λ c. tree_doc c ≡ regrown (option_map delegations_tree delegations) (tree_doc document.now)) }
+    ensures { IfOk result (λ c. tree_doc c
+        ≡ regrown (option_map delegations_tree delegations) (tree_doc document.now)) }
 {
     let spec_version = document.spec_version.clone()?;
     let targets = copy_listing(&document.targets)?;
@@ -76,7 +77,8 @@ fn copy_entry(
     role: &DelegatedRole,
     targets: Option<Signed<DelegatedTargets>>,
 ) -> Result<DelegatedRole, AllocError>
-    ensures { IfOk result (λ c. role_tree c ≡ ((role_tree role.now).0, option_map held_doc targets)) }
+    ensures { IfOk result (λ c. role_tree c
+        ≡ ((role_tree role.now).0, option_map held_doc targets)) }
 {
     let name = role.name.clone()?;
     let keyids = copy_keyids(&role.keyids)?;

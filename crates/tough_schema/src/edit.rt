@@ -19,7 +19,10 @@ impl Targets {
     /// Lists the target under the name, in the place of one that stands there. Where there is no memory, nothing is
     /// changed.
     pub fn add_target(&mut self, name: TargetName, target: Target) -> Result<(), AllocError>
-        ensures added { OnOk result (tree_doc self.new ≡ with_listing (λ l. insert_entry by_raw_then_resolved l name (target_doc target)) (tree_doc self.old)) }
+        ensures added { OnOk result
+            (tree_doc self.new ≡ with_listing
+            (λ l. insert_entry by_raw_then_resolved l name
+            (target_doc target)) (tree_doc self.old)) }
         ensures refused { OnErr result (tree_doc self.new ≡ tree_doc self.old) }
     {
         self.targets.insert(name, target)?;
@@ -28,8 +31,11 @@ impl Targets {
 
     /// Takes what this document lists under the name out of it, and gives it back.
     pub fn remove_target(&mut self, name: &TargetName) -> Option<Target>
-        ensures removed { tree_doc self.new ≡ with_listing (remove_entry (is_at (by_raw_then_resolved name.now))) (tree_doc self.old) }
-        ensures target { option_map target_doc result ≡ listed name.now (targets_doc self.old).targets }
+        ensures removed { tree_doc self.new
+            ≡ with_listing (remove_entry
+            (is_at (by_raw_then_resolved name.now))) (tree_doc self.old) }
+        ensures target { option_map target_doc result
+            ≡ listed name.now (targets_doc self.old).targets }
     {
         self.targets.remove(name)
     }

@@ -15,7 +15,8 @@ fn add_below<'a>(
     document: &'a Targets,
     found: &mut Vec<&'a DelegatedRole>,
 ) -> Result<(), AllocError>
-    ensures { OnOk result (shown found.new.items ≡ shown found.old.items ++ entries (tree_doc document.now)) }
+    ensures { OnOk result (shown found.new.items
+        ≡ shown found.old.items ++ entries (tree_doc document.now)) }
 {
     if let Some(delegations) = &document.delegations {
         add_roles(&delegations.roles, found)?;
@@ -29,7 +30,8 @@ fn add_roles<'a>(
     roles: &'a [DelegatedRole],
     found: &mut Vec<&'a DelegatedRole>,
 ) -> Result<(), AllocError>
-    ensures { OnOk result (shown found.new.items ≡ shown found.old.items ++ roles_in (role_branches roles.now)) }
+    ensures { OnOk result (shown found.new.items
+        ≡ shown found.old.items ++ roles_in (role_branches roles.now)) }
 {
     for role in roles {
         add_role(role, found)?;
@@ -43,7 +45,8 @@ fn add_role<'a>(
     role: &'a DelegatedRole,
     found: &mut Vec<&'a DelegatedRole>,
 ) -> Result<(), AllocError>
-    ensures { OnOk result (shown found.new.items ≡ shown found.old.items ++ gathered (role_tree role.now)) }
+    ensures { OnOk result (shown found.new.items
+        ≡ shown found.old.items ++ gathered (role_tree role.now)) }
 {
     found.push(role)?;
     if let Some(signed) = &role.targets {

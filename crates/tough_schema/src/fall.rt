@@ -48,7 +48,8 @@ pub(crate) fn joined(
     mut first: Vec<DelegatedRole>,
     mut second: Vec<DelegatedRole>,
 ) -> (Vec<DelegatedRole>, Vec<DelegatedRole>)
-    ensures kept { ((result.0.items ≡ first.items ++ second.items) × (result.1.items ≡ [])) ⊎ ((result.0.items ≡ first.items) × (result.1.items ≡ second.items)) }
+    ensures kept { ((result.0.items ≡ first.items ++ second.items) × (result.1.items ≡ []))
+        ⊎ ((result.0.items ≡ first.items) × (result.1.items ≡ second.items)) }
     ensures over { deepest result.1.items ≤ deepest second.items }
 {
     if first.is_empty() {

@@ -70,7 +70,9 @@ fn look<F: Files>(files: &mut F, path: &str) -> Result<(), FileError>
 
 // Reads on, and says how many bytes; none at the end.
 fn feed<F: Files>(files: &mut F, path: &str, reading: &mut Reading) -> Result<usize, FilesError>
-    ensures feeds { (bytes : List ℕ) → F.tells ≡ true → there path.now (F.contents files.old) ≡ Some (file bytes) → HasRead bytes reading.old → Feeds bytes reading.old result reading.new }
+    ensures feeds { (bytes : List ℕ) → F.tells ≡ true
+        → there path.now (F.contents files.old) ≡ Some (file bytes) → HasRead bytes reading.old
+        → Feeds bytes reading.old result reading.new }
     ensures kept { F.tells ≡ true → Same (F.contents files.old) (F.contents files.new) }
 {
     let mut buf = [0; 4096];
@@ -85,7 +87,8 @@ fn feed<F: Files>(files: &mut F, path: &str, reading: &mut Reading) -> Result<us
 
 // Reads the file to its end.
 fn read_all<F: Files>(files: &mut F, path: &str) -> Result<Measured, FilesError>
-    ensures measured { (bytes : List ℕ) → F.tells ≡ true → there path.now (F.contents files.old) ≡ Some (file bytes) → MeasuresFile bytes result }
+    ensures measured { (bytes : List ℕ) → F.tells ≡ true
+        → there path.now (F.contents files.old) ≡ Some (file bytes) → MeasuresFile bytes result }
     ensures kept { F.tells ≡ true → Same (F.contents files.old) (F.contents files.new) }
 {
     let mut reading = Reading {

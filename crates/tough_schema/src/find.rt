@@ -38,7 +38,8 @@ fn find_in<'a>(
     permissive: bool,
     visited: &mut BTreeSet<String>,
 ) -> Result<Found<'a>, AllocError>
-    ensures { IsStep result visited.new (walk_document permissive name.now (names_in visited.old) (tree_doc document.now)) }
+    ensures { IsStep result visited.new
+        (walk_document permissive name.now (names_in visited.old) (tree_doc document.now)) }
 {
     if let Some(target) = document.targets.get(name) {
         return Ok(Found::Listed(target));
@@ -58,7 +59,8 @@ fn find_among<'a>(
     permissive: bool,
     visited: &mut BTreeSet<String>,
 ) -> Result<Found<'a>, AllocError>
-    ensures { IsStep result visited.new (walk permissive name.now (names_in visited.old) (role_branches roles.now)) }
+    ensures { IsStep result visited.new
+        (walk permissive name.now (names_in visited.old) (role_branches roles.now)) }
 {
     for role in roles {
         match find_at(alloc, role, name, permissive, visited)? {
@@ -78,7 +80,8 @@ fn find_at<'a>(
     permissive: bool,
     visited: &mut BTreeSet<String>,
 ) -> Result<Found<'a>, AllocError>
-    ensures { IsStep result visited.new (walk_role permissive name.now (names_in visited.old) (role_tree role.now)) }
+    ensures { IsStep result visited.new
+        (walk_role permissive name.now (names_in visited.old) (role_tree role.now)) }
 {
     if !role.matches(name) || visited.contains(role.name.as_str()) {
         return Ok(Found::Passed);
@@ -96,7 +99,8 @@ fn find_below<'a>(
     permissive: bool,
     visited: &mut BTreeSet<String>,
 ) -> Result<Found<'a>, AllocError>
-    ensures { IsStep result visited.new (walk_below permissive name.now (names_in visited.old) (role_tree role.now)) }
+    ensures { IsStep result visited.new
+        (walk_below permissive name.now (names_in visited.old) (role_tree role.now)) }
 {
     if let Some(signed) = &role.targets {
         match find_in(alloc, &signed.signed.targets, name, permissive, visited)? {
@@ -119,8 +123,10 @@ impl Targets {
         name: &TargetName,
         permissive: bool,
     ) -> Result<&Target, Error>
-        ensures found { IfOk result (λ t. search permissive name.now (tree_doc self.now) ≡ Some (target_doc t.now)) }
-        ensures missing { IfErr result (λ e. IsNotFound name.now (search permissive name.now (tree_doc self.now)) e) }
+        ensures found { IfOk result
+            (λ t. search permissive name.now (tree_doc self.now) ≡ Some (target_doc t.now)) }
+        ensures missing { IfErr result
+            (λ e. IsNotFound name.now (search permissive name.now (tree_doc self.now)) e) }
     {
         let mut visited = BTreeSet::new(alloc);
         match find_in(alloc, self, name, permissive, &mut visited)? {

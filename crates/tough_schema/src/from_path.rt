@@ -20,7 +20,8 @@ impl Target {
         files: &mut F,
         path: &str,
     ) -> Result<Target, FileError>
-        ensures target { F.tells ≡ true → IsTargetOf (there path.now (F.contents files.old)) result }
+        ensures target { F.tells ≡ true
+            → IsTargetOf (there path.now (F.contents files.old)) result }
         ensures kept { F.tells ≡ true → Same (F.contents files.old) (F.contents files.new) }
     {
         match measure(files, path) {

@@ -16,7 +16,8 @@ fn add_below<'a>(
     document: &'a Targets,
     found: &mut Vec<&'a Signed<DelegatedTargets>>,
 ) -> Result<(), AllocError>
-    ensures { OnOk result (held_docs found.new.items ≡ held_docs found.old.items ++ documents_below (tree_doc document.now)) }
+    ensures { OnOk result (held_docs found.new.items
+        ≡ held_docs found.old.items ++ documents_below (tree_doc document.now)) }
 {
     if let Some(delegations) = &document.delegations {
         add_roles(&delegations.roles, found)?;
@@ -30,7 +31,8 @@ fn add_roles<'a>(
     roles: &'a [DelegatedRole],
     found: &mut Vec<&'a Signed<DelegatedTargets>>,
 ) -> Result<(), AllocError>
-    ensures { OnOk result (held_docs found.new.items ≡ held_docs found.old.items ++ documents_of (roles_in (role_branches roles.now))) }
+    ensures { OnOk result (held_docs found.new.items
+        ≡ held_docs found.old.items ++ documents_of (roles_in (role_branches roles.now))) }
 {
     for role in roles {
         add_role(role, found)?;
@@ -44,7 +46,8 @@ fn add_role<'a>(
     role: &'a DelegatedRole,
     found: &mut Vec<&'a Signed<DelegatedTargets>>,
 ) -> Result<(), AllocError>
-    ensures { OnOk result (held_docs found.new.items ≡ held_docs found.old.items ++ documents_of (gathered (role_tree role.now))) }
+    ensures { OnOk result (held_docs found.new.items
+        ≡ held_docs found.old.items ++ documents_of (gathered (role_tree role.now))) }
 {
     if let Some(document) = &role.targets {
         found.push(document)?;

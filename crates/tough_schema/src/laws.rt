@@ -18,12 +18,14 @@ ghost use Rattle.tough_schema.specs.Whole.{TreeDoc, TellsItsTop};
 
 /// A pattern is found to match exactly where its grammar says that it does.
 pub fn patterns_match_exactly()
-    ensures { (resolved p : List ℕ) → (pattern_matches resolved p ≡ true) ↔ Matches (chars p) (chars resolved) }
+    ensures { (resolved p : List ℕ)
+        → (pattern_matches resolved p ≡ true) ↔ Matches (chars p) (chars resolved) }
 {}
 
 /// The text of signed targets, whose keys stand under their own identifiers, is read as them.
 pub fn targets_reads_back()
-    ensures { (s : SignedDoc TargetsDoc) (d : Data.Data) (text : List ℕ) → IsTimestampNanos s.role.head.expires → KeysAreOwn s.role.delegations → AreSorted s.role
+    ensures { (s : SignedDoc TargetsDoc) (d : Data.Data) (text : List ℕ)
+        → IsTimestampNanos s.role.head.expires → KeysAreOwn s.role.delegations → AreSorted s.role
         → signed_json targets_json s ≡ Some d → IsReadable d → text_in forms.Compact d ≡ Some text
         → option_and_then (signed_at targets_at) (json_of text) ≡ Some s }
 {}

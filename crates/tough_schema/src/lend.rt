@@ -28,7 +28,8 @@ fn place_of(roles: &[DelegatedRole], name: &str) -> Option<usize>
 
 #[cycle(lend)]
 fn lend_in<'a>(document: &'a mut Targets, name: &str) -> Option<&'a mut DelegatedRole>
-    ensures { option_map (λ r. role_tree r.now) result ≡ role_of (seek_in name.now (tree_doc document.old)) }
+    ensures { option_map (λ r. role_tree r.now) result
+        ≡ role_of (seek_in name.now (tree_doc document.old)) }
 {
     let Some(delegations) = &mut document.delegations else {
         return None;
@@ -44,7 +45,8 @@ fn lend_in<'a>(document: &'a mut Targets, name: &str) -> Option<&'a mut Delegate
 
 #[cycle(lend)]
 fn lend_at<'a>(role: &'a mut DelegatedRole, name: &str) -> Option<&'a mut DelegatedRole>
-    ensures { option_map (λ r. role_tree r.now) result ≡ role_at (step_at name.now (role_tree role.old)) }
+    ensures { option_map (λ r. role_tree r.now) result
+        ≡ role_at (step_at name.now (role_tree role.old)) }
 {
     if role.name.as_str() == name {
         return Some(role);
@@ -62,8 +64,10 @@ impl Targets {
         alloc: Global,
         name: &str,
     ) -> Result<&mut DelegatedRole, Error>
-        ensures found { IfOk result (λ r. sought name.now (tree_doc self.old) ≡ found (role_tree r.now)) }
-        ensures refused { IfErr result (λ e. IsUnsought name.now (sought name.now (tree_doc self.old)) e) }
+        ensures found { IfOk result
+            (λ r. sought name.now (tree_doc self.old) ≡ found (role_tree r.now)) }
+        ensures refused { IfErr result
+            (λ e. IsUnsought name.now (sought name.now (tree_doc self.old)) e) }
     {
         if let Err(error) = self.delegated_role(alloc, name) {
             return Err(error);
@@ -80,8 +84,10 @@ impl Targets {
         alloc: Global,
         name: &str,
     ) -> Result<&mut Signed<DelegatedTargets>, Error>
-        ensures found { IfOk result (λ s. document_of (sought name.now (tree_doc self.old)) ≡ Some (held_doc s.now)) }
-        ensures refused { IfErr result (λ e. IsUnheld name.now (sought name.now (tree_doc self.old)) e) }
+        ensures found { IfOk result
+            (λ s. document_of (sought name.now (tree_doc self.old)) ≡ Some (held_doc s.now)) }
+        ensures refused { IfErr result
+            (λ e. IsUnheld name.now (sought name.now (tree_doc self.old)) e) }
     {
         match self.delegated_role_mut(alloc, name) {
             Err(error) => Err(error),

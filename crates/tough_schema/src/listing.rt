@@ -20,7 +20,8 @@ fn add_listing<'a>(
     targets: &'a BTreeMap<TargetName, Target>,
     found: &mut Vec<(&'a TargetName, &'a Target)>,
 ) -> Result<(), AllocError>
-    ensures { OnOk result (listed_docs found.new.items ≡ listed_docs found.old.items ++ listing_doc targets.now.entries) }
+    ensures { OnOk result (listed_docs found.new.items
+        ≡ listed_docs found.old.items ++ listing_doc targets.now.entries) }
 {
     for (name, target) in targets.iter() {
         found.push((name, target))?;
@@ -33,7 +34,8 @@ fn add_document<'a>(
     role: &'a DelegatedRole,
     found: &mut Vec<(&'a TargetName, &'a Target)>,
 ) -> Result<(), AllocError>
-    ensures { OnOk result (listed_docs found.new.items ≡ listed_docs found.old.items ++ listed_of (role_tree role.now).1) }
+    ensures { OnOk result (listed_docs found.new.items
+        ≡ listed_docs found.old.items ++ listed_of (role_tree role.now).1) }
 {
     if let Some(signed) = &role.targets {
         add_listing(&signed.signed.targets.targets, found)?;
@@ -58,7 +60,8 @@ impl Targets {
 
     /// The same as a map, where a later listing takes the place of an earlier one.
     pub fn targets_map(&self, alloc: Global) -> Result<BTreeMap<TargetName, &Target>, AllocError>
-        ensures { IfOk result (λ m. map_docs m.entries ≡ merged_into [] (all_listed (tree_doc self.now))) }
+        ensures { IfOk result (λ m. map_docs m.entries
+            ≡ merged_into [] (all_listed (tree_doc self.now))) }
     {
         let listed = self.targets_iter(alloc)?;
         let mut found = BTreeMap::new(alloc);

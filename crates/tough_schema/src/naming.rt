@@ -10,7 +10,13 @@ use tough_roles::Signed;
 impl Targets {
     /// Signed targets as the document of a role of this name.
     pub fn named(signed: Signed<Targets>, name: String) -> Signed<DelegatedTargets>
-        ensures { held_doc result ≡ record { name = string_bytes name; signatures = signatures_doc signed.signatures.items; below = tree_doc signed.signed } }
+        ensures { held_doc result
+            ≡ record {
+              name = string_bytes name;
+              signatures = signatures_doc
+                  signed.signatures.items;
+              below = tree_doc signed.signed;
+            } }
     {
         let Signed { signed, signatures } = signed;
         Signed {
@@ -26,7 +32,13 @@ impl Targets {
 impl DelegatedTargets {
     /// The name of a role's document, and its signed targets.
     pub fn unnamed(document: Signed<DelegatedTargets>) -> (String, Signed<Targets>)
-        ensures { held_doc document ≡ record { name = string_bytes result.0; signatures = signatures_doc result.1.signatures.items; below = tree_doc result.1.signed } }
+        ensures { held_doc document
+            ≡ record {
+              name = string_bytes result.0;
+              signatures = signatures_doc
+                  result.1.signatures.items;
+              below = tree_doc result.1.signed;
+            } }
     {
         let Signed { signed, signatures } = document;
         let DelegatedTargets { name, targets } = signed;

@@ -88,7 +88,8 @@ fn either(
     patterns: Option<Value>,
     prefixes: Option<Value>,
 ) -> Result<PathSet, ReadError>
-    ensures { Reads paths_doc result (either_at (option_map view patterns) (option_map view prefixes)) }
+    ensures { Reads paths_doc result
+        (either_at (option_map view patterns) (option_map view prefixes)) }
 {
     match (patterns, prefixes) {
         (Some(Value::Array(items)), None) => match patterns_of(alloc, items) {
@@ -148,7 +149,8 @@ fn role_at(alloc: Global, place: usize, value: Value) -> Result<DelegatedRole, R
 
 // Each item as a role.
 fn roles_of(alloc: Global, values: Vec<Value>) -> Result<Vec<DelegatedRole>, ReadError>
-    ensures read { Reads (λ v. map delegated_role_doc v.items) result (all_at delegated_role_at (items_view values.items)) }
+    ensures read { Reads (λ v. map delegated_role_doc v.items) result
+        (all_at delegated_role_at (items_view values.items)) }
     ensures fresh { IfOk result (λ v. AreUnloaded v.items) }
 {
     let mut roles = Vec::new(alloc);
@@ -165,7 +167,9 @@ fn roles(
     members: &mut Map<String, Value>,
     name: &str,
 ) -> Result<Vec<DelegatedRole>, ReadError>
-    ensures read { Takes (λ v. map delegated_role_doc v.items) result (members_view members.new.entries) (required name.now (listing delegated_role_at) (members_view members.old.entries)) }
+    ensures read { Takes (λ v. map delegated_role_doc v.items) result
+        (members_view members.new.entries)
+        (required name.now (listing delegated_role_at) (members_view members.old.entries)) }
     ensures fresh { IfOk result (λ v. AreUnloaded v.items) }
 {
     match take(members, name) {
@@ -196,7 +200,8 @@ pub(crate) fn delegations(
     members: &mut Map<String, Value>,
     name: &str,
 ) -> Result<Option<Delegations>, ReadError>
-    ensures read { Takes (option_map delegations_doc) result (members_view members.new.entries) (optional name.now delegations_at (members_view members.old.entries)) }
+    ensures read { Takes (option_map delegations_doc) result (members_view members.new.entries)
+        (optional name.now delegations_at (members_view members.old.entries)) }
     ensures fresh { IfOk result MayDelegateUnloaded }
 {
     match present(members, name) {

@@ -18,7 +18,8 @@ use tough_roles::read_timestamp::hashes_of;
 
 // A whole number that must be there.
 fn size(alloc: Global, members: &mut Map<String, Value>, name: &str) -> Result<u64, ReadError>
-    ensures { Takes (λ n. n) result (members_view members.new.entries) (required name.now whole (members_view members.old.entries)) }
+    ensures { Takes (λ n. n) result (members_view members.new.entries)
+        (required name.now whole (members_view members.old.entries)) }
 {
     match take(members, name).and_then(|value| value.as_u64()) {
         Some(number) => Ok(number),
@@ -28,7 +29,8 @@ fn size(alloc: Global, members: &mut Map<String, Value>, name: &str) -> Result<u
 
 // Hashes that must be there.
 fn hashes(alloc: Global, members: &mut Map<String, Value>, name: &str) -> Result<Hashes, ReadError>
-    ensures { Takes hashes_doc result (members_view members.new.entries) (required name.now hashes_at (members_view members.old.entries)) }
+    ensures { Takes hashes_doc result (members_view members.new.entries)
+        (required name.now hashes_at (members_view members.old.entries)) }
 {
     match take(members, name) {
         Some(value) => match hashes_of(alloc, value) {
@@ -60,7 +62,8 @@ fn object_in(alloc: Global, value: Value) -> Result<Map<String, Value>, ReadErro
 
 // What an application says of the target, which may be absent.
 fn custom(alloc: Global, members: &mut Map<String, Value>) -> Result<Map<String, Value>, ReadError>
-    ensures { Takes (λ m. members_view m.entries) result (members_view members.new.entries) (custom_at (members_view members.old.entries)) }
+    ensures { Takes (λ m. members_view m.entries) result (members_view members.new.entries)
+        (custom_at (members_view members.old.entries)) }
 {
     let found = take(members, "custom");
     let custom = object_of(alloc, found)?;

@@ -46,7 +46,8 @@ fn listing_of(
     alloc: Global,
     members: Map<String, Value>,
 ) -> Result<BTreeMap<TargetName, Target>, ReadError>
-    ensures { Reads (λ m. listing_doc m.entries) result (listing_from [] (members_view members.entries)) }
+    ensures { Reads (λ m. listing_doc m.entries) result
+        (listing_from [] (members_view members.entries)) }
 {
     let mut targets = BTreeMap::new(alloc);
     for (raw, value) in members {
@@ -62,7 +63,8 @@ fn listing(
     members: &mut Map<String, Value>,
     name: &str,
 ) -> Result<BTreeMap<TargetName, Target>, ReadError>
-    ensures { Takes (λ m. listing_doc m.entries) result (members_view members.new.entries) (required name.now listing_at (members_view members.old.entries)) }
+    ensures { Takes (λ m. listing_doc m.entries) result (members_view members.new.entries)
+        (required name.now listing_at (members_view members.old.entries)) }
 {
     match take(members, name) {
         Some(Value::Object(inner)) => match listing_of(alloc, inner) {
@@ -101,7 +103,8 @@ fn entry_in(
     raw: &str,
     value: Borrowed<'_>,
 ) -> Result<(TargetName, Target), ReadError>
-    ensures { (d : Data) → of_json (value_view value.entry) ≡ Some d → Reads (λ p. (p.0, target_doc p.1)) result (entry_at raw.now d) }
+    ensures { (d : Data) → of_json (value_view value.entry) ≡ Some d
+        → Reads (λ p. (p.0, target_doc p.1)) result (entry_at raw.now d) }
 {
     match value_in(alloc, &value) {
         Ok(value) => entry(alloc, raw, value),
@@ -114,7 +117,8 @@ fn listing_in_order(
     alloc: Global,
     members: BTreeMap<&str, Borrowed<'_>>,
 ) -> Result<BTreeMap<TargetName, Target>, ReadError>
-    ensures { (ms : Members) → listed members.entry.entries ≡ Some ms → Reads (λ m. listing_doc m.entries) result (listing_from [] ms) }
+    ensures { (ms : Members) → listed members.entry.entries ≡ Some ms
+        → Reads (λ m. listing_doc m.entries) result (listing_from [] ms) }
 {
     let mut targets = BTreeMap::new(alloc);
     for (raw, value) in members {
@@ -129,7 +133,8 @@ fn listing_in_order(
 
 // The targets that the JSON is.
 fn listing_in(alloc: Global, value: Borrowed<'_>) -> Result<BTreeMap<TargetName, Target>, ReadError>
-    ensures { (d : Data) → of_json (value_view value.entry) ≡ Some d → Reads (λ m. listing_doc m.entries) result (listing_at d) }
+    ensures { (d : Data) → of_json (value_view value.entry) ≡ Some d
+        → Reads (λ m. listing_doc m.entries) result (listing_at d) }
 {
     let Borrowed::Object(members) = value else {
         return Err(shape(alloc, "(no object)"));
@@ -147,7 +152,8 @@ fn targets_around(
     targets: BTreeMap<TargetName, Target>,
     others: Map<String, Value>,
 ) -> Result<Targets, ReadError>
-    ensures read { Reads targets_doc result (targets_around (listing_doc targets.entries) (members_view others.entries)) }
+    ensures read { Reads targets_doc result
+        (targets_around (listing_doc targets.entries) (members_view others.entries)) }
     ensures fresh { IfOk result IsFresh }
 {
     let mut others = others;
@@ -166,7 +172,8 @@ fn targets_around(
 #[tactic(auto, unfolding(crate::specs::Targets::targets_at))]
 /// The targets that the JSON is; `Shape` where it is none. A value is made of one target at a time.
 pub(crate) fn targets_in(alloc: Global, value: Borrowed<'_>) -> Result<Targets, ReadError>
-    ensures read { (d : Data) → of_json (value_view value.entry) ≡ Some d → Reads targets_doc result (targets_at d) }
+    ensures read { (d : Data) → of_json (value_view value.entry) ≡ Some d
+        → Reads targets_doc result (targets_at d) }
     ensures fresh { IfOk result IsFresh }
 {
     let Borrowed::Object(members) = value else {

@@ -75,7 +75,8 @@ pub fn seek_at<'a>(role: &'a DelegatedRole, name: &str) -> Option<Seen<'a>>
 
 #[cycle(parent)]
 fn parent_in<'a>(document: &'a Targets, name: &str) -> Option<&'a Delegations>
-    ensures { option_map (λ g. delegations_tree g.now) result ≡ first_named name.now (standing_in (tree_doc document.now)) }
+    ensures { option_map (λ g. delegations_tree g.now) result
+        ≡ first_named name.now (standing_in (tree_doc document.now)) }
 {
     let Some(delegations) = &document.delegations else {
         return None;
@@ -89,7 +90,9 @@ fn parent_in<'a>(document: &'a Targets, name: &str) -> Option<&'a Delegations>
 
 #[cycle(parent)]
 fn parent_among<'a>(roles: &'a [DelegatedRole], name: &str) -> Option<Place<'a>>
-    ensures { (all : DelegationsTree) → option_map (place_of all) result ≡ first_named name.now (standing all (role_branches roles.now)) }
+    ensures { (all : DelegationsTree)
+        → option_map (place_of all) result
+        ≡ first_named name.now (standing all (role_branches roles.now)) }
 {
     for role in roles {
         match parent_at(role, name) {
@@ -102,7 +105,9 @@ fn parent_among<'a>(roles: &'a [DelegatedRole], name: &str) -> Option<Place<'a>>
 
 #[cycle(parent)]
 fn parent_at<'a>(role: &'a DelegatedRole, name: &str) -> Option<Place<'a>>
-    ensures { (all : DelegationsTree) → option_map (place_of all) result ≡ first_named name.now (standing_at all (role_tree role.now)) }
+    ensures { (all : DelegationsTree)
+        → option_map (place_of all) result
+        ≡ first_named name.now (standing_at all (role_tree role.now)) }
 {
     if role.name.as_str() == name {
         return Some(Place::Here);
@@ -121,8 +126,10 @@ impl Targets {
     /// refusals: `NoDelegations` without delegations, `NoTargets` at a role of the own list that has another name and
     /// no document, else `RoleNotFound`.
     pub fn delegated_role(&self, alloc: Global, name: &str) -> Result<&DelegatedRole, Error>
-        ensures found { IfOk result (λ r. sought name.now (tree_doc self.now) ≡ found (role_tree r.now)) }
-        ensures refused { IfErr result (λ e. IsUnsought name.now (sought name.now (tree_doc self.now)) e) }
+        ensures found { IfOk result
+            (λ r. sought name.now (tree_doc self.now) ≡ found (role_tree r.now)) }
+        ensures refused { IfErr result
+            (λ e. IsUnsought name.now (sought name.now (tree_doc self.now)) e) }
     {
         let Some(delegations) = &self.delegations else {
             return Err(Error::NoDelegations);
@@ -142,8 +149,10 @@ impl Targets {
         alloc: Global,
         name: &str,
     ) -> Result<&Signed<DelegatedTargets>, Error>
-        ensures found { IfOk result (λ s. document_of (sought name.now (tree_doc self.now)) ≡ Some (held_doc s.now)) }
-        ensures refused { IfErr result (λ e. IsUnheld name.now (sought name.now (tree_doc self.now)) e) }
+        ensures found { IfOk result
+            (λ s. document_of (sought name.now (tree_doc self.now)) ≡ Some (held_doc s.now)) }
+        ensures refused { IfErr result
+            (λ e. IsUnheld name.now (sought name.now (tree_doc self.now)) e) }
     {
         match self.delegated_role(alloc, name) {
             Err(error) => Err(error),
@@ -156,8 +165,10 @@ impl Targets {
 
     /// The delegations in which the first entry of the name stands, in preorder; else `RoleNotFound`.
     pub fn parent_of(&self, alloc: Global, name: &str) -> Result<&Delegations, Error>
-        ensures found { IfOk result (λ g. parent name.now (tree_doc self.now) ≡ Some (delegations_tree g.now)) }
-        ensures refused { IfErr result (λ e. IsOrphan name.now (parent name.now (tree_doc self.now)) e) }
+        ensures found { IfOk result
+            (λ g. parent name.now (tree_doc self.now) ≡ Some (delegations_tree g.now)) }
+        ensures refused { IfErr result
+            (λ e. IsOrphan name.now (parent name.now (tree_doc self.now)) e) }
     {
         match parent_in(self, name) {
             Some(delegations) => Ok(delegations),

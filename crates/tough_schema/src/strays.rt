@@ -36,7 +36,8 @@ fn same_paths(one: &PathSet, other: &PathSet) -> bool
 
 // Whether the role's path set is another than that of the last of these roles. Else it matches what all of them match.
 fn narrows(above: &[&DelegatedRole], role: &DelegatedRole) -> bool
-    ensures { result ≡ false → (name : Named) → all_match above.now name ≡ true → matches name (role_tree role.now).0 ≡ true }
+    ensures { result ≡ false → (name : Named) → all_match above.now name ≡ true
+        → matches name (role_tree role.now).0 ≡ true }
 {
     match above.last() {
         Some(last) => !same_paths(&last.paths, &role.paths),
@@ -51,7 +52,9 @@ fn add_strays<'a>(
     above: &[&DelegatedRole],
     found: &mut Vec<&'a TargetName>,
 ) -> Result<(), AllocError>
-    ensures { OnOk result (names_of found.new.items ≡ names_of found.old.items ++ strays_of (way is_open above.now) (listing_doc targets.now.entries)) }
+    ensures { OnOk result (names_of found.new.items
+        ≡ names_of found.old.items ++ strays_of (way is_open above.now)
+        (listing_doc targets.now.entries)) }
 {
     for (name, _) in targets.iter() {
         if !(is_open && all_match(above, name)) {
@@ -72,8 +75,12 @@ fn strays_in<'a>(
     found: &mut Vec<&'a TargetName>,
 ) -> Result<(), AllocError>
     ensures above { OnOk result (above.new.items ≡ above.old.items) }
-    ensures seen { OnOk result (names_in seen.new ≡ names_below (names_in seen.old) (tree_doc document.now)) }
-    ensures found { OnOk result (names_of found.new.items ≡ names_of found.old.items ++ strays_below (names_in seen.old) (way is_open above.old.items) (tree_doc document.now)) }
+    ensures seen { OnOk result
+        (names_in seen.new ≡ names_below (names_in seen.old) (tree_doc document.now)) }
+    ensures found { OnOk result
+        (names_of found.new.items
+        ≡ names_of found.old.items ++ strays_below (names_in seen.old) (way is_open above.old.items)
+        (tree_doc document.now)) }
 {
     add_strays(&document.targets, is_open, above.as_slice(), found)?;
     match &document.delegations {
@@ -95,8 +102,12 @@ fn strays_among<'a>(
     found: &mut Vec<&'a TargetName>,
 ) -> Result<(), AllocError>
     ensures above { OnOk result (above.new.items ≡ above.old.items) }
-    ensures seen { OnOk result (names_in seen.new ≡ names_past (names_in seen.old) (role_branches roles.now)) }
-    ensures found { OnOk result (names_of found.new.items ≡ names_of found.old.items ++ strays (names_in seen.old) (way is_open above.old.items) (role_branches roles.now)) }
+    ensures seen { OnOk result
+        (names_in seen.new ≡ names_past (names_in seen.old) (role_branches roles.now)) }
+    ensures found { OnOk result
+        (names_of found.new.items
+        ≡ names_of found.old.items ++ strays (names_in seen.old) (way is_open above.old.items)
+        (role_branches roles.now)) }
 {
     for role in roles {
         strays_at(role, is_open, above, seen, found)?;
@@ -114,8 +125,12 @@ fn strays_at<'a>(
     found: &mut Vec<&'a TargetName>,
 ) -> Result<(), AllocError>
     ensures above { OnOk result (above.new.items ≡ above.old.items) }
-    ensures seen { OnOk result (names_in seen.new ≡ names_at (names_in seen.old) (role_tree role.now)) }
-    ensures found { OnOk result (names_of found.new.items ≡ names_of found.old.items ++ strays_at (names_in seen.old) (way is_open above.old.items) (role_tree role.now)) }
+    ensures seen { OnOk result
+        (names_in seen.new ≡ names_at (names_in seen.old) (role_tree role.now)) }
+    ensures found { OnOk result
+        (names_of found.new.items
+        ≡ names_of found.old.items ++ strays_at (names_in seen.old)
+        (way is_open above.old.items) (role_tree role.now)) }
 {
     let is_open = is_open & !seen.contains(role.name.as_str());
     seen.insert(role.name.clone()?)?;
@@ -136,7 +151,8 @@ impl Targets {
     /// The listed names that a search may not find, in the order of `targets_iter`: a role on the way to their document
     /// doesn't match them, or isn't the first of its name. The search finds all others.
     pub(crate) fn strays(&self, alloc: Global) -> Result<Vec<&TargetName>, AllocError>
-        ensures { IfOk result (λ v. names_of v.items ≡ strays_below no_names any_name (tree_doc self.now)) }
+        ensures { IfOk result (λ v. names_of v.items
+            ≡ strays_below no_names any_name (tree_doc self.now)) }
     {
         let mut above = Vec::new(alloc);
         let mut seen = BTreeSet::new(alloc);

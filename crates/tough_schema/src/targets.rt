@@ -51,7 +51,13 @@ impl Targets {
         version: NonZeroU64,
         expires: jiff::Timestamp,
     ) -> Targets
-        ensures { targets_doc result ≡ bare_targets (record { spec_version = string_bytes spec_version; version = non_zero_u64_get version; expires = expires.nanosecond }) }
+        ensures { targets_doc result
+            ≡ bare_targets (record {
+              spec_version = string_bytes spec_version;
+              version
+                  = non_zero_u64_get version;
+              expires = expires.nanosecond;
+            }) }
     {
         Targets {
             spec_version,
@@ -112,7 +118,8 @@ impl Role for Targets {
 
     ghost is_fresh = { IsFresh };
 
-    ghost file = { λ x consistent. file_name consistent (targets_doc x).head.version (codes "targets.json") };
+    ghost file = { λ x consistent. file_name consistent (targets_doc x).head.version
+        (codes "targets.json") };
 
     ghost id = { λ x. standard types.Targets };
 
@@ -174,7 +181,8 @@ impl Role for DelegatedTargets {
 
     ghost is_fresh = { IsFreshDelegated };
 
-    ghost file = { λ x consistent. file_name consistent (delegated_doc x).head.version (delegated_file (delegated_name x)) };
+    ghost file = { λ x consistent. file_name consistent (delegated_doc x).head.version
+        (delegated_file (delegated_name x)) };
 
     ghost id = { λ x. delegated_id (delegated_name x) };
 

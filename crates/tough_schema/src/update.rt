@@ -13,7 +13,8 @@ use tough_roles::Signed;
 
 // The document of the role that `delegated_role` answers, if that has one.
 fn document_of<'a>(targets: &'a Targets, name: &str) -> Option<&'a Signed<DelegatedTargets>>
-    ensures { option_map (λ s. held_doc s.now) result ≡ document_sought name.now (tree_doc targets.now) }
+    ensures { option_map (λ s. held_doc s.now) result
+        ≡ document_sought name.now (tree_doc targets.now) }
 {
     let Seen::Found(role) = seek_in(targets, name) else {
         return None;
@@ -26,7 +27,8 @@ fn document_of<'a>(targets: &'a Targets, name: &str) -> Option<&'a Signed<Delega
 
 // A copy of that document.
 fn copy_of(old: &Targets, name: &str) -> Result<Option<Signed<DelegatedTargets>>, AllocError>
-    ensures { IfOk result (λ o. option_map held_doc o ≡ document_sought name.now (tree_doc old.now)) }
+    ensures { IfOk result (λ o. option_map held_doc o
+        ≡ document_sought name.now (tree_doc old.now)) }
 {
     match document_of(old, name) {
         Some(document) => Ok(Some(copy_held(document)?)),
@@ -40,7 +42,8 @@ fn copies_for(
     old: &Targets,
     roles: &[DelegatedRole],
 ) -> Result<Vec<Option<Signed<DelegatedTargets>>>, AllocError>
-    ensures { IfOk result (λ v. map (option_map held_doc) v.items ≡ documents_for (tree_doc old.now) (map role_tree roles.now)) }
+    ensures { IfOk result (λ v. map (option_map held_doc) v.items
+        ≡ documents_for (tree_doc old.now) (map role_tree roles.now)) }
 {
     let mut copies = Vec::new(alloc);
     for role in roles {
@@ -56,7 +59,8 @@ fn add_needed(
     role: &DelegatedRole,
     names: &mut Vec<String>,
 ) -> Result<(), AllocError>
-    ensures { OnOk result (map string_bytes names.new.items ≡ map string_bytes names.old.items ++ needed_at (tree_doc old.now) (role_tree role.now).0) }
+    ensures { OnOk result (map string_bytes names.new.items
+        ≡ map string_bytes names.old.items ++ needed_at (tree_doc old.now) (role_tree role.now).0) }
 {
     if document_of(old, role.name.as_str()).is_none() {
         names.push(role.name.clone()?)?;
@@ -70,7 +74,8 @@ fn names_without(
     old: &Targets,
     roles: &[DelegatedRole],
 ) -> Result<Vec<String>, AllocError>
-    ensures { IfOk result (λ v. map string_bytes v.items ≡ needed (tree_doc old.now) (map (λ r. (role_tree r).0) roles.now)) }
+    ensures { IfOk result (λ v. map string_bytes v.items
+        ≡ needed (tree_doc old.now) (map (λ r. (role_tree r).0) roles.now)) }
 {
     let mut names = Vec::new(alloc);
     for role in roles {
@@ -90,7 +95,8 @@ fn give_to(role: &mut DelegatedRole, document: Option<Signed<DelegatedTargets>>)
 
 // Each role gets the document at its place, if there is one.
 fn give(roles: &mut [DelegatedRole], documents: Vec<Option<Signed<DelegatedTargets>>>)
-    ensures { map role_tree roles.new ≡ all_given (map role_tree roles.old) (map (option_map held_doc) documents.items) }
+    ensures { map role_tree roles.new
+        ≡ all_given (map role_tree roles.old) (map (option_map held_doc) documents.items) }
 {
     let mut left = documents.into_iter();
     for role in roles.iter_mut() {
@@ -112,7 +118,8 @@ fn roles_of(document: &Targets) -> &[DelegatedRole]
 
 // Each role that a document lists gets the document at its place, if there is one.
 fn give_below(document: &mut Targets, documents: Vec<Option<Signed<DelegatedTargets>>>)
-    ensures { tree_doc document.new ≡ with_documents (map (option_map held_doc) documents.items) (tree_doc document.old) }
+    ensures { tree_doc document.new
+        ≡ with_documents (map (option_map held_doc) documents.items) (tree_doc document.old) }
 {
     if let Some(delegations) = &mut document.delegations {
         give(&mut delegations.roles, documents);
@@ -128,9 +135,14 @@ impl Targets {
         alloc: Global,
         new_targets: &mut Signed<Targets>,
     ) -> Result<Vec<String>, AllocError>
-        ensures updated { OnOk result (tree_doc new_targets.new.signed ≡ updated (tree_doc self.now) (tree_doc new_targets.old.signed)) }
-        ensures needed { IfOk result (λ v. map string_bytes v.items ≡ needed (tree_doc self.now) (listed_roles (tree_doc new_targets.old.signed))) }
-        ensures refused { OnErr result (tree_doc new_targets.new.signed ≡ tree_doc new_targets.old.signed) }
+        ensures updated { OnOk result
+            (tree_doc new_targets.new.signed
+            ≡ updated (tree_doc self.now) (tree_doc new_targets.old.signed)) }
+        ensures needed { IfOk result
+            (λ v. map string_bytes v.items
+            ≡ needed (tree_doc self.now) (listed_roles (tree_doc new_targets.old.signed))) }
+        ensures refused { OnErr result
+            (tree_doc new_targets.new.signed ≡ tree_doc new_targets.old.signed) }
         ensures signatures { new_targets.new.signatures ≡ new_targets.old.signatures }
     {
         let roles = roles_of(&new_targets.signed);

@@ -31,7 +31,8 @@ impl DelegatedRole {
 
 // The first role of the name.
 fn first_named<'a>(roles: &'a [DelegatedRole], name: &str) -> Option<&'a DelegatedRole>
-    ensures { option_map (λ r. delegated_role_doc r.now) result ≡ role_named name.now (map delegated_role_doc roles.now) }
+    ensures { option_map (λ r. delegated_role_doc r.now) result
+        ≡ role_named name.now (map delegated_role_doc roles.now) }
 {
     for role in roles {
         if role.name.as_str() == name {
@@ -49,8 +50,12 @@ fn answer<T: Role, V: Verify>(
     name: &str,
     verifier: &V,
 ) -> Result<(), Error>
-    ensures verdict { Answers result (verdict (V.verifies verifier.now) (delegated_policy (delegations_doc delegations.now) name.now) (text_by T.json document.now.signed) (signatures_doc document.now.signatures.items)) }
-    ensures named { IfErr result (λ e. NamesDelegated name.now T.TYPE (signatures_doc document.now.signatures.items) e) }
+    ensures verdict { Answers result
+        (verdict (V.verifies verifier.now)
+        (delegated_policy (delegations_doc delegations.now) name.now)
+        (text_by T.json document.now.signed) (signatures_doc document.now.signatures.items)) }
+    ensures named { IfErr result
+        (λ e. NamesDelegated name.now T.TYPE (signatures_doc document.now.signatures.items) e) }
 {
     let Some(role) = first_named(&delegations.roles, name) else {
         return Err(Error::RoleNotFound {
@@ -86,10 +91,16 @@ impl Delegations {
         name: &str,
         verifier: &V,
     ) -> Result<(), Error>
-        ensures verdict { Answers result (verdict (V.verifies verifier.now) (delegated_policy (delegations_doc self.now) name.now) (text_by T.json document.now.signed) (signatures_doc document.now.signatures.items)) }
-        ensures ok { IfOk result (λ u. ReachesDelegated (V.verifies verifier.now) (delegations_doc self.now) name.now T.json (signed_doc (λ x. x) document.now)) }
-        ensures only { ReachesDelegated (V.verifies verifier.now) (delegations_doc self.now) name.now T.json (signed_doc (λ x. x) document.now) → IsOkOrMemory result }
-        ensures named { IfErr result (λ e. NamesDelegated name.now T.TYPE (signatures_doc document.now.signatures.items) e) }
+        ensures verdict { Answers result
+            (verdict (V.verifies verifier.now)
+            (delegated_policy (delegations_doc self.now) name.now)
+            (text_by T.json document.now.signed) (signatures_doc document.now.signatures.items)) }
+        ensures ok { IfOk result (λ u. ReachesDelegated (V.verifies verifier.now)
+            (delegations_doc self.now) name.now T.json (signed_doc (λ x. x) document.now)) }
+        ensures only { ReachesDelegated (V.verifies verifier.now) (delegations_doc self.now)
+            name.now T.json (signed_doc (λ x. x) document.now) → IsOkOrMemory result }
+        ensures named { IfErr result
+            (λ e. NamesDelegated name.now T.TYPE (signatures_doc document.now.signatures.items) e) }
     {
         answer(alloc, self, document, name, verifier)
     }

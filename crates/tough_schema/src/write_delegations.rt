@@ -54,7 +54,8 @@ fn with_paths(
     members: Map<String, Value>,
     paths: &PathSet,
 ) -> Result<Map<String, Value>, WriteError>
-    ensures { Writes (λ m. members_view m.entries) result (with_paths (paths_doc paths.now) (members_view members.entries)) }
+    ensures { Writes (λ m. members_view m.entries) result
+        (with_paths (paths_doc paths.now) (members_view members.entries)) }
 {
     match paths {
         PathSet::Paths(patterns) => {
@@ -92,7 +93,8 @@ fn delegated_role_value(alloc: Global, role: &DelegatedRole) -> Result<Value, Wr
 
 // Each role as an item.
 fn role_values(alloc: Global, roles: &[DelegatedRole]) -> Result<Vec<Value>, WriteError>
-    ensures { Writes (λ v. items_view v.items) result (all_json delegated_role_json (map delegated_role_doc roles.now)) }
+    ensures { Writes (λ v. items_view v.items) result
+        (all_json delegated_role_json (map delegated_role_doc roles.now)) }
 {
     let mut values = Vec::new(alloc);
     for role in roles {
@@ -119,7 +121,8 @@ pub(crate) fn optional_delegations(
     alloc: Global,
     delegations: &Option<Delegations>,
 ) -> Result<Option<Value>, WriteError>
-    ensures written { Writes (option_map view) result (optional_json delegations_json (option_map delegations_doc delegations.now)) }
+    ensures written { Writes (option_map view) result
+        (optional_json delegations_json (option_map delegations_doc delegations.now)) }
     ensures ordered { IfOk result (λ v. KeysRise (option_map delegations_doc delegations.now)) }
 {
     match delegations {

@@ -15,7 +15,8 @@ use tough_roles::write_timestamp::hashes_value;
 
 // The object, if it isn't empty.
 fn object_value(alloc: Global, members: &Map<String, Value>) -> Result<Option<Value>, AllocError>
-    ensures { IfOk result (λ v. unless_empty (members_view members.now.entries) ≡ option_map view v) }
+    ensures { IfOk result (λ v. unless_empty
+        (members_view members.now.entries) ≡ option_map view v) }
 {
     if members.is_empty() {
         return Ok(None);

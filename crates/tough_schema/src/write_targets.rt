@@ -31,8 +31,10 @@ fn listing_value(
     alloc: Global,
     targets: &BTreeMap<TargetName, Target>,
 ) -> Result<Map<String, Value>, WriteError>
-    ensures written { Writes (λ m. members_view m.entries) result (listing_json (listing_doc targets.now.entries) no_members) }
-    ensures ordered { IfOk result (λ m. IsStrictlySortedBy by_raw_then_resolved (keys_of (listing_doc targets.now.entries))) }
+    ensures written { Writes (λ m. members_view m.entries) result
+        (listing_json (listing_doc targets.now.entries) no_members) }
+    ensures ordered { IfOk result
+        (λ m. IsStrictlySortedBy by_raw_then_resolved (keys_of (listing_doc targets.now.entries))) }
 {
     let mut members = Map::new(alloc);
     for (name, target) in targets.iter() {
@@ -50,7 +52,8 @@ fn with_parts(
     targets: &Targets,
     listed: Value,
 ) -> Result<Map<String, Value>, WriteError>
-    ensures written { Writes (λ m. members_view m.entries) result (parts_json (view listed) (targets_doc targets.now) (members_view members.entries)) }
+    ensures written { Writes (λ m. members_view m.entries) result
+        (parts_json (view listed) (targets_doc targets.now) (members_view members.entries)) }
     ensures ordered { IfOk result (λ m. KeysRise (targets_doc targets.now).delegations) }
 {
     let inner = optional_delegations(alloc, &targets.delegations)?;
@@ -66,7 +69,8 @@ fn members_around(
     targets: &Targets,
     listed: Value,
 ) -> Result<Map<String, Value>, WriteError>
-    ensures written { Writes (λ m. members_view m.entries) result (around_json (view listed) (targets_doc targets.now)) }
+    ensures written { Writes (λ m. members_view m.entries) result
+        (around_json (view listed) (targets_doc targets.now)) }
     ensures ordered { IfOk result (λ m. KeysRise (targets_doc targets.now).delegations) }
 {
     let extra = copy_members(alloc, &targets._extra)?;
@@ -101,7 +105,9 @@ fn push_target(
     name: &str,
     target: &Target,
 ) -> Result<(), PieceError>
-    ensures { OnOk result ((d : Data) × (target_json (target_doc target.now) ≡ Some d) × ((form : Kind) (ms : Members) → Stands form ms object.old → AreBelow name.now ms × Stands form (and_last ms name.now d) object.new)) }
+    ensures { OnOk result ((d : Data) × (target_json (target_doc target.now) ≡ Some d)
+        × ((form : Kind) (ms : Members) → Stands form ms object.old → AreBelow name.now ms
+        × Stands form (and_last ms name.now d) object.new)) }
 {
     let value = target_value(alloc, target)?;
     object.push(alloc, name, &value)
@@ -113,7 +119,9 @@ fn listing_text(
     form: Form,
     targets: &BTreeMap<TargetName, Target>,
 ) -> Result<Vec<u8>, PieceError>
-    ensures { IfOk result (λ t. (ms : Members) × (listing_json (listing_doc targets.now.entries) no_members ≡ Some ms) × (text_in form (object ms) ≡ Some t.items)) }
+    ensures { IfOk result (λ t. (ms : Members)
+        × (listing_json (listing_doc targets.now.entries) no_members ≡ Some ms)
+        × (text_in form (object ms) ≡ Some t.items)) }
 {
     let mut object = ObjectText::new(alloc, form)?;
     for (name, target) in targets.iter() {
@@ -130,7 +138,8 @@ pub(crate) fn targets_text(
     targets: &Targets,
     form: Form,
 ) -> Result<Vec<u8>, PieceError>
-    ensures { IfOk result (λ t. option_and_then (text_in form) (targets_json (targets_doc targets.now)) ≡ Some t.items) }
+    ensures { IfOk result (λ t. option_and_then (text_in form)
+        (targets_json (targets_doc targets.now)) ≡ Some t.items) }
 {
     let listed = listing_text(alloc, form, &targets.targets)?;
     let members = members_around(alloc, targets, Value::Null)?;

@@ -89,7 +89,8 @@ impl Counts {
 /// The stage, and the counts with the tree, where the update has succeeded; where memory is wanting, it ends with `Memory`.
 pub(crate) fn count_tree(alloc: Global, counts: Counts, stage: Stage) -> (Counts, Stage)
     ensures counts { result.0 ≡ with_tree (stage_doc result.1) counts }
-    ensures stage { (stage_doc result.1 ≡ stage_doc stage) ⊎ (stage_doc result.1 ≡ Done (Err Memory)) }
+    ensures stage { (stage_doc result.1 ≡ stage_doc stage)
+        ⊎ (stage_doc result.1 ≡ Done (Err Memory)) }
 {
     match counts.with_tree(alloc, &stage) {
         Ok(more) => (more, stage),

@@ -49,7 +49,8 @@ impl Holder<'_> {
         targets: &Signed<Targets>,
         verifier: &V,
     ) -> Result<(), schema::Error>
-        ensures { Answers result (targets_verdict (V.verifies verifier.now) (holder_doc self.now) (signed_doc targets_doc targets.now)) }
+        ensures { Answers result (targets_verdict (V.verifies verifier.now) (holder_doc self.now)
+            (signed_doc targets_doc targets.now)) }
     {
         match self {
             Holder::Root(root) => root.verify_role(alloc, targets, verifier),
@@ -70,8 +71,13 @@ fn verify<V: Verify>(
     targets: &Signed<Targets>,
     verifier: &V,
 ) -> Result<(), UpdateError>
-    ensures passed { OnOk result (targets_verdict (V.verifies verifier.now) (holder_doc holder.now) (signed_doc targets_doc targets.now) ≡ Ok (tt {0})) }
-    ensures refused { IfErr result (λ e. IsUnverified types.Targets (targets_verdict (V.verifies verifier.now) (holder_doc holder.now) (signed_doc targets_doc targets.now)) e) }
+    ensures passed { OnOk result
+        (targets_verdict (V.verifies verifier.now) (holder_doc holder.now)
+        (signed_doc targets_doc targets.now) ≡ Ok (tt {0})) }
+    ensures refused { IfErr result
+        (λ e. IsUnverified types.Targets
+        (targets_verdict (V.verifies verifier.now) (holder_doc holder.now)
+        (signed_doc targets_doc targets.now)) e) }
 {
     match holder.verify(alloc, targets, verifier) {
         Ok(()) => Ok(()),
@@ -92,7 +98,10 @@ fn check<V: Verify>(
     targets: &Signed<Targets>,
     verifier: &V,
 ) -> Result<(), UpdateError>
-    ensures { Gives (λ u. tt {0}) (targets_checked (V.verifies verifier.now) (enforces setting.now.enforcement) start.nanosecond (holder_doc holder.now) listed (signed_doc targets_doc targets.now)) result }
+    ensures { Gives (λ u. tt {0})
+        (targets_checked (V.verifies verifier.now) (enforces setting.now.enforcement)
+        start.nanosecond (holder_doc holder.now) listed
+        (signed_doc targets_doc targets.now)) result }
 {
     if let Err(error) = verify(setting.alloc, holder, targets, verifier) {
         return Err(error);
@@ -125,7 +134,9 @@ pub(crate) fn judge<V: Verify>(
     bytes: &[u8],
     verifier: &V,
 ) -> Result<Signed<Targets>, UpdateError>
-    ensures { Gives (signed_doc tree_doc) (judged (V.verifies verifier.now) (enforces setting.now.enforcement) start.nanosecond (holder_doc holder.now) listed bytes.now) result }
+    ensures { Gives (signed_doc tree_doc)
+        (judged (V.verifies verifier.now) (enforces setting.now.enforcement) start.nanosecond
+        (holder_doc holder.now) listed bytes.now) result }
 {
     let targets = match Signed::<Targets>::read(setting.alloc, bytes) {
         Ok(targets) => targets,

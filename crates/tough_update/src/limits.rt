@@ -20,7 +20,15 @@ pub struct Limits {
 const MEBIBYTE: u64 = 1_048_576;
 
 impl Default for Limits {
-    ghost is_default = { λ l. l ≡ record { max_root_size = 2 ^ 20; max_targets_size = 10 * 2 ^ 20; max_timestamp_size = 2 ^ 20; max_snapshot_size = 2 ^ 20; max_root_updates = 1024 } };
+    ghost is_default = { λ l. l
+        ≡ record {
+          max_root_size = 2 ^ 20;
+          max_targets_size = 10 * 2 ^ 20;
+          max_timestamp_size = 2 ^
+              20;
+          max_snapshot_size = 2 ^ 20;
+          max_root_updates = 1024;
+        } };
 
     /// One mebibyte for roots, timestamps and snapshots, ten for targets, and 1,024 new roots.
     fn default() -> Limits {

@@ -38,7 +38,9 @@ fn turn<V: Verify>(
     answer: Answer,
     verifier: &V,
 ) -> Result<Stage, UpdateError>
-    ensures { Gives stage_doc (stage_after (V.verifies verifier.now) (setting_doc setting.now) (stage_doc stage) (answer_doc answer)) result }
+    ensures { Gives stage_doc
+        (stage_after (V.verifies verifier.now) (setting_doc setting.now) (stage_doc stage)
+        (answer_doc answer)) result }
 {
     match answer {
         Answer::Moment(now) => match stage {
@@ -66,7 +68,8 @@ fn turn<V: Verify>(
 
 // The stage after an answer.
 fn next<V: Verify>(setting: &Setting<'_>, stage: Stage, answer: Answer, verifier: &V) -> Stage
-    ensures { Settles (stage_after (V.verifies verifier.now) (setting_doc setting.now) (stage_doc stage) (answer_doc answer)) (stage_doc result) }
+    ensures { Settles (stage_after (V.verifies verifier.now) (setting_doc setting.now)
+        (stage_doc stage) (answer_doc answer)) (stage_doc result) }
 {
     match turn(setting, stage, answer, verifier) {
         Ok(stage) => stage,
@@ -77,7 +80,15 @@ fn next<V: Verify>(setting: &Setting<'_>, stage: Stage, answer: Answer, verifier
 impl Core {
     /// An update from a root that is trusted, given as its bytes.
     pub fn new(trusted: Vec<u8>, limits: Limits, enforcement: ExpirationEnforcement) -> Core
-        ensures core { core_doc result ≡ record { setting = record { trusted = trusted.items; limits = limits; enforced = enforces enforcement }; stage = at.Moment } }
+        ensures core { core_doc result
+            ≡ record {
+              setting = record {
+                trusted = trusted.items;
+                limits = limits;
+                enforced = enforces enforcement;
+              };
+              stage = at.Moment;
+            } }
         ensures counts { counts_of result ≡ none_yet }
     {
         Core {
@@ -118,8 +129,11 @@ impl Core {
 
     /// Takes an answer. One of a kind that isn't asked for changes nothing. Where memory is wanting, the update ends with `Memory`.
     pub fn answer<V: Verify>(&mut self, alloc: Global, verifier: &V, answer: Answer)
-        ensures goes { Goes (V.verifies verifier.now) (core_doc self.old) (answer_doc answer) (core_doc self.new) }
-        ensures counted { counts_of self.new ≡ with_tree (core_doc self.new).stage (with_fetch (core_doc self.old).stage (answer_doc answer) (counts_of self.old)) }
+        ensures goes { Goes (V.verifies verifier.now) (core_doc self.old)
+            (answer_doc answer) (core_doc self.new) }
+        ensures counted { counts_of self.new
+            ≡ with_tree (core_doc self.new).stage
+            (with_fetch (core_doc self.old).stage (answer_doc answer) (counts_of self.old)) }
     {
         let stage = mem::replace(&mut self.stage, Stage::Done(Err(UpdateError::Memory)));
         let setting = Setting {
@@ -155,7 +169,9 @@ impl Core {
     /// Hands out how the update ended, once it has; then nothing more is asked.
     pub fn take_outcome(&mut self) -> Option<Result<Loaded, UpdateError>>
         ensures done { option_map outcome_doc result ≡ ended (core_doc self.old).stage }
-        ensures taken { IsSome result → core_doc self.new ≡ record { setting = (core_doc self.old).setting; stage = at.Taken } }
+        ensures taken { IsSome result
+            → core_doc self.new ≡ record
+            { setting = (core_doc self.old).setting; stage = at.Taken } }
         ensures not_yet { IsNone result → core_doc self.new ≡ core_doc self.old }
         ensures counts { counts_of self.new ≡ counts_of self.old }
     {

@@ -128,7 +128,8 @@ impl Request {
 
 // A copy of the digest, where one is stated.
 fn stated_digest(alloc: Global, hashes: &Option<Hashes>) -> Result<Option<Vec<u8>>, AllocError>
-    ensures { IfOk result (λ d. option_map (λ v. v.items) d ≡ stated_digest (option_map hashes_doc hashes.now)) }
+    ensures { IfOk result (λ d. option_map (λ v. v.items) d
+        ≡ stated_digest (option_map hashes_doc hashes.now)) }
 {
     match hashes {
         None => Ok(None),
@@ -171,7 +172,8 @@ pub(crate) fn snapshot_request(
     consistent: bool,
     meta: &Metafile,
 ) -> Result<Request, AllocError>
-    ensures { IfOk result (λ r. request_doc r ≡ snapshot_request limits.now consistent (metafile_doc meta.now)) }
+    ensures { IfOk result (λ r. request_doc r
+        ≡ snapshot_request limits.now consistent (metafile_doc meta.now)) }
 {
     Ok(Request {
         name: file_name(alloc, consistent, meta.version, "snapshot.json")?,
@@ -198,7 +200,8 @@ pub(crate) fn targets_request(
     consistent: bool,
     meta: &Metafile,
 ) -> Result<Request, AllocError>
-    ensures { IfOk result (λ r. request_doc r ≡ targets_request limits.now consistent (metafile_doc meta.now)) }
+    ensures { IfOk result (λ r. request_doc r
+        ≡ targets_request limits.now consistent (metafile_doc meta.now)) }
 {
     Ok(Request {
         name: file_name(alloc, consistent, meta.version, "targets.json")?,
@@ -216,7 +219,8 @@ pub(crate) fn role_request(
     role: &str,
     meta: &Metafile,
 ) -> Result<Request, AllocError>
-    ensures { IfOk result (λ r. request_doc r ≡ role_request limits.now consistent role.now (metafile_doc meta.now)) }
+    ensures { IfOk result (λ r. request_doc r
+        ≡ role_request limits.now consistent role.now (metafile_doc meta.now)) }
 {
     let mut file = encode_filename(alloc, role)?;
     file.push_str(".json")?;

@@ -41,7 +41,9 @@ fn finish(
     targets: Signed<Targets>,
     received: Vec<Received>,
 ) -> Result<Stage, UpdateError>
-    ensures { Gives stage_doc (finished (known_doc known) (received_docs received.items) (signed_doc tree_doc targets)) result }
+    ensures { Gives stage_doc
+        (finished (known_doc known) (received_docs received.items)
+        (signed_doc tree_doc targets)) result }
 {
     match targets.signed.validate(alloc) {
         Ok(()) => Ok(Stage::Done(Ok(Loaded {
@@ -62,7 +64,9 @@ fn grow_on(
     growth: Growth,
     received: Vec<Received>,
 ) -> Result<Stage, UpdateError>
-    ensures { Gives stage_doc (grown_on limits.now (known_doc known) (received_docs received.items) (go_on (metas_in (known_doc known)) (work_doc growth))) result }
+    ensures { Gives stage_doc
+        (grown_on limits.now (known_doc known) (received_docs received.items)
+        (go_on (metas_in (known_doc known)) (work_doc growth))) result }
 {
     let consistent = known.root.signed.consistent_snapshot;
     match growth.go_on(alloc, &known.snapshot.signed)? {
@@ -83,7 +87,8 @@ pub(crate) fn begin_roles(
     known: Known,
     targets: Signed<Targets>,
 ) -> Result<Stage, UpdateError>
-    ensures { Gives stage_doc (roles_begun limits.now (known_doc known) (signed_doc tree_doc targets)) result }
+    ensures { Gives stage_doc
+        (roles_begun limits.now (known_doc known) (signed_doc tree_doc targets)) result }
 {
     grow_on(
         alloc,
@@ -102,7 +107,9 @@ pub(crate) fn give_role(
     roles: Roles,
     targets: Signed<Targets>,
 ) -> Result<Stage, UpdateError>
-    ensures { Gives stage_doc (role_given limits.now (known_doc known) (roles_doc roles) (signed_doc tree_doc targets)) result }
+    ensures { Gives stage_doc
+        (role_given limits.now (known_doc known) (roles_doc roles)
+        (signed_doc tree_doc targets)) result }
 {
     let Roles { growth, received } = roles;
     let name = String::from_str(alloc, wanted_name(&growth))?;
@@ -118,7 +125,9 @@ fn store_role(
     file: String,
     targets: Signed<Targets>,
 ) -> Result<Stage, UpdateError>
-    ensures { Gives stage_doc (role_stored (setting_doc setting.now).limits (known_doc known) (roles_doc roles) (string_bytes file) (signed_doc tree_doc targets)) result }
+    ensures { Gives stage_doc
+        (role_stored (setting_doc setting.now).limits (known_doc known) (roles_doc roles)
+        (string_bytes file) (signed_doc tree_doc targets)) result }
 {
     match DocumentName::delegated(file) {
         Some(name) => Ok(Stage::Step(Pending::PutDelegated(known, roles, name, targets))),
@@ -149,7 +158,9 @@ pub(crate) fn take_role<V: Verify>(
     bytes: Vec<u8>,
     verifier: &V,
 ) -> Result<Stage, UpdateError>
-    ensures { Gives stage_doc (new_role (V.verifies verifier.now) (setting_doc setting.now) (known_doc known) (roles_doc roles) listed (string_bytes file) bytes.items) result }
+    ensures { Gives stage_doc
+        (new_role (V.verifies verifier.now) (setting_doc setting.now) (known_doc known)
+        (roles_doc roles) listed (string_bytes file) bytes.items) result }
 {
     let holder = Holder::Delegations(roles.growth.holder(), wanted_name(&roles.growth));
     let targets = match judge(

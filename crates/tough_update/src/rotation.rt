@@ -15,7 +15,8 @@ use tough_roles::{RoleType, Root};
 
 // The key of the identifier at that place.
 fn key_at<'a>(root: &'a Root, ids: &[Decoded<Hex>], place: usize) -> Option<&'a Key>
-    ensures { option_map key_doc (option_copied result) ≡ key_in (root_doc root.now).keys (drop place ids.now) }
+    ensures { option_map key_doc (option_copied result)
+        ≡ key_in (root_doc root.now).keys (drop place ids.now) }
 {
     match ids.get(place) {
         Some(id) => root.keys.get(id),
@@ -25,7 +26,8 @@ fn key_at<'a>(root: &'a Root, ids: &[Decoded<Hex>], place: usize) -> Option<&'a 
 
 // Whether the keys of these identifiers, up to the first that has none, are the same.
 fn are_same_keys(old: &Root, old_ids: &[Decoded<Hex>], new: &Root, new_ids: &[Decoded<Hex>]) -> bool
-    ensures { result ≡ same_keys (keys_along (root_doc old.now).keys old_ids.now) (keys_along (root_doc new.now).keys new_ids.now) }
+    ensures { result ≡ same_keys (keys_along (root_doc old.now).keys old_ids.now)
+        (keys_along (root_doc new.now).keys new_ids.now) }
 {
     for place in 0..old_ids.len() {
         match (key_at(old, old_ids, place), key_at(new, new_ids, place)) {

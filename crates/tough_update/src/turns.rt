@@ -70,7 +70,8 @@ fn begin<V: Verify>(
     start: Instant,
     verifier: &V,
 ) -> Result<Stage, UpdateError>
-    ensures { Gives stage_doc (began (V.verifies verifier.now) limits.now trusted.now start.nanosecond) result }
+    ensures { Gives stage_doc
+        (began (V.verifies verifier.now) limits.now trusted.now start.nanosecond) result }
 {
     let first = match first_root(alloc, trusted, verifier) {
         Ok(first) => first,
@@ -90,7 +91,8 @@ fn take_root<V: Verify>(
     bytes: &[u8],
     verifier: &V,
 ) -> Result<Stage, UpdateError>
-    ensures { Gives stage_doc (new_root (V.verifies verifier.now) (walk_doc walk) bytes.now) result }
+    ensures { Gives stage_doc
+        (new_root (V.verifies verifier.now) (walk_doc walk) bytes.now) result }
 {
     let root = match next_root(alloc, &walk.last().signed, bytes, verifier) {
         Ok(root) => root,
@@ -115,7 +117,8 @@ fn end_walk(
     enforcement: ExpirationEnforcement,
     walk: Walk,
 ) -> Result<Stage, UpdateError>
-    ensures { Gives stage_doc (walk_ended limits.now (enforces enforcement) (walk_doc walk)) result }
+    ensures { Gives stage_doc
+        (walk_ended limits.now (enforces enforcement) (walk_doc walk)) result }
 {
     let last = &walk.last().signed;
     if is_expired(enforcement, walk.start, last.expires) {
@@ -147,7 +150,8 @@ fn take_timestamp(alloc: Global, base: Base, bytes: &[u8]) -> Result<Stage, Upda
 
 // What is listed for a name.
 fn listed<'a>(meta: &'a BTreeMap<String, Metafile>, name: &str) -> Option<&'a Metafile>
-    ensures { option_map metafile_doc (option_copied result) ≡ metafile_in (metafiles_doc meta.now.entries) name.now }
+    ensures { option_map metafile_doc (option_copied result)
+        ≡ metafile_in (metafiles_doc meta.now.entries) name.now }
 {
     meta.get(name)
 }
@@ -159,7 +163,9 @@ fn go_to_snapshot(
     base: Base,
     timestamp: Signed<Timestamp>,
 ) -> Result<Stage, UpdateError>
-    ensures { Gives stage_doc (want_snapshot limits.now (base_doc base) (signed_doc timestamp_doc timestamp) (metafile_in (timestamp_doc timestamp.signed).meta snapshot_file)) result }
+    ensures { Gives stage_doc
+        (want_snapshot limits.now (base_doc base) (signed_doc timestamp_doc timestamp)
+        (metafile_in (timestamp_doc timestamp.signed).meta snapshot_file)) result }
 {
     let Some(meta) = listed(&timestamp.signed.meta, "snapshot.json") else {
         return Err(UpdateError::Refused(Refusal::MissingSnapshotMeta {
@@ -179,7 +185,9 @@ fn take_snapshot(
     listed: u64,
     bytes: &[u8],
 ) -> Result<Stage, UpdateError>
-    ensures { Gives stage_doc (new_snapshot (base_doc base) (signed_doc timestamp_doc timestamp) listed bytes.now) result }
+    ensures { Gives stage_doc
+        (new_snapshot (base_doc base) (signed_doc timestamp_doc timestamp)
+        listed bytes.now) result }
 {
     match Signed::<Snapshot>::read(alloc, bytes) {
         Ok(snapshot) => {
@@ -202,7 +210,9 @@ fn take_snapshot(
 
 /// The snapshot was accepted.
 fn go_to_targets(alloc: Global, limits: &Limits, known: Known) -> Result<Stage, UpdateError>
-    ensures { Gives stage_doc (want_targets limits.now (known_doc known) (metafile_in (snapshot_doc known.snapshot.signed).meta targets_file)) result }
+    ensures { Gives stage_doc
+        (want_targets limits.now (known_doc known)
+        (metafile_in (snapshot_doc known.snapshot.signed).meta targets_file)) result }
 {
     let Some(meta) = listed(&known.snapshot.signed.meta, "targets.json") else {
         return Err(UpdateError::Refused(Refusal::SnapshotTargetsMetaMissing {
@@ -222,7 +232,9 @@ fn take_targets<V: Verify>(
     bytes: &[u8],
     verifier: &V,
 ) -> Result<Stage, UpdateError>
-    ensures { Gives stage_doc (new_targets (V.verifies verifier.now) (enforces setting.now.enforcement) (known_doc known) listed bytes.now) result }
+    ensures { Gives stage_doc
+        (new_targets (V.verifies verifier.now) (enforces setting.now.enforcement) (known_doc known)
+        listed bytes.now) result }
 {
     let holder = Holder::Root(&known.root.signed);
     match judge(setting, known.start, &holder, listed, bytes, verifier) {
@@ -272,7 +284,8 @@ fn end_fetch(
     ends_walk: bool,
     fault: Fault,
 ) -> Result<Stage, UpdateError>
-    ensures { Gives stage_doc (unfetched (wanted_doc wanted) ends_walk (string_bytes request.name) fault) result }
+    ensures { Gives stage_doc
+        (unfetched (wanted_doc wanted) ends_walk (string_bytes request.name) fault) result }
 {
     match wanted {
         Wanted::Root(walk) => {
@@ -295,7 +308,9 @@ pub(crate) fn end_unstarted(
     request: Request,
     fault: Fault,
 ) -> Result<Stage, UpdateError>
-    ensures { Gives stage_doc (unfetched (wanted_doc wanted) (ends_start fault) (string_bytes request.name) fault) result }
+    ensures { Gives stage_doc
+        (unfetched (wanted_doc wanted) (ends_start fault)
+        (string_bytes request.name) fault) result }
 {
     let ends = ends_start(&fault);
     end_fetch(wanted, request, ends, fault)
@@ -303,7 +318,9 @@ pub(crate) fn end_unstarted(
 
 /// A stream that failed.
 pub(crate) fn end_cut(wanted: Wanted, request: Request, fault: Fault) -> Result<Stage, UpdateError>
-    ensures { Gives stage_doc (unfetched (wanted_doc wanted) (ends_stream fault) (string_bytes request.name) fault) result }
+    ensures { Gives stage_doc
+        (unfetched (wanted_doc wanted) (ends_stream fault)
+        (string_bytes request.name) fault) result }
 {
     let ends = ends_stream(&fault);
     end_fetch(wanted, request, ends, fault)
@@ -317,7 +334,9 @@ pub(crate) fn read_wanted<V: Verify>(
     bytes: Vec<u8>,
     verifier: &V,
 ) -> Result<Stage, UpdateError>
-    ensures { Gives stage_doc (read_wanted (V.verifies verifier.now) (setting_doc setting.now) (wanted_doc wanted) (request_doc request) bytes.items) result }
+    ensures { Gives stage_doc
+        (read_wanted (V.verifies verifier.now) (setting_doc setting.now) (wanted_doc wanted)
+        (request_doc request) bytes.items) result }
 {
     let alloc = setting.alloc;
     let held = bytes.as_slice();
@@ -340,7 +359,8 @@ fn after<V: Verify>(
     pending: Pending,
     verifier: &V,
 ) -> Result<Stage, UpdateError>
-    ensures { Gives stage_doc (after (V.verifies verifier.now) (setting_doc setting.now) (pending_doc pending)) result }
+    ensures { Gives stage_doc
+        (after (V.verifies verifier.now) (setting_doc setting.now) (pending_doc pending)) result }
 {
     let alloc = setting.alloc;
     let limits = &setting.limits;
@@ -368,7 +388,9 @@ pub(crate) fn take_step<V: Verify>(
     taken: Result<(), StepError>,
     verifier: &V,
 ) -> Result<Stage, UpdateError>
-    ensures { Gives stage_doc (stage_after (V.verifies verifier.now) (setting_doc setting.now) (Step (pending_doc pending)) (got.Step (step_doc taken))) result }
+    ensures { Gives stage_doc
+        (stage_after (V.verifies verifier.now) (setting_doc setting.now)
+        (Step (pending_doc pending)) (got.Step (step_doc taken))) result }
 {
     match taken {
         Ok(()) => after(setting, pending, verifier),

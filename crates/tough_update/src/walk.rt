@@ -20,8 +20,11 @@ pub(crate) fn first_root<V: Verify>(
     bytes: &[u8],
     verifier: &V,
 ) -> Result<Signed<Root>, UpdateError>
-    ensures answer { Gives (signed_doc root_doc) (first_root (V.verifies verifier.now) bytes.now) result }
-    ensures signed { IfOk result (λ root. ReachesUnder (V.verifies verifier.now) (root_doc root.signed) types.Root root_json (signed_doc root_doc root)) }
+    ensures answer { Gives (signed_doc root_doc)
+        (first_root (V.verifies verifier.now) bytes.now) result }
+    ensures signed { IfOk result
+        (λ root. ReachesUnder (V.verifies verifier.now) (root_doc root.signed) types.Root root_json
+        (signed_doc root_doc root)) }
 {
     let root = match Signed::<Root>::read(alloc, bytes) {
         Ok(root) => root,
@@ -42,8 +45,13 @@ fn verify_under<V: Verify>(
     new: &Signed<Root>,
     verifier: &V,
 ) -> Result<(), UpdateError>
-    ensures passed { OnOk result (root_verdict (V.verifies verifier.now) (root_doc root.now) (signed_doc root_doc new.now) ≡ Ok (tt {0})) }
-    ensures refused { IfErr result (λ e. IsUnverified types.Root (root_verdict (V.verifies verifier.now) (root_doc root.now) (signed_doc root_doc new.now)) e) }
+    ensures passed { OnOk result
+        (root_verdict (V.verifies verifier.now) (root_doc root.now)
+        (signed_doc root_doc new.now) ≡ Ok (tt {0})) }
+    ensures refused { IfErr result
+        (λ e. IsUnverified types.Root
+        (root_verdict (V.verifies verifier.now) (root_doc root.now)
+        (signed_doc root_doc new.now)) e) }
 {
     match root.verify_role(alloc, new, verifier) {
         Ok(()) => Ok(()),
@@ -63,8 +71,10 @@ pub(crate) fn next_root<V: Verify>(
     bytes: &[u8],
     verifier: &V,
 ) -> Result<Signed<Root>, UpdateError>
-    ensures answer { Gives (signed_doc root_doc) (next_root (V.verifies verifier.now) (root_doc old.now) bytes.now) result }
-    ensures next { (before : SignedDoc RootDoc) → before.role ≡ root_doc old.now → IfOk result (λ new. IsNext (V.verifies verifier.now) before (signed_doc root_doc new)) }
+    ensures answer { Gives (signed_doc root_doc)
+        (next_root (V.verifies verifier.now) (root_doc old.now) bytes.now) result }
+    ensures next { (before : SignedDoc RootDoc) → before.role ≡ root_doc old.now
+        → IfOk result (λ new. IsNext (V.verifies verifier.now) before (signed_doc root_doc new)) }
 {
     let new = match Signed::<Root>::read(alloc, bytes) {
         Ok(new) => new,

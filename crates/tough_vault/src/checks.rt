@@ -192,7 +192,8 @@ pub enum StepError {
 
 // What a timestamp says of the snapshot.
 fn snapshot_meta(timestamp: &Timestamp) -> Option<&Metafile>
-    ensures { option_map metafile_doc (option_copied result) ≡ metafile_in (timestamp_doc timestamp.now).meta snapshot_file }
+    ensures { option_map metafile_doc (option_copied result)
+        ≡ metafile_in (timestamp_doc timestamp.now).meta snapshot_file }
 {
     timestamp.meta.get("snapshot.json")
 }
@@ -232,7 +233,9 @@ pub(crate) fn check_timestamp<V: Verify>(
     root: &Root,
     new: &Signed<Timestamp>,
 ) -> Result<(), StepError>
-    ensures { Checked (timestamp_first (timestamp_verdict (V.verifies verifier.now) (root_doc root.now) (signed_doc timestamp_doc new.now)) (timestamp_doc new.now.signed)) result }
+    ensures { Checked (timestamp_first
+        (timestamp_verdict (V.verifies verifier.now) (root_doc root.now)
+        (signed_doc timestamp_doc new.now)) (timestamp_doc new.now.signed)) result }
 {
     match root.verify_role(alloc, new, verifier) {
         Ok(()) => check_form(&new.signed),
@@ -309,7 +312,8 @@ pub(crate) fn check_expiry(
     start: Instant,
     expires: Instant,
 ) -> Result<(), StepError>
-    ensures { Checked (expiry role (enforces enforcement) start.nanosecond expires.nanosecond) result }
+    ensures { Checked (expiry role (enforces enforcement) start.nanosecond
+        expires.nanosecond) result }
 {
     match enforcement {
         ExpirationEnforcement::Safe => {
@@ -334,7 +338,8 @@ pub(crate) fn check_timestamp_late(
     start: Instant,
     enforcement: ExpirationEnforcement,
 ) -> Result<(), StepError>
-    ensures { Checked (timestamp_after (timestamp_where old.now) (pair_where tip) (timestamp_doc new.now) start.nanosecond (enforces enforcement)) result }
+    ensures { Checked (timestamp_after (timestamp_where old.now) (pair_where tip)
+        (timestamp_doc new.now) start.nanosecond (enforces enforcement)) result }
 {
     check_against(old, new)?;
     check_tip(tip, new)?;

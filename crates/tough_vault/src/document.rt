@@ -14,7 +14,8 @@ pub(crate) fn document_bytes<T: Role>(
     alloc: Global,
     document: &Signed<T>,
 ) -> Result<Vec<u8>, WriteError>
-    ensures { Writes (λ b. b.items) result (option_and_then stored_text (document_json T.json document.now)) }
+    ensures { Writes (λ b. b.items) result
+        (option_and_then stored_text (document_json T.json document.now)) }
 {
     document.text(alloc, Form::Compact)
 }

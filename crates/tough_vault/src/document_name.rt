@@ -27,7 +27,8 @@ impl DocumentName {
     /// `timestamp.json`, `snapshot.json`, `targets.json` and `latest_known_time.json`: a document under one of these
     /// would stand in the place of a file that the vault or its targets need.
     pub fn delegated(file: String) -> Option<DocumentName>
-        ensures { MatchOption result (IsReserved (string_bytes file)) (λ name. (name_of name ≡ string_bytes file) × (IsReserved (string_bytes file) → ⊥)) }
+        ensures { MatchOption result (IsReserved (string_bytes file))
+            (λ name. (name_of name ≡ string_bytes file) × (IsReserved (string_bytes file) → ⊥)) }
     {
         let name = file.as_str();
         if name == "root.json"

@@ -10,6 +10,8 @@ ghost use Rattle.tough_vault.specs.Documents.{timestamp_text, timestamp_verdict,
 
 /// A timestamp or a snapshot that a root verifies has a text in the store.
 pub fn verified_is_stored()
-    ensures timestamp { (v : Verifies) (root : RootDoc) (d : SignedDoc TimestampDoc) → timestamp_verdict v root d ≡ Ok tt → AreSpelled d.signatures → timestamp_text d ≢ None }
-    ensures snapshot { (v : Verifies) (root : RootDoc) (d : SignedDoc SnapshotDoc) → snapshot_verdict v root d ≡ Ok tt → AreSpelled d.signatures → snapshot_text d ≢ None }
+    ensures timestamp { (v : Verifies) (root : RootDoc) (d : SignedDoc TimestampDoc)
+        → timestamp_verdict v root d ≡ Ok tt → AreSpelled d.signatures → timestamp_text d ≢ None }
+    ensures snapshot { (v : Verifies) (root : RootDoc) (d : SignedDoc SnapshotDoc)
+        → snapshot_verdict v root d ≡ Ok tt → AreSpelled d.signatures → snapshot_text d ≢ None }
 {}

@@ -24,7 +24,9 @@ pub(crate) fn conclude<S: Store>(
     name: &str,
     prepared: Result<Prepared, StepError>,
 ) -> Result<Receipt, StepError>
-    ensures { Concludes S.tells S.files S.count name.now prepared (parts store.old journal.old.items tip.old) (parts store.new journal.new.items tip.new) result }
+    ensures { Concludes S.tells S.files S.count name.now prepared
+        (parts store.old journal.old.items tip.old)
+        (parts store.new journal.new.items tip.new) result }
 {
     match prepared {
         Err(error) => Err(error),

@@ -44,10 +44,12 @@ pub(crate) fn read_file<S: Store>(
     store: &mut S,
     name: &str,
 ) -> Result<Option<Vec<u8>>, StepError>
-    ensures found { IfOk result (λ found. Finds S.tells (S.files store.old) name.now (content found)) }
+    ensures found { IfOk result
+        (λ found. Finds S.tells (S.files store.old) name.now (content found)) }
     ensures same { S.tells ≡ true → SameFiles (S.files store.old) (S.files store.new) }
     ensures quiet { OnOk result (S.count store.new ≡ S.count store.old) }
-    ensures fault { IfErr result (IsReadFault S.tells S.files S.count name.now store.old store.new) }
+    ensures fault { IfErr result
+        (IsReadFault S.tells S.files S.count name.now store.old store.new) }
 {
     match store.read(alloc, name) {
         Ok(found) => Ok(found),
@@ -66,7 +68,8 @@ fn read_timestamp<V: Verify>(
     root: &Root,
     found: &Option<Vec<u8>>,
 ) -> Result<Option<Timestamp>, AllocError>
-    ensures { IfOk result (λ old. timestamp_where old ≡ stored_timestamp (V.verifies verifier.now) (root_doc root.now) (content found.now)) }
+    ensures { IfOk result (λ old. timestamp_where old
+        ≡ stored_timestamp (V.verifies verifier.now) (root_doc root.now) (content found.now)) }
 {
     let Some(bytes) = found else {
         return Ok(None);
@@ -123,7 +126,8 @@ pub(crate) fn prepare_time<S: Store>(
     tip: &Tip,
     now: Instant,
 ) -> Result<Prepared, StepError>
-    ensures step { Prepares S.tells S.files S.count (time_step (tip_of tip.now) now.nanosecond) store.old store.new result }
+    ensures step { Prepares S.tells S.files S.count (time_step (tip_of tip.now) now.nanosecond)
+        store.old store.new result }
     ensures back { OnOk result (stored_time (time_text now.nanosecond) ≡ Some now.nanosecond) }
 {
     let found = match read_file(alloc, store, TIME) {
@@ -152,8 +156,12 @@ pub(crate) fn prepare_root<S: Store>(
     store: &mut S,
     root: &Signed<Root>,
 ) -> Result<Prepared, StepError>
-    ensures step { Prepares S.tells S.files S.count (root_step (signed_doc root_doc root.now)) store.old store.new result }
-    ensures back { OnOk result (AreOwn (root_doc root.now.signed).keys → ReadsBack root_in (signed_json root_json (signed_doc root_doc root.now)) (signed_doc root_doc root.now) (root_text (signed_doc root_doc root.now))) }
+    ensures step { Prepares S.tells S.files S.count (root_step (signed_doc root_doc root.now))
+        store.old store.new result }
+    ensures back { OnOk result
+        (AreOwn (root_doc root.now.signed).keys
+        → ReadsBack root_in (signed_json root_json (signed_doc root_doc root.now))
+        (signed_doc root_doc root.now) (root_text (signed_doc root_doc root.now))) }
 {
     let bytes = match root.compact(alloc) {
         Ok(bytes) => bytes,
@@ -176,8 +184,13 @@ pub(crate) fn prepare_timestamp<S: Store, V: Verify>(
     start: Instant,
     enforcement: ExpirationEnforcement,
 ) -> Result<Prepared, StepError>
-    ensures step { Prepares S.tells S.files S.count (timestamp_step (V.verifies verifier.now) (root_doc root.now) (tip_of tip.now) (signed_doc timestamp_doc new.now) start.nanosecond (enforces enforcement)) store.old store.new result }
-    ensures back { OnOk result (ReadsBack timestamp_in (signed_json timestamp_json (signed_doc timestamp_doc new.now)) (signed_doc timestamp_doc new.now) (timestamp_text (signed_doc timestamp_doc new.now))) }
+    ensures step { Prepares S.tells S.files S.count
+        (timestamp_step (V.verifies verifier.now) (root_doc root.now) (tip_of tip.now)
+        (signed_doc timestamp_doc new.now) start.nanosecond (enforces enforcement))
+        store.old store.new result }
+    ensures back { OnOk result
+        (ReadsBack timestamp_in (signed_json timestamp_json (signed_doc timestamp_doc new.now))
+        (signed_doc timestamp_doc new.now) (timestamp_text (signed_doc timestamp_doc new.now))) }
 {
     if let Err(error) = check_timestamp(alloc, verifier, root, new) {
         return Err(error);
@@ -213,7 +226,8 @@ pub(crate) fn prepare_document<S: Store, T: Role>(
     name: &DocumentName,
     role: &Signed<T>,
 ) -> Result<Prepared, StepError>
-    ensures { Prepares S.tells S.files S.count (document_step (name_of name.now) (role_text T.json role.now)) store.old store.new result }
+    ensures { Prepares S.tells S.files S.count
+        (document_step (name_of name.now) (role_text T.json role.now)) store.old store.new result }
 {
     let bytes = match document_bytes(alloc, role) {
         Ok(bytes) => bytes,

@@ -25,7 +25,8 @@ pub(crate) fn clear<S: Store>(
     journal: &mut Vec<Entry>,
     tip: &mut Tip,
 ) -> Result<Receipt, StepError>
-    ensures { Clears S.tells S.files S.count (parts store.old journal.old.items tip.old) (parts store.new journal.new.items tip.new) result }
+    ensures { Clears S.tells S.files S.count (parts store.old journal.old.items tip.old)
+        (parts store.new journal.new.items tip.new) result }
 {
     let alloc = *journal.allocator();
     let (Ok(first), Ok(second)) = (

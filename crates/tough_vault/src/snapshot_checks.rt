@@ -32,7 +32,8 @@ fn check_form(snapshot: &Snapshot) -> Result<(), StepError>
 
 // What a snapshot says of the targets.
 fn targets_meta(snapshot: &Snapshot) -> Option<&Metafile>
-    ensures { option_map metafile_doc (option_copied result) ≡ metafile_in (snapshot_doc snapshot.now).meta targets_file }
+    ensures { option_map metafile_doc (option_copied result)
+        ≡ metafile_in (snapshot_doc snapshot.now).meta targets_file }
 {
     snapshot.meta.get("targets.json")
 }
@@ -45,7 +46,9 @@ pub(crate) fn check_snapshot<V: Verify>(
     listed: u64,
     new: &Signed<Snapshot>,
 ) -> Result<(), StepError>
-    ensures { Checked (snapshot_first listed (snapshot_verdict (V.verifies verifier.now) (root_doc root.now) (signed_doc snapshot_doc new.now)) (snapshot_doc new.now.signed)) result }
+    ensures { Checked (snapshot_first listed
+        (snapshot_verdict (V.verifies verifier.now) (root_doc root.now)
+        (signed_doc snapshot_doc new.now)) (snapshot_doc new.now.signed)) result }
 {
     let fetched = new.signed.version.get();
     if fetched != listed {
@@ -83,7 +86,9 @@ fn check_role(
     old_version: u64,
     new: &Snapshot,
 ) -> Result<(), StepError>
-    ensures { Checked (fallen_at (record { name = name.now; version = was }) (version_in (items_in (snapshot_doc new.now).meta) name.now) old_version (snapshot_doc new.now).head.version) result }
+    ensures { Checked (fallen_at (record { name = name.now; version = was })
+        (version_in (items_in (snapshot_doc new.now).meta) name.now) old_version
+        (snapshot_doc new.now).head.version) result }
 {
     let new_version = new.version.get();
     let now = listed_version(&new.meta, name);
@@ -113,7 +118,9 @@ fn check_role(
 
 // The first name that the older snapshot lists, in order, that is missing or fell.
 fn check_stored_roles(alloc: Global, old: &Snapshot, new: &Snapshot) -> Result<(), StepError>
-    ensures { Checked (fallen (items_in (snapshot_doc old.now).meta) (items_in (snapshot_doc new.now).meta) (snapshot_doc old.now).head.version (snapshot_doc new.now).head.version) result }
+    ensures { Checked (fallen (items_in (snapshot_doc old.now).meta)
+        (items_in (snapshot_doc new.now).meta) (snapshot_doc old.now).head.version
+        (snapshot_doc new.now).head.version) result }
 {
     let old_version = old.version.get();
     for (name, metafile) in old.meta.iter() {
@@ -132,7 +139,8 @@ fn check_stored_roles(alloc: Global, old: &Snapshot, new: &Snapshot) -> Result<(
 
 // The same of what was accepted last.
 fn check_tip_roles(alloc: Global, tip: &SnapshotVersions, new: &Snapshot) -> Result<(), StepError>
-    ensures { Checked (fallen (items_of tip.now.roles.items) (items_in (snapshot_doc new.now).meta) tip.now.version (snapshot_doc new.now).head.version) result }
+    ensures { Checked (fallen (items_of tip.now.roles.items) (items_in (snapshot_doc new.now).meta)
+        tip.now.version (snapshot_doc new.now).head.version) result }
 {
     for item in &tip.roles {
         if let Err(error) = check_role(alloc, item.name.as_str(), item.version, tip.version, new) {
@@ -189,7 +197,8 @@ pub(crate) fn check_snapshot_late(
     start: Instant,
     enforcement: ExpirationEnforcement,
 ) -> Result<(), StepError>
-    ensures { Checked (snapshot_after (snapshot_where old.now) (roles_where tip.now) (snapshot_doc new.now) start.nanosecond (enforces enforcement)) result }
+    ensures { Checked (snapshot_after (snapshot_where old.now) (roles_where tip.now)
+        (snapshot_doc new.now) start.nanosecond (enforces enforcement)) result }
 {
     check_against(alloc, old, new)?;
     check_tip(alloc, tip, new)?;
@@ -214,7 +223,8 @@ fn listed_versions(
     alloc: Global,
     meta: &BTreeMap<String, Metafile>,
 ) -> Result<Vec<ListedVersion>, AllocError>
-    ensures { IfOk result (λ roles. items_of roles.items ≡ items_in (metafiles_doc meta.now.entries)) }
+    ensures { IfOk result (λ roles. items_of roles.items
+        ≡ items_in (metafiles_doc meta.now.entries)) }
 {
     let mut roles = Vec::new(alloc);
     for (name, metafile) in meta.iter() {

@@ -28,7 +28,8 @@ fn read_snapshot<V: Verify>(
     root: &Root,
     found: &Option<Vec<u8>>,
 ) -> Result<Option<Snapshot>, AllocError>
-    ensures { IfOk result (λ old. snapshot_where old ≡ stored_snapshot (V.verifies verifier.now) (root_doc root.now) (content found.now)) }
+    ensures { IfOk result (λ old. snapshot_where old
+        ≡ stored_snapshot (V.verifies verifier.now) (root_doc root.now) (content found.now)) }
 {
     let Some(bytes) = found else {
         return Ok(None);
@@ -56,8 +57,13 @@ pub(crate) fn prepare_snapshot<S: Store, V: Verify>(
     start: Instant,
     enforcement: ExpirationEnforcement,
 ) -> Result<Prepared, StepError>
-    ensures step { Prepares S.tells S.files S.count (snapshot_step (V.verifies verifier.now) (root_doc root.now) (tip_of tip.now) listed (signed_doc snapshot_doc new.now) start.nanosecond (enforces enforcement)) store.old store.new result }
-    ensures back { OnOk result (ReadsBack snapshot_in (signed_json snapshot_json (signed_doc snapshot_doc new.now)) (signed_doc snapshot_doc new.now) (snapshot_text (signed_doc snapshot_doc new.now))) }
+    ensures step { Prepares S.tells S.files S.count
+        (snapshot_step (V.verifies verifier.now) (root_doc root.now) (tip_of tip.now) listed
+        (signed_doc snapshot_doc new.now) start.nanosecond (enforces enforcement))
+        store.old store.new result }
+    ensures back { OnOk result
+        (ReadsBack snapshot_in (signed_json snapshot_json (signed_doc snapshot_doc new.now))
+        (signed_doc snapshot_doc new.now) (snapshot_text (signed_doc snapshot_doc new.now))) }
 {
     if let Err(error) = check_snapshot(alloc, verifier, root, listed, new) {
         return Err(error);

@@ -17,22 +17,27 @@ pub trait Store {
 
     /// The file's bytes, if it is there.
     fn read(&mut self, alloc: Global, name: &str) -> Result<Option<Vec<u8>>, StoreError>
-        ensures found { IfOk result (λ found. tells ≡ true → content found ≡ files self.old name.now) }
+        ensures found { IfOk result
+            (λ found. tells ≡ true → content found ≡ files self.old name.now) }
         ensures same { tells ≡ true → SameFiles (files self.old) (files self.new) }
         ensures cause { HasCause (count self.old) (count self.new) result };
 
     /// Replaces the whole file. After `Failed` it may hold anything or be missing.
     fn write(&mut self, name: &str, bytes: &[u8]) -> Result<(), StoreError>
         ensures written { OnOk result (tells ≡ true → files self.new name.now ≡ Is bytes.now) }
-        ensures elsewhere { tells ≡ true → SameElsewhere name.now (files self.old) (files self.new) }
-        ensures memory { IsErrOf result StoreError.Memory → tells ≡ true → SameFiles (files self.old) (files self.new) }
+        ensures elsewhere { tells ≡ true
+            → SameElsewhere name.now (files self.old) (files self.new) }
+        ensures memory { IsErrOf result StoreError.Memory → tells ≡ true
+            → SameFiles (files self.old) (files self.new) }
         ensures cause { HasCause (count self.old) (count self.new) result };
 
     /// A file that is missing is removed already.
     fn remove(&mut self, name: &str) -> Result<(), StoreError>
         ensures removed { OnOk result (tells ≡ true → files self.new name.now ≡ None) }
-        ensures elsewhere { tells ≡ true → SameElsewhere name.now (files self.old) (files self.new) }
-        ensures memory { IsErrOf result StoreError.Memory → tells ≡ true → SameFiles (files self.old) (files self.new) }
+        ensures elsewhere { tells ≡ true
+            → SameElsewhere name.now (files self.old) (files self.new) }
+        ensures memory { IsErrOf result StoreError.Memory → tells ≡ true
+            → SameFiles (files self.old) (files self.new) }
         ensures cause { HasCause (count self.old) (count self.new) result };
 
     /// How often the device failed, modulo 2^64.

@@ -39,7 +39,8 @@ pub struct Vault<S: Store> {
     ghost replays: { replay no_tip (notes_of journal.items) ≡ tip_of tip } by { replays-prop _ _ },
     ghost rises: { Rises no_tip (notes_of journal.items) } by { Rises-prop _ _ },
     ghost free: { NamesFree (notes_of journal.items) },
-    ghost holds: { S.tells ≡ true → has_broken (notes_of journal.items) ≡ false → ∥ Holds (S.files store) (notes_of journal.items) (tip_of tip) ∥₁ },
+    ghost holds: { S.tells ≡ true → has_broken (notes_of journal.items) ≡ false
+        → ∥ Holds (S.files store) (notes_of journal.items) (tip_of tip) ∥₁ },
 }
 
 impl<S: Store> Vault<S> {
@@ -72,7 +73,8 @@ impl<S: Store> Vault<S> {
     /// What was accepted last. Where no write failed, the files of a store that tells them hold it.
     pub fn tip(&self) -> &Tip
         ensures tip { tip_of result.now ≡ tip_in self.now }
-        ensures holds { S.tells ≡ true → has_broken (notes_in self.now) ≡ false → ∥ Holds (files_in S.files self.now) (notes_in self.now) (tip_in self.now) ∥₁ }
+        ensures holds { S.tells ≡ true → has_broken (notes_in self.now) ≡ false
+            → ∥ Holds (files_in S.files self.now) (notes_in self.now) (tip_in self.now) ∥₁ }
     {
         &self.tip
     }
@@ -81,7 +83,8 @@ impl<S: Store> Vault<S> {
     /// `SystemTimeSteppedBackward` where the stored time, or the tip's, is later; `DatastoreSerialize` outside the years
     /// 0000 to 9999; `DatastoreCreate`.
     pub fn note_time(&mut self, now: Instant) -> Result<Receipt, StepError>
-        ensures { Takes S.tells S.files S.count (time_step (tip_in self.old) now.nanosecond) (parts_of self.old) (parts_of self.new) result }
+        ensures { Takes S.tells S.files S.count (time_step (tip_in self.old) now.nanosecond)
+            (parts_of self.old) (parts_of self.new) result }
     {
         let Vault {
             alloc,
@@ -96,7 +99,8 @@ impl<S: Store> Vault<S> {
     /// Stores a root as `root.json`. It refuses `DatastoreSerialize` where the root has no text, then
     /// `DatastoreCreate`.
     pub fn put_root(&mut self, root: &Signed<Root>) -> Result<Receipt, StepError>
-        ensures { Takes S.tells S.files S.count (root_step (signed_doc root_doc root.now)) (parts_of self.old) (parts_of self.new) result }
+        ensures { Takes S.tells S.files S.count (root_step (signed_doc root_doc root.now))
+            (parts_of self.old) (parts_of self.new) result }
     {
         let Vault {
             alloc,
@@ -137,7 +141,10 @@ impl<S: Store> Vault<S> {
         enforcement: ExpirationEnforcement,
         verifier: &V,
     ) -> Result<Receipt, StepError>
-        ensures { Takes S.tells S.files S.count (timestamp_step (V.verifies verifier.now) (root_doc root.now) (tip_in self.old) (signed_doc timestamp_doc new.now) start.nanosecond (enforces enforcement)) (parts_of self.old) (parts_of self.new) result }
+        ensures { Takes S.tells S.files S.count
+            (timestamp_step (V.verifies verifier.now) (root_doc root.now) (tip_in self.old)
+            (signed_doc timestamp_doc new.now) start.nanosecond (enforces enforcement))
+            (parts_of self.old) (parts_of self.new) result }
     {
         let Vault {
             alloc,
@@ -175,7 +182,10 @@ impl<S: Store> Vault<S> {
         enforcement: ExpirationEnforcement,
         verifier: &V,
     ) -> Result<Receipt, StepError>
-        ensures { Takes S.tells S.files S.count (snapshot_step (V.verifies verifier.now) (root_doc root.now) (tip_in self.old) listed (signed_doc snapshot_doc new.now) start.nanosecond (enforces enforcement)) (parts_of self.old) (parts_of self.new) result }
+        ensures { Takes S.tells S.files S.count
+            (snapshot_step (V.verifies verifier.now) (root_doc root.now) (tip_in self.old) listed
+            (signed_doc snapshot_doc new.now) start.nanosecond (enforces enforcement))
+            (parts_of self.old) (parts_of self.new) result }
     {
         let Vault {
             alloc,
@@ -204,7 +214,9 @@ impl<S: Store> Vault<S> {
         name: &DocumentName,
         role: &Signed<T>,
     ) -> Result<Receipt, StepError>
-        ensures { Takes S.tells S.files S.count (document_step (name_of name.now) (role_text T.json role.now)) (parts_of self.old) (parts_of self.new) result }
+        ensures { Takes S.tells S.files S.count
+            (document_step (name_of name.now) (role_text T.json role.now)) (parts_of self.old)
+            (parts_of self.new) result }
     {
         let Vault {
             alloc,

@@ -20,7 +20,8 @@ pub(crate) enum Step<'a> {
 
 /// The first character, and the text after it.
 pub(crate) fn split_first(text: &str) -> Option<(char, &str)>
-    ensures { MatchOption result (chars text.now ≡ []) (λ found. IsTail text.now found.1.now found.0) }
+    ensures { MatchOption result (chars text.now ≡ [])
+        (λ found. IsTail text.now found.1.now found.0) }
 {
     let mut rest = text.chars();
     let first = rest.next()?;

@@ -155,7 +155,8 @@ pub(crate) struct Reader {
 
 impl Reader {
     fn add(&mut self, item: Item, place: Place) -> Result<(), PatternError>
-        ensures ok { OnOk result (state_of self.new ≡ grammar.with_part (state_of self.old) (part_of item) place) }
+        ensures ok { OnOk result (state_of self.new
+            ≡ grammar.with_part (state_of self.old) (part_of item) place) }
         ensures err { IfErr result (λ e. e ≡ PatternError.Memory) }
     {
         self.items.push(item)?;
@@ -167,7 +168,8 @@ impl Reader {
 
     /// Ends the open class.
     fn close(&mut self, alloc: Global) -> Result<(), PatternError>
-        ensures ok { OnOk result (grammar.act (state_of self.old) Action.Close ≡ Some (state_of self.new)) }
+        ensures ok { OnOk result (grammar.act (state_of self.old) Action.Close
+            ≡ Some (state_of self.new)) }
         ensures err { IfErr result (λ e. e ≡ PatternError.Memory) }
     {
         let spans = mem::replace(&mut self.spans, Vec::new(alloc));
@@ -180,8 +182,11 @@ impl Reader {
     }
 
     fn act(&mut self, alloc: Global, action: Action) -> Result<(), PatternError>
-        ensures ok { OnOk result (grammar.act (state_of self.old) action ≡ Some (state_of self.new)) }
-        ensures err { IfErr result (λ e. e ≢ PatternError.Memory → (e ≡ PatternError.Glob) × (grammar.act (state_of self.old) action ≡ None)) }
+        ensures ok { OnOk result (grammar.act (state_of self.old) action
+            ≡ Some (state_of self.new)) }
+        ensures err { IfErr result
+            (λ e. e ≢ PatternError.Memory → (e ≡ PatternError.Glob)
+            × (grammar.act (state_of self.old) action ≡ None)) }
     {
         match action {
             Action::Refuse => Err(PatternError::Glob),
@@ -236,7 +241,8 @@ impl Reader {
 
     /// The items, where the text may end here.
     fn finish(self) -> Option<Vec<Item>>
-        ensures { option_map (λ items. parts_of items.items) result ≡ grammar.finish (state_of self) }
+        ensures { option_map (λ items. parts_of items.items) result
+            ≡ grammar.finish (state_of self) }
     {
         match self.place {
             Place::Outside | Place::AfterRun => Some(self.items),
@@ -247,8 +253,11 @@ impl Reader {
 
 /// The items that a text spells.
 pub(crate) fn read(alloc: Global, text: &str) -> Result<Vec<Item>, PatternError>
-    ensures ok { IfOk result (λ items. grammar.parts_in (chars text.now) ≡ Some (parts_of items.items)) }
-    ensures err { IfErr result (λ e. e ≢ PatternError.Memory → (e ≡ PatternError.Glob) × (grammar.parts_in (chars text.now) ≡ None)) }
+    ensures ok { IfOk result (λ items. grammar.parts_in (chars text.now)
+        ≡ Some (parts_of items.items)) }
+    ensures err { IfErr result
+        (λ e. e ≢ PatternError.Memory → (e ≡ PatternError.Glob)
+        × (grammar.parts_in (chars text.now) ≡ None)) }
 {
     let mut reader = Reader::new(alloc);
     let mut rest = text;

@@ -1,5 +1,4 @@
 use Rattle.std.proofs.Common.{◌≡◌, rules, refl, sym, ap, subst}
-use Rattle.tough_update.specs.Answered as got
 use Rattle.tough_update.specs.Questions as ask
 use Rattle.tough_update.specs.Machine.{question}
 use Rattle.tough_update.specs.View.{core_doc, request_doc, outcome_doc, answer_doc, act_of}
@@ -12,7 +11,7 @@ use Rattle.tough_load.proofs.load.Load.advance.Goals.{in-Moment, in-Fetch+in-Err
 pub returns-in-Ready-clause-done : goal.returns-in-Ready-clause-done
 returns-in-Ready-clause-done g c =
     by-outcome g.T.Transport.refuses g.T.Transport.serves g.K.Keeper.keeps g.T.Stream.Stream.yields g.V.Verify.verifies c.args.self.now _ refl refl refl refl
-    outcome_doc c.take_outcome.result refl c.requires.idle c.take_outcome.ensures.done c.take_outcome.ensures.taken
+    outcome_doc c.take_outcome.result refl c.requires.idle c.take_outcome.ensures.done c.take_outcome.ensures.taken c.take_outcome.ensures.counts
 
 pub returns-in-Ok-clause-goes : goal.returns-in-Ok-clause-goes
 returns-in-Ok-clause-goes g c = λ _.
@@ -26,17 +25,17 @@ returns-clause-goes g c = λ _.
       | in-Moment w ↦
           let asked : question (core_doc c.args.self.now.core) ≡ ask.Moment = search rules in
           rw w.self-is (by-answer g.T.Transport.refuses g.T.Transport.serves g.K.Keeper.keeps g.T.Stream.Stream.yields g.V.Verify.verifies c.args.self.now _ refl refl refl refl
-          (answer_doc c.match-ask.answer) c.requires.idle c.requires.idle (rw asked ((w.now.result.nanosecond, ap answer_doc w.answer-is), refl)) (rw w.self-is at c.answer.ensures.goes))
+          (answer_doc c.match-ask.answer) c.requires.idle c.requires.idle (rw asked ((w.now.result.nanosecond, ap answer_doc w.answer-is), refl)) (rw w.self-is at c.answer.ensures.goes) (rw w.self-is at c.answer.ensures.counted))
       | in-Fetch+in-Err w ↦
           let asked : question (core_doc c.args.self.now.core) ≡ ask.Fetch (request_doc w.in-Fetch.request.now) = search rules in
           rw w.self-is (by-answer g.T.Transport.refuses g.T.Transport.serves g.K.Keeper.keeps g.T.Stream.Stream.yields g.V.Verify.verifies c.args.self.now _ refl refl refl refl
           (answer_doc c.match-ask.answer) c.requires.idle c.requires.idle
           (rw asked (subst (λ a. Fetches g.T.Transport.refuses g.T.Transport.serves c.args.self.now.transport c.args.self.now.base (request_doc w.in-Fetch.request.now) a) (sym (ap answer_doc w.answer-is)) w.in-Err.ensures.refused, refl))
-          (rw w.self-is at c.answer.ensures.goes))
+          (rw w.self-is at c.answer.ensures.goes) (rw w.self-is at c.answer.ensures.counted))
       | in-Step w ↦
           let asked : question (core_doc c.args.self.now.core) ≡ ask.Step (act_of w.in-Step.act) = search rules in
           rw w.self-is (by-answer g.T.Transport.refuses g.T.Transport.serves g.K.Keeper.keeps g.T.Stream.Stream.yields g.V.Verify.verifies c.args.self.now _ refl refl refl refl
           (answer_doc c.match-ask.answer) c.requires.idle c.requires.idle
           (rw asked (subst (λ a. Steps g.K.Keeper.keeps (g.V.Verify.verifies c.args.self.now.verifier) (act_of w.in-Step.act) c.args.self.now.keeper a w.take_step-answer.new.keeper) (sym (ap answer_doc w.answer-is)) w.take_step-answer.ensures))
-          (rw w.self-is at c.answer.ensures.goes))
+          (rw w.self-is at c.answer.ensures.goes) (rw w.self-is at c.answer.ensures.counted))
     ]
