@@ -12,8 +12,7 @@ use tough::{
 /// in the folder `cached` there.
 pub fn run(rt: &HostRuntime, folder: &str) -> Result<(), Error> {
     let alloc = rt.alloc();
-    let root = format!(in alloc; "{folder}/root.json")?;
-    let root = fs::read(rt, root.as_str())?;
+    let root = fs::read(rt, format!(in alloc; "{folder}/root.json")?.as_str())?;
     let served = format!(in alloc; "file://{folder}/")?;
     let transport = FilesystemTransport::new(rt.clone()?);
     let mut vault = Vault::new(alloc, MemoryStore::new(alloc));

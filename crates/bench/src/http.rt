@@ -9,10 +9,10 @@ use std::net::Net;
 use std::random::RandomSource;
 use std::rt::Files;
 use std::sync::Wait;
-use std::time::{Clock, Instant};
+use std::time::{Clock, Duration, Instant};
 use tough::{
-    Bytes, Context, DefaultTransport, Future, LocalRuntime, Poll, Stream, Transport,
-    TransportError, Url,
+    Bytes, Context, DefaultTransport, Future, HttpTransportBuilder, LocalRuntime, Poll, Stream,
+    Transport, TransportError, Url,
 };
 
 // The pieces that one poll takes, before it lets timers and other sockets have their turn.
@@ -67,14 +67,17 @@ where
     }
 }
 
-/// Fetches the body at a URL and keeps none of it, and prints its length and how long that took.
+/// Fetches the body at a URL and keeps none of it, and prints its length and how long that took. No pause stands before the request, as one
+/// does by default.
 pub fn run<R>(rt: &R, url: &str) -> Result<(), Error>
 where
     R: Files + Net + Wait + Clock + RandomSource + AllocGlobal + Print + Clone + Drop,
 {
     let url = Url::parse(rt.alloc(), url)?;
     let mut runtime = LocalRuntime::new(rt)?;
-    let transport = DefaultTransport::new(rt.clone()?, runtime.handle().clone()?)?;
+    let settings = HttpTransportBuilder::new().initial_backoff(Duration::ZERO);
+    let handle = runtime.handle().clone()?;
+    let transport = DefaultTransport::new_with_http_settings(rt.clone()?, handle, settings)?;
     let began = Instant::now(rt)?;
     let length = length_by(rt, &mut runtime, transport, &url)?;
     let millis = began.elapsed(rt)?.as_millis();

@@ -6,7 +6,7 @@ use bytes::Bytes;
 use jiff::Timestamp;
 use std::alloc::Global;
 use std::time::Instant;
-use tough::schema::{DemoVerify, Root, Signed, Targets};
+use tough::schema::{DemoVerify, Role, Root, Signed, Targets};
 use tough::{
     DirStore, DocumentName, Files, FilesystemTransport, FixedClock, Keeper, MemoryStore,
     MemoryTransport, OsFiles, Repository, RepositoryLoader, Transport, Vault, drive,
@@ -47,28 +47,61 @@ pub fn print(rt: &HostRuntime, done: &str, began: Instant) -> Result<(), Error> 
     Ok(())
 }
 
+// A document, and how long it took to read.
+fn read<T: Role + Drop>(rt: &HostRuntime, bytes: &[u8]) -> Result<Signed<T>, Error> {
+    let began = Instant::now(rt)?;
+    match Signed::<T>::read(rt.alloc(), bytes) {
+        Ok(document) => {
+            print(rt, "read", began)?;
+            Ok(document)
+        }
+        Err(_) => Err(Error::msg("a document isn't read")),
+    }
+}
+
+// Stores targets.
+fn store(rt: &HostRuntime, targets: &Signed<Targets>) -> Result<(), Error> {
+    let name = DocumentName::targets(rt.alloc())?;
+    let began = Instant::now(rt)?;
+    let mut vault = Vault::new(rt.alloc(), MemoryStore::new(rt.alloc()));
+    let is_stored = vault.put_document(&name, targets).is_ok();
+    drop(vault);
+    if is_stored {
+        print(rt, "stored", began)
+    } else {
+        Err(Error::msg("the targets aren't stored"))
+    }
+}
+
+// Verifies targets, and stores them.
+fn verify_and_store(rt: &HostRuntime, root: &Root, targets: &Signed<Targets>) -> Result<(), Error> {
+    let began = Instant::now(rt)?;
+    root.verify_role(rt.alloc(), targets, &DemoVerify)?;
+    print(rt, "verified", began)?;
+    store(rt, targets)
+}
+
 // Reads a targets document, verifies it and stores it.
 fn parts(rt: &HostRuntime, root: &[u8], document: &[u8]) -> Result<(), Error> {
-    let alloc = rt.alloc();
-    let Ok(root) = Signed::<Root>::read(alloc, root) else {
-        return Err(Error::msg("the root isn't read"));
-    };
-    println!(rt; "a targets document of {} bytes", document.len())?;
-    let began = Instant::now(rt)?;
-    let Ok(targets) = Signed::<Targets>::read(alloc, document) else {
-        return Err(Error::msg("the targets aren't read"));
-    };
-    print(rt, "read", began)?;
-    let began = Instant::now(rt)?;
-    root.signed.verify_role(alloc, &targets, &DemoVerify)?;
-    print(rt, "verified", began)?;
-    let mut vault = Vault::new(alloc, MemoryStore::new(alloc));
-    let name = DocumentName::targets(alloc)?;
-    let began = Instant::now(rt)?;
-    if vault.put_document(&name, &targets).is_err() {
-        return Err(Error::msg("the targets aren't stored"));
+    println!(rt;
+        "a root of {} bytes, a targets document of {}",
+        root.len(),
+        document.len()
+    )?;
+    let root = read::<Root>(rt, root)?;
+    let targets = read::<Targets>(rt, document)?;
+    verify_and_store(rt, &root.signed, &targets)
+}
+
+// The files, served in memory.
+fn served(alloc: Global, metadata: &[RepositoryFile]) -> Result<MemoryTransport, Error> {
+    let mut transport = MemoryTransport::in_pieces(alloc, PIECE_LEN);
+    for file in metadata {
+        let url = format!(in alloc; "{SERVED}{}", file.path)?;
+        let bytes = Bytes::copy_from_slice(alloc, file.bytes.as_slice())?;
+        transport.insert(url.as_str(), bytes)?;
     }
-    print(rt, "stored", began)
+    Ok(transport)
 }
 
 /// Loads the repository over memory.
@@ -77,19 +110,34 @@ pub fn over_memory(
     root: &[u8],
     metadata: &[RepositoryFile],
 ) -> Result<(), Error> {
-    let alloc = rt.alloc();
-    let mut transport = MemoryTransport::in_pieces(alloc, PIECE_LEN);
-    for file in metadata {
-        let url = format!(in alloc; "{SERVED}{}", file.path)?;
-        transport.insert(
-            url.as_str(),
-            Bytes::copy_from_slice(alloc, file.bytes.as_slice())?,
-        )?;
+    let transport = served(rt.alloc(), metadata)?;
+    let mut vault = Vault::new(rt.alloc(), MemoryStore::new(rt.alloc()));
+    measure(
+        rt,
+        root,
+        SERVED,
+        transport,
+        &mut vault,
+        "loaded over memory",
+    )
+}
+
+// Makes the files and the folder of the store.
+fn put<F: Files>(
+    alloc: Global,
+    files: &mut F,
+    metadata: &[RepositoryFile],
+    folder: &str,
+) -> Result<(), Error> {
+    for name in ["metadata", "store"] {
+        files.make_folders(format!(in alloc; "{folder}/{name}")?.as_str())?;
     }
-    let mut vault = Vault::new(alloc, MemoryStore::new(alloc));
-    let began = Instant::now(rt)?;
-    load(rt, root, SERVED, transport, &mut vault)?;
-    print(rt, "loaded over memory", began)
+    for file in metadata {
+        let path = format!(in alloc; "{folder}/{}", file.path)?;
+        files.create(path.as_str())?;
+        files.append(path.as_str(), file.bytes.as_slice())?;
+    }
+    Ok(())
 }
 
 /// Loads the repository over files in the folder.
@@ -100,23 +148,33 @@ pub fn over_files(
     folder: &str,
 ) -> Result<(), Error> {
     let alloc = rt.alloc();
-    let mut files = OsFiles::new(rt.clone()?);
-    for name in ["metadata", "store"] {
-        let path = format!(in alloc; "{folder}/{name}")?;
-        files.make_folders(path.as_str())?;
-    }
-    for file in metadata {
-        let path = format!(in alloc; "{folder}/{}", file.path)?;
-        files.create(path.as_str())?;
-        files.append(path.as_str(), file.bytes.as_slice())?;
-    }
+    put(alloc, &mut OsFiles::new(rt.clone()?), metadata, folder)?;
     let store = format!(in alloc; "{folder}/store")?;
-    let mut vault = Vault::new(alloc, DirStore::new(rt.clone()?, store));
     let served = format!(in alloc; "file://{folder}/")?;
     let transport = FilesystemTransport::new(rt.clone()?);
+    let mut vault = Vault::new(alloc, DirStore::new(rt.clone()?, store));
+    measure(
+        rt,
+        root,
+        served.as_str(),
+        transport,
+        &mut vault,
+        "loaded over files",
+    )
+}
+
+// Loads the repository that is served below this URL, and prints what was done and how long it took.
+fn measure<T: Transport, K: Keeper>(
+    rt: &HostRuntime,
+    root: &[u8],
+    served: &str,
+    transport: T,
+    keeper: K,
+    done: &str,
+) -> Result<(), Error> {
     let began = Instant::now(rt)?;
-    load(rt, root, served.as_str(), transport, &mut vault)?;
-    print(rt, "loaded over files", began)
+    drop(load(rt, root, served, transport, keeper)?);
+    print(rt, done, began)
 }
 
 /// Loads the repository that is served below this URL.
@@ -128,17 +186,12 @@ pub fn load<T: Transport, K: Keeper>(
     keeper: K,
 ) -> Result<Repository<T, K, FixedClock>, Error> {
     let alloc = rt.alloc();
-    let metadata = format!(in alloc; "{served}metadata/")?;
-    let targets = format!(in alloc; "{served}targets/")?;
-    let loader = RepositoryLoader::new(
-        alloc,
-        root,
-        Url::parse(alloc, metadata.as_str())?,
-        Url::parse(alloc, targets.as_str())?,
-    )
-    .transport(transport)
-    .verifier(DemoVerify)
-    .clock(FixedClock(Timestamp::UNIX_EPOCH))
-    .keeper(keeper);
+    let metadata = Url::parse(alloc, format!(in alloc; "{served}metadata/")?.as_str())?;
+    let targets = Url::parse(alloc, format!(in alloc; "{served}targets/")?.as_str())?;
+    let loader = RepositoryLoader::new(alloc, root, metadata, targets)
+        .transport(transport)
+        .verifier(DemoVerify)
+        .clock(FixedClock(Timestamp::UNIX_EPOCH))
+        .keeper(keeper);
     Ok(drive(rt, loader.load()?)??)
 }

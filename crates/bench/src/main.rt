@@ -14,47 +14,61 @@ mod verify;
 use anyhow::Error;
 use std::env;
 
-const USAGE: &str =
-    "usage: bench canonical [MEGABYTES] | verify [THOUSANDS] | load [TARGETS [FOLDER]] | match [CHARACTERS] | search [ROLES] | chain TARGETS ROLES [FOLDER] | fan TARGETS ROLES [FOLDER] | http URL | cache FOLDER";
+const USAGE: &str = "\
+    usage: bench canonical [MEGABYTES] | verify [THOUSANDS] | match [CHARACTERS] | \
+    search [ROLES] | load [TARGETS [FOLDER]] | chain TARGETS ROLES [FOLDER] | \
+    fan TARGETS ROLES [FOLDER] | http URL | cache FOLDER";
+
+// The word at a place, if there is one.
+fn word(words: &[String], place: usize) -> Option<&str> {
+    words.get(place).map(String::as_str)
+}
+
+// The number that stands at a place, or 12 where none does.
+fn number(words: &[String], place: usize) -> Result<u32, Error> {
+    match word(words, place) {
+        Some(word) => Ok(word.parse()?),
+        None => Ok(12),
+    }
+}
+
+// Measures trees of as many targets and roles as the words say.
+fn trees(rt: &HostRuntime, is_chain: bool, words: &[String]) -> Result<(), Error> {
+    let (targets, roles) = (number(words, 1)?, number(words, 2)?);
+    tree::run(
+        rt,
+        is_chain,
+        targets as usize,
+        roles as usize,
+        word(words, 3),
+    )
+}
+
+// Measures what the first word names.
+fn measure(rt: &HostRuntime, words: &[String]) -> Result<(), Error> {
+    match word(words, 0).unwrap_or("") {
+        "canonical" => canonical::run(rt, number(words, 1)?),
+        "verify" => verify::run(rt, number(words, 1)?),
+        "match" => matching::run(rt, number(words, 1)?),
+        "search" => search::run(rt, number(words, 1)?),
+        "load" => load::run(rt, number(words, 1)?, word(words, 2)),
+        "chain" => trees(rt, true, words),
+        "fan" => trees(rt, false, words),
+        "cache" => cache::run(rt, word(words, 1).unwrap_or("")),
+        _ => {
+            println!(rt; "{USAGE}")?;
+            Ok(())
+        }
+    }
+}
 
 fn main(rt: HostRuntime) -> Result<(), Error> {
-    let mut words = env::args(&rt)?.skip(1);
-    let Some(name) = words.next() else {
-        println!(rt; "{USAGE}")?;
-        return Ok(());
-    };
-    let first = words.next();
-    if name.as_str() == "http" {
-        return http::run(&rt, first.as_deref().unwrap_or(""));
+    let mut words = Vec::new(rt.alloc());
+    for word in env::args(&rt)?.skip(1) {
+        words.push(word)?;
     }
-    if name.as_str() == "cache" {
-        return cache::run(&rt, first.as_deref().unwrap_or(""));
+    match (word(words.as_slice(), 0), word(words.as_slice(), 1)) {
+        (Some("http"), Some(url)) => http::run(&rt, url),
+        _ => measure(&rt, words.as_slice()),
     }
-    let size: u32 = match first {
-        Some(word) => word.parse()?,
-        None => 12,
-    };
-    match name.as_str() {
-        "canonical" => canonical::run(&rt, size)?,
-        "verify" => verify::run(&rt, size)?,
-        "match" => matching::run(&rt, size)?,
-        "search" => search::run(&rt, size)?,
-        "chain" | "fan" => {
-            let roles = match words.next() {
-                Some(word) => word.parse()?,
-                None => 12,
-            };
-            let folder = words.next();
-            tree::run(
-                &rt,
-                name.as_str() == "chain",
-                size as usize,
-                roles,
-                folder.as_deref(),
-            )?
-        }
-        "load" => load::run(&rt, size, words.next().as_deref())?,
-        _ => println!(rt; "{USAGE}")?,
-    }
-    Ok(())
 }

@@ -2,34 +2,61 @@
 
 use crate::load::{over_files, over_memory};
 use anyhow::Error;
+use std::alloc::Global;
+use tough_demo::{RepositoryFile, RepositoryFiles, RolePlan};
+
+// The roles of a chain, or those of a fan.
+fn plan(alloc: Global, is_chain: bool, roles: usize, each: usize) -> Result<Vec<RolePlan>, Error> {
+    if is_chain {
+        Ok(tough_demo::chain(alloc, roles, each)?)
+    } else {
+        Ok(tough_demo::fan(alloc, roles, each)?)
+    }
+}
+
+// The files of the metadata.
+fn metadata_of(alloc: Global, files: Vec<RepositoryFile>) -> Result<Vec<RepositoryFile>, Error> {
+    let mut metadata = Vec::new(alloc);
+    for file in files {
+        if file.path.starts_with("metadata/") {
+            metadata.push(file)?;
+        }
+    }
+    Ok(metadata)
+}
+
+// Loads the repository over memory and, where a folder is given, over files in that folder.
+fn measure(
+    rt: &HostRuntime,
+    root: &[u8],
+    metadata: &[RepositoryFile],
+    folder: Option<&str>,
+) -> Result<(), Error> {
+    over_memory(rt, root, metadata)?;
+    match folder {
+        Some(folder) => over_files(rt, root, metadata, folder),
+        None => Ok(()),
+    }
+}
 
 /// Prints how long it takes to load a repository of so many targets over so many delegated roles, in a chain or in a fan, over memory
 /// and, where a folder is given, over files in that folder.
 pub fn run(
     rt: &HostRuntime,
-    chain: bool,
+    is_chain: bool,
     targets: usize,
     roles: usize,
     folder: Option<&str>,
 ) -> Result<(), Error> {
-    let alloc = rt.alloc();
     let each = targets.checked_div(roles).unwrap_or(0);
-    let plan = if chain {
-        tough_demo::chain(alloc, roles, each)?
-    } else {
-        tough_demo::fan(alloc, roles, each)?
-    };
-    let made = tough_demo::delegated_repository(alloc, 0, &plan, true)?;
-    let mut metadata = Vec::new(alloc);
-    for file in made.files {
-        if file.path.starts_with("metadata/") {
-            metadata.push(file)?;
-        }
-    }
     println!(rt; "{roles} roles with {each} targets each")?;
-    over_memory(rt, made.root.as_slice(), metadata.as_slice())?;
-    if let Some(folder) = folder {
-        over_files(rt, made.root.as_slice(), metadata.as_slice(), folder)?;
-    }
-    Ok(())
+    let plan = plan(rt.alloc(), is_chain, roles, each)?;
+    let RepositoryFiles { root, files } = tough_demo::delegated_repository(
+        rt.alloc(),
+        0,
+        &plan,
+        true,
+    )?;
+    let metadata = metadata_of(rt.alloc(), files)?;
+    measure(rt, root.as_slice(), metadata.as_slice(), folder)
 }

@@ -1,5 +1,6 @@
 //! Errors with members that stay the same, as a user reads them.
 
+use crate::outcome::shown;
 use anyhow::{Result, anyhow};
 use serde_json::Value;
 use std::alloc::Global;
@@ -114,13 +115,13 @@ fn of_causes(alloc: Global, name: &str) -> Result<Option<Error>> {
 pub(crate) fn told(alloc: Global, case: &Value) -> Result<String> {
     let name = text(case, "name");
     if let Some(error) = of_numbers(name) {
-        return Ok(format!(in alloc; "{error}")?);
+        return Ok(shown(alloc, error)?);
     }
     if let Some(error) = of_names(alloc, name)? {
-        return Ok(format!(in alloc; "{error}")?);
+        return Ok(shown(alloc, error)?);
     }
     match of_causes(alloc, name)? {
-        Some(error) => Ok(format!(in alloc; "{error}")?),
+        Some(error) => Ok(shown(alloc, error)?),
         None => Err(anyhow!("no error {name}")),
     }
 }
@@ -173,10 +174,10 @@ fn of_paths(alloc: Global, name: &str) -> Result<Option<schema::Error>> {
 pub(crate) fn told_of_schema(alloc: Global, case: &Value) -> Result<String> {
     let name = text(case, "name");
     if let Some(error) = of_schema(alloc, name)? {
-        return Ok(format!(in alloc; "{error}")?);
+        return Ok(shown(alloc, error)?);
     }
     match of_paths(alloc, name)? {
-        Some(error) => Ok(format!(in alloc; "{error}")?),
+        Some(error) => Ok(shown(alloc, error)?),
         None => Err(anyhow!("no error {name}")),
     }
 }

@@ -1,16 +1,16 @@
 //! Loads of whole repositories over memory.
 
 use crate::outcome::tell;
-use crate::shelf::Shelf;
 use bytes::Bytes;
 use serde_json::Value;
 use std::alloc::Global;
 use tough::schema::DemoVerify;
 use tough::{
-    Error, ExpirationEnforcement, FixedClock, Limits, Loaded, MemoryTransport, RepositoryLoader,
-    TargetName, Vault, drive,
+    Error, FixedClock, Limits, Loaded, MemoryTransport, RepositoryLoader, TargetName, Vault, drive,
 };
-use trials_values::case::{flag, list, number, text, text_of_either};
+use trials_devices::shelf::Shelf;
+use trials_devices::vault::enforcement;
+use trials_values::case::{flag, list, number, text_of_either};
 use url::Url;
 
 // Adds the files of an object, below the base URL.
@@ -23,6 +23,14 @@ fn serve(alloc: Global, object: &Value, transport: &mut MemoryTransport) -> anyh
         }
     }
     Ok(())
+}
+
+// The files of the case, and those of one load.
+fn served(alloc: Global, case: &Value, load: &Value) -> anyhow::Result<MemoryTransport> {
+    let mut transport = MemoryTransport::in_pieces(alloc, 100);
+    serve(alloc, case, &mut transport)?;
+    serve(alloc, load, &mut transport)?;
+    Ok(transport)
 }
 
 /// The default limits, but for those that the case states.
@@ -40,15 +48,6 @@ pub(crate) fn limits(case: &Value) -> Limits {
     limits
 }
 
-/// Whether what has expired is refused.
-pub(crate) fn enforcement(case: &Value) -> ExpirationEnforcement {
-    if flag(case, "unsafe") {
-        ExpirationEnforcement::Unsafe
-    } else {
-        ExpirationEnforcement::Safe
-    }
-}
-
 // Loads the repository that is served, on the vault.
 fn run(
     rt: &HostRuntime,
@@ -57,21 +56,18 @@ fn run(
     vault: &mut Vault<Shelf>,
 ) -> anyhow::Result<Result<Loaded, Error>> {
     let alloc = rt.alloc();
-    let mut transport = MemoryTransport::in_pieces(alloc, 100);
-    serve(alloc, case, &mut transport)?;
-    serve(alloc, load, &mut transport)?;
-    let loader = RepositoryLoader::new(
-        alloc,
-        text_of_either(load, case, "root").as_bytes(),
-        Url::parse(alloc, text_of_either(load, case, "base"))?,
-        Url::parse(alloc, "http://h/t/")?,
-    )
-    .transport(transport)
-    .verifier(DemoVerify)
-    .clock(FixedClock(text_of_either(load, case, "now").parse()?))
-    .keeper(vault)
-    .limits(limits(load))
-    .expiration_enforcement(enforcement(load));
+    let now = text_of_either(load, case, "now").parse()?;
+    let metadata = Url::parse(alloc, text_of_either(load, case, "base"))?;
+    let targets = Url::parse(alloc, "http://h/t/")?;
+    let transport = served(alloc, case, load)?;
+    let trusted = text_of_either(load, case, "root").as_bytes();
+    let loader = RepositoryLoader::new(alloc, trusted, metadata, targets)
+        .transport(transport)
+        .verifier(DemoVerify)
+        .clock(FixedClock(now))
+        .keeper(vault)
+        .limits(limits(load))
+        .expiration_enforcement(enforcement(load));
     match drive(rt, loader.load()?)? {
         Ok(repository) => Ok(Ok(repository.into_parts().documents)),
         Err(error) => Ok(Err(error)),

@@ -6,22 +6,14 @@
 #![tactic(auto)]
 
 mod errors;
-mod files;
-mod folder;
 mod http;
-mod judge;
 mod load;
 mod outcome;
 mod program;
-mod retries;
 mod saves;
-mod shelf;
-mod streams;
 mod update;
-mod vault;
 
-use crate::judge::misses;
-use anyhow::Result;
+use anyhow::{Result, anyhow};
 use serde_json::Value;
 use std::alloc::AllocGlobal;
 use std::net::Net;
@@ -31,25 +23,20 @@ use std::sync::Wait;
 use std::thread::Threads;
 use std::{env, fs};
 use trials_values::case::text;
+use trials_values::judge::misses;
 
-// What a call on streams, stores or updates answers.
-fn of_devices(rt: &HostRuntime, call: &str, case: &Value) -> Result<String> {
+// What a call on updates or errors answers.
+fn of_updates(rt: &HostRuntime, call: &str, case: &Value) -> Result<String> {
     match call {
         "load" => load::loads(rt, case),
         "update" => update::play(rt.alloc(), case),
         "update over files" => update::serve(rt.alloc(), case),
         "Core::counts" => update::counts(rt.alloc(), case),
         "Limits::default" => update::limits_by_default(rt.alloc()),
-        "vault" => vault::steps(rt.alloc(), case),
-        "DirStore" => folder::play(rt, case),
-        "SystemClock::now" => folder::clock(rt, case),
         "save_target" | "cache" | "cache_metadata" => saves::play(rt, case),
-        "RetryCore" => retries::play(rt.alloc(), case),
         "Error" => errors::told(rt.alloc(), case),
         "schema::Error" => errors::told_of_schema(rt.alloc(), case),
-        "TransportError" => streams::made(rt.alloc(), case),
-        "FilesystemTransport" => streams::fetch_file(rt, case),
-        _ => streams::fetch(rt, call, case),
+        _ => Err(anyhow!("no call {call}")),
     }
 }
 
@@ -68,10 +55,10 @@ where
     if let Some(told) = trials_documents::answer(alloc, call, case)? {
         return Ok(told);
     }
-    if let Some(told) = files::answer(rt, call, case)? {
+    if let Some(told) = trials_devices::answer(rt, call, case)? {
         return Ok(told);
     }
-    of_devices(rt, call, case)
+    of_updates(rt, call, case)
 }
 
 // Answers a case, and tells whether that is what is wanted.

@@ -1,8 +1,14 @@
 //! What a load came to, as text: the versions of what was loaded, or the refusal's name with its numbers.
 
 use std::alloc::{AllocError, Global};
+use std::fmt::Display;
 use tough::schema::{self, Targets};
 use tough::{Cause, Error, Loaded, TransportError};
+
+/// A value as a user reads it.
+pub(crate) fn shown<T: Display + Drop>(alloc: Global, value: T) -> Result<String, AllocError> {
+    format!(in alloc; "{value}")
+}
 
 /// What a load came to.
 pub(crate) fn tell(alloc: Global, outcome: &Result<Loaded, Error>) -> Result<String, AllocError> {

@@ -1,7 +1,6 @@
 //! Runs of the program over files in a folder of its own, which the case calls `DIR`.
 
 use crate::http::run_beside_server;
-use crate::shelf::held;
 use anyhow::Result;
 use serde_json::Value;
 use std::alloc::AllocGlobal;
@@ -11,6 +10,7 @@ use std::rt::{Clock, Files};
 use std::sync::Wait;
 use std::thread::Threads;
 use std::{env, fs, process};
+use trials_devices::shelf::held;
 use trials_values::case::{list, number, text};
 
 // Writes a file: the text of the step, or as many blanks as it says.

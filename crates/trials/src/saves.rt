@@ -1,6 +1,6 @@
 //! Targets that are saved, and repositories that are cached, over files in memory.
 
-use crate::load::{enforcement, limits};
+use crate::load::limits;
 use crate::outcome::told;
 use anyhow::Result;
 use bytes::Bytes;
@@ -12,6 +12,7 @@ use tough::{
     Clock, Error, Files, FixedClock, Keeper, MemoryFiles, MemoryStore, MemoryTransport, Prefix,
     Repository, RepositoryLoader, TargetName, Transport, Vault, drive, finish,
 };
+use trials_devices::vault::enforcement;
 use trials_values::case::{flag, list, number, text};
 use url::Url;
 
@@ -184,19 +185,17 @@ fn served(alloc: Global, case: &Value) -> Result<MemoryTransport> {
 /// Loads the repository of the case, saves a target of it or caches it, and tells what that came to, and which calls the files were given.
 pub(crate) fn play(rt: &HostRuntime, case: &Value) -> Result<String> {
     let alloc = rt.alloc();
+    let now = text(case, "now").parse()?;
+    let metadata = Url::parse(alloc, "http://h/metadata/")?;
+    let targets = Url::parse(alloc, "http://h/targets")?;
     let transport = served(alloc, case)?;
     let mut vault = Vault::new(alloc, MemoryStore::new(alloc));
-    let loader = RepositoryLoader::new(
-        alloc,
-        text(case, "root").as_bytes(),
-        Url::parse(alloc, "http://h/metadata/")?,
-        Url::parse(alloc, "http://h/targets")?,
-    )
-    .transport(transport)
-    .verifier(DemoVerify)
-    .clock(FixedClock(text(case, "now").parse()?))
-    .keeper(&mut vault)
-    .limits(limits(case))
-    .expiration_enforcement(enforcement(case));
+    let loader = RepositoryLoader::new(alloc, text(case, "root").as_bytes(), metadata, targets)
+        .transport(transport)
+        .verifier(DemoVerify)
+        .clock(FixedClock(now))
+        .keeper(&mut vault)
+        .limits(limits(case))
+        .expiration_enforcement(enforcement(case));
     tell(rt, case, drive(rt, loader.load()?)??)
 }

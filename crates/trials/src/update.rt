@@ -1,6 +1,6 @@
 //! Updates as a machine: what each asks, and what an answer makes of it.
 
-use crate::load::{enforcement, limits};
+use crate::load::limits;
 use crate::outcome::tell;
 use anyhow::Result;
 use jiff::Timestamp as Instant;
@@ -8,8 +8,10 @@ use serde_json::Value;
 use std::alloc::{AllocError, Global};
 use tough::schema::DemoVerify;
 use tough::{
-    Act, Answer, Ask, Core, Error, Fault, Limits, StepError, TransportError, TransportErrorKind,
+    Act, Answer, Ask, Core, Counts, Error, Fault, Limits, StepError, TransportError,
+    TransportErrorKind,
 };
+use trials_devices::vault::enforcement;
 use trials_values::case::{list, text};
 
 // A step on the store.
@@ -88,16 +90,32 @@ fn give(alloc: Global, core: &mut Core, given: &Value) -> Result<String> {
     Ok(format!(in alloc; "\n  {kind}: {}", asked(alloc, core)?)?)
 }
 
+// An update by the root of the case.
+fn begin(alloc: Global, case: &Value) -> Result<Core, AllocError> {
+    let trusted = Vec::from_slice(alloc, text(case, "trusted").as_bytes())?;
+    Ok(Core::new(trusted, limits(case), enforcement(case)))
+}
+
+// Gives the update the answers of the case, and tells what it asks at first and after each.
+fn over_answers(alloc: Global, core: &mut Core, case: &Value) -> Result<String> {
+    let mut told = asked(alloc, core)?;
+    for given in list(case, "answers") {
+        told.push_str(give(alloc, core, given)?.as_str())?;
+    }
+    Ok(told)
+}
+
+// What was told, and below it how the update ended.
+fn with_end(alloc: Global, told: Result<String>, core: Core) -> Result<String> {
+    let end = ended(alloc, core);
+    Ok(format!(in alloc; "{}\n  {}", told?, end?)?)
+}
+
 /// Plays an update: tells what it asks at first and after each answer of the case, and how it ended.
 pub(crate) fn play(alloc: Global, case: &Value) -> Result<String> {
-    let trusted = Vec::from_slice(alloc, text(case, "trusted").as_bytes())?;
-    let mut core = Core::new(trusted, limits(case), enforcement(case));
-    let mut told = asked(alloc, &core)?;
-    for given in list(case, "answers") {
-        told.push_str(give(alloc, &mut core, given)?.as_str())?;
-    }
-    told.push_str(format!(in alloc; "\n  {}", ended(alloc, core)?)?.as_str())?;
-    Ok(told)
+    let mut core = begin(alloc, case)?;
+    let told = over_answers(alloc, &mut core, case);
+    with_end(alloc, told, core)
 }
 
 // What the files of the case, a clock and a store that takes all answer, where something is asked.
@@ -121,36 +139,42 @@ fn served(alloc: Global, core: &Core, case: &Value) -> Result<Option<Answer>> {
     })
 }
 
-// Plays an update over the case's files, by a thousand answers at most, and tells what it asks in turn.
-fn over_files(alloc: Global, case: &Value, told: &mut String) -> Result<Core> {
-    let trusted = Vec::from_slice(alloc, text(case, "trusted").as_bytes())?;
-    let mut core = Core::new(trusted, limits(case), enforcement(case));
+// Answers the update by the case's files, a thousand times at most, and tells what it asks in turn.
+fn over_files(alloc: Global, core: &mut Core, case: &Value) -> Result<String> {
+    let mut told = String::new(alloc);
     for _ in 0..1000 {
-        told.push_str(format!(in alloc; "\n  {}", asked(alloc, &core)?)?.as_str())?;
-        let Some(answer) = served(alloc, &core, case)? else {
+        told.push_str(format!(in alloc; "\n  {}", asked(alloc, core)?)?.as_str())?;
+        let Some(answer) = served(alloc, core, case)? else {
             break;
         };
         core.answer(alloc, &DemoVerify, answer);
     }
-    Ok(core)
+    Ok(told)
 }
 
 /// Plays an update over the case's files: tells what it asks in turn, and how it ended.
 pub(crate) fn serve(alloc: Global, case: &Value) -> Result<String> {
-    let mut told = String::new(alloc);
-    let core = over_files(alloc, case, &mut told)?;
-    told.push_str(format!(in alloc; "\n  {}", ended(alloc, core)?)?.as_str())?;
-    Ok(told)
+    let mut core = begin(alloc, case)?;
+    let told = over_files(alloc, &mut core, case);
+    with_end(alloc, told, core)
+}
+
+// What an update has counted.
+fn counted(alloc: Global, counts: Counts) -> Result<String, AllocError> {
+    format!(in alloc;
+        "roots {}, delegated {}, kept {}, entries {}",
+        counts.roots, counts.delegated, counts.kept, counts.entries
+    )
 }
 
 /// What an update over the case's files has counted at its end.
 pub(crate) fn counts(alloc: Global, case: &Value) -> Result<String> {
-    let mut told = String::new(alloc);
-    let counts = over_files(alloc, case, &mut told)?.counts();
-    Ok(format!(in alloc;
-        "roots {}, delegated {}, kept {}, entries {}",
-        counts.roots, counts.delegated, counts.kept, counts.entries
-    )?)
+    let mut core = begin(alloc, case)?;
+    let told = over_files(alloc, &mut core, case);
+    let counts = core.counts();
+    drop(core);
+    told?;
+    Ok(counted(alloc, counts)?)
 }
 
 /// The limits that a load has where none are set.

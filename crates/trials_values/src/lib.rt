@@ -5,6 +5,7 @@ pub mod case;
 mod compare;
 mod decoded;
 mod json;
+pub mod judge;
 mod keys;
 mod names;
 mod patterns;

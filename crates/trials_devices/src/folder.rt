@@ -1,60 +1,55 @@
 //! A store over a folder, and the clock of the system.
 
+use crate::told::came_to;
 use anyhow::{Result, anyhow};
 use jiff::Timestamp;
 use serde_json::Value;
+use std::alloc::Global;
+use std::fmt::Debug;
 use std::{env, fs, process, str};
-use tough::{Clock, DirStore, Store, StoreError, SystemClock, Vault};
+use tough_vault::{Clock, DirStore, Receipt, StepError, Store, SystemClock, Vault};
 use trials_values::case::{list, text};
 
 // A store over a folder.
 type Folder = DirStore<HostRuntime>;
 
 // What reading a file came to.
-fn read(rt: &HostRuntime, store: &mut Folder, name: &str) -> Result<String> {
-    let alloc = rt.alloc();
-    Ok(match store.read(alloc, name) {
+fn held<E: Debug + Drop>(alloc: Global, read: &Result<Option<Vec<u8>>, E>) -> Result<String> {
+    Ok(match read {
         Ok(Some(bytes)) => String::from_str(alloc, str::from_utf8(bytes.as_slice())?)?,
         Ok(None) => String::from_str(alloc, "nothing")?,
         Err(error) => format!(in alloc; "{error:?}")?,
     })
 }
 
-// What a change came to.
-fn changed(rt: &HostRuntime, outcome: Result<(), StoreError>) -> Result<String> {
-    Ok(match outcome {
-        Ok(()) => String::from_str(rt.alloc(), "done")?,
-        Err(error) => format!(in rt.alloc(); "{error:?}")?,
-    })
-}
-
 // What a call on the store came to, and how often the device failed.
-fn call(rt: &HostRuntime, store: &mut Folder, step: &Value) -> Result<String> {
+fn call(alloc: Global, store: &mut Folder, step: &Value) -> Result<String> {
     let name = text(step, "name");
     let told = match text(step, "step") {
-        "write" => {
-            let outcome = store.write(name, text(step, "text").as_bytes());
-            changed(rt, outcome)?
-        }
-        "remove" => {
-            let outcome = store.remove(name);
-            changed(rt, outcome)?
-        }
-        _ => read(rt, store, name)?,
+        "write" => came_to(
+            alloc,
+            "done",
+            store.write(name, text(step, "text").as_bytes()),
+        )?,
+        "remove" => came_to(alloc, "done", store.remove(name))?,
+        _ => held(alloc, &store.read(alloc, name))?,
     };
-    Ok(format!(in rt.alloc(); "{told} {}", store.failures())?)
+    Ok(format!(in alloc; "{told} {}", store.failures())?)
 }
 
-// Notes a moment in a vault over the folder, as a process of its own does.
+// Notes a moment in a vault over the store, as a process of its own does.
+fn note_in(alloc: Global, store: Folder, now: Timestamp) -> Result<Receipt, StepError> {
+    let mut vault = Vault::new(alloc, store);
+    vault.note_time(now)
+}
+
+// The same of the moment and the folder, and what it came to.
 fn note(rt: &HostRuntime, folder: &str, moment: &str) -> Result<String> {
     let alloc = rt.alloc();
     let now = moment.parse::<Timestamp>()?;
     let folder = String::from_str(alloc, folder)?;
-    let mut vault = Vault::new(alloc, DirStore::new(rt.clone()?, folder));
-    Ok(match vault.note_time(now) {
-        Ok(_) => String::from_str(alloc, "noted")?,
-        Err(error) => format!(in alloc; "{error:?}")?,
-    })
+    let store = DirStore::new(rt.clone()?, folder);
+    Ok(came_to(alloc, "noted", note_in(alloc, store, now))?)
 }
 
 // What a step came to: a call on the store, or on the files below the folder without the store.
@@ -70,7 +65,7 @@ fn take(rt: &HostRuntime, folder: &str, store: &mut Folder, step: &Value) -> Res
         "exists" => format!(in alloc; "{}", fs::exists(rt, at.as_str())?)?,
         "text" => fs::read_to_string(rt, at.as_str())?,
         "note" => note(rt, folder, text(step, "now"))?,
-        _ => call(rt, store, step)?,
+        _ => call(alloc, store, step)?,
     })
 }
 

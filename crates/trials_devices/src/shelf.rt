@@ -4,7 +4,7 @@ ghost use Rattle.tough_vault.specs.Stored.{HasCause};
 use anyhow::{Result, anyhow};
 use serde_json::Value;
 use std::alloc::Global;
-use tough::{MemoryStore, Store, StoreError};
+use tough_vault::{MemoryStore, Store, StoreError};
 use trials_values::case::{list, number, text};
 
 // The files that are told, in this order.
@@ -21,7 +21,7 @@ const STUCK: &str = "timestamp.json";
 
 /// What happens to the call on which the calls of a store end.
 #[derive(Clone, Copy, PartialEq, Eq, Drop)]
-pub(crate) enum Fault {
+pub enum Fault {
     /// It fails, and the calls after it don't.
     Fails,
     /// It finds no memory, and the calls after it do.
@@ -32,7 +32,7 @@ pub(crate) enum Fault {
 
 /// Files in memory. Where the timestamp is stuck, reading it gives the same bytes whatever was written.
 #[derive(Drop)]
-pub(crate) struct Shelf {
+pub struct Shelf {
     files: MemoryStore,
     stuck: Option<Vec<u8>>,
     fault: Fault,
@@ -70,7 +70,7 @@ fn stored(alloc: Global, case: &Value) -> Result<MemoryStore> {
 
 impl Shelf {
     /// The store that a case begins with.
-    pub(crate) fn new(alloc: Global, case: &Value) -> Result<Shelf> {
+    pub fn new(alloc: Global, case: &Value) -> Result<Shelf> {
         let stuck = match text(case, "stuck") {
             "" => None,
             text => Some(text.as_bytes().to_vec(alloc)?),
@@ -87,7 +87,7 @@ impl Shelf {
     }
 
     /// The store of the next process, whose calls fail as the case says.
-    pub(crate) fn restarted(self, case: &Value) -> Shelf {
+    pub fn restarted(self, case: &Value) -> Shelf {
         let (fault, left) = fault_of(case);
         Shelf {
             files: self.files,
@@ -108,7 +108,7 @@ impl Shelf {
     }
 
     /// What the store holds of its own files, and of those that the case's member `documents` names.
-    pub(crate) fn tell(&mut self, alloc: Global, case: &Value) -> Result<String> {
+    pub fn tell(&mut self, alloc: Global, case: &Value) -> Result<String> {
         let mut told = String::new(alloc);
         for name in NAMES {
             self.tell_file(alloc, name, &mut told)?;
@@ -141,7 +141,7 @@ impl Shelf {
 }
 
 /// The version of a document, or the moment that a file notes.
-pub(crate) fn held(alloc: Global, bytes: &[u8]) -> Result<String> {
+pub fn held(alloc: Global, bytes: &[u8]) -> Result<String> {
     let Ok(value) = Value::from_slice(alloc, bytes) else {
         return Ok(String::from_str(alloc, "no JSON")?);
     };

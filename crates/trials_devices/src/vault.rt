@@ -1,20 +1,32 @@
 //! Steps on a vault.
 
-use crate::load::enforcement;
 use crate::shelf::{Shelf, held};
 use anyhow::anyhow;
 use serde_json::Value;
-use std::alloc::Global;
-use tough::schema::{DemoVerify, Root, Signed, Snapshot, Timestamp};
-use tough::{DocumentName, Receipt, StepError, Store, Vault};
+use std::alloc::{AllocError, Global};
+use std::fmt::Debug;
+use tough_roles::{DemoVerify, Root, Signed, Snapshot, Timestamp};
+use tough_vault::{DocumentName, ExpirationEnforcement, Receipt, Store, Vault};
 use trials_values::case::{flag, list, number, text};
 
+/// Whether what has expired is refused.
+pub fn enforcement(case: &Value) -> ExpirationEnforcement {
+    if flag(case, "unsafe") {
+        ExpirationEnforcement::Unsafe
+    } else {
+        ExpirationEnforcement::Safe
+    }
+}
+
 // What a step came to.
-fn came_to(alloc: Global, taken: Result<Receipt, StepError>) -> anyhow::Result<String> {
-    Ok(match taken {
-        Ok(receipt) => format!(in alloc; "{} {:?}", receipt.number(), receipt.entry())?,
-        Err(error) => format!(in alloc; "{error:?}")?,
-    })
+fn came_to<E: Debug + Drop>(
+    alloc: Global,
+    taken: Result<Receipt, E>,
+) -> Result<String, AllocError> {
+    match taken {
+        Ok(receipt) => format!(in alloc; "{} {:?}", receipt.number(), receipt.entry()),
+        Err(error) => format!(in alloc; "{error:?}"),
+    }
 }
 
 // Puts a timestamp on the vault.
@@ -26,10 +38,8 @@ fn advance_timestamp(
 ) -> anyhow::Result<String> {
     let now = text(step, "now").parse()?;
     let timestamp = Signed::<Timestamp>::read(alloc, text(step, "text").as_bytes())?;
-    came_to(
-        alloc,
-        vault.advance_timestamp(root, &timestamp, now, enforcement(step), &DemoVerify),
-    )
+    let taken = vault.advance_timestamp(root, &timestamp, now, enforcement(step), &DemoVerify);
+    Ok(came_to(alloc, taken)?)
 }
 
 // Puts a snapshot on the vault.
@@ -42,10 +52,9 @@ fn advance_snapshot(
     let now = text(step, "now").parse()?;
     let listed = number(step, "listed").unwrap_or(0);
     let snapshot = Signed::<Snapshot>::read(alloc, text(step, "text").as_bytes())?;
-    came_to(
-        alloc,
-        vault.advance_snapshot(root, listed, &snapshot, now, enforcement(step), &DemoVerify),
-    )
+    let enforcement = enforcement(step);
+    let taken = vault.advance_snapshot(root, listed, &snapshot, now, enforcement, &DemoVerify);
+    Ok(came_to(alloc, taken)?)
 }
 
 // Stores a timestamp in the place of the targets, or of a delegated document where the step names one.
@@ -58,7 +67,7 @@ fn put_document(alloc: Global, vault: &mut Vault<Shelf>, step: &Value) -> anyhow
         return Ok(String::from_str(alloc, "no name")?);
     };
     let timestamp = Signed::<Timestamp>::read(alloc, text(step, "text").as_bytes())?;
-    came_to(alloc, vault.put_document(&name, &timestamp))
+    Ok(came_to(alloc, vault.put_document(&name, &timestamp))?)
 }
 
 // Takes a step on the vault, and tells what it came to.
@@ -71,13 +80,13 @@ fn take(
     match text(step, "step") {
         "time" => {
             let now = text(step, "now").parse()?;
-            came_to(alloc, vault.note_time(now))
+            Ok(came_to(alloc, vault.note_time(now))?)
         }
-        "root" => came_to(alloc, vault.put_root(root)),
+        "root" => Ok(came_to(alloc, vault.put_root(root))?),
         "timestamp" => advance_timestamp(alloc, vault, &root.signed, step),
         "snapshot" => advance_snapshot(alloc, vault, &root.signed, step),
         "document" => put_document(alloc, vault, step),
-        "clear" => came_to(alloc, vault.clear_rotated()),
+        "clear" => Ok(came_to(alloc, vault.clear_rotated())?),
         "journal" => Ok(format!(in alloc; "{:?}", vault.journal())?),
         "tip" => Ok(format!(in alloc; "{:?}", vault.tip())?),
         other => Err(anyhow!("no step {other}")),

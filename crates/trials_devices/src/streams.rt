@@ -6,11 +6,10 @@ use futures::{FutureExt, Stream, StreamExt};
 use serde_json::Value;
 use std::alloc::{AllocError, Global};
 use std::{env, fs, process, str};
-use tough::{
+use tough_net::{
     Cause, FilesystemTransport, HttpError, IntoVec, MemoryTransport, Transport, TransportError,
-    TransportErrorKind, fetch_max_size, fetch_sha256,
+    TransportErrorKind, fetch_max_size, fetch_sha256, fetch_whole,
 };
-use tough_net::fetch_whole;
 use trials_values::case::{number, text};
 use url::Url;
 

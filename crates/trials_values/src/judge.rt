@@ -3,7 +3,7 @@
 use serde_json::Value;
 
 /// What is wanted of the case's answer and isn't so: the whole answer, or the first word that doesn't stand behind those before it.
-pub(crate) fn misses<'a>(case: &'a Value, told: &str) -> Option<&'a str> {
+pub fn misses<'a>(case: &'a Value, told: &str) -> Option<&'a str> {
     if let Some(wanted) = case.get("answer").and_then(Value::as_str) {
         return if wanted == told { None } else { Some(wanted) };
     }
