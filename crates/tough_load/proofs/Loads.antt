@@ -14,7 +14,7 @@ use Rattle.tough_net.specs.Collecting.{Bounds, Collects, collected, held_by}
 use Rattle.tough_net.proofs.lemmas.Collect.{Collects-Within}
 use Rattle.tough_update.specs.Requests.{RequestDoc}
 use Rattle.tough_update.specs.Failure.{Failure}
-use Rattle.tough_update.specs.Stages.{LoadedDoc, CoreDoc, Taken}
+use Rattle.tough_update.specs.Stages.{LoadedDoc, CoreDoc, handed_out}
 use Rattle.tough_update.specs.Questions.{Question}
 use Rattle.tough_update.specs.Questions as ask
 use Rattle.tough_update.specs.Answered.{AnswerDoc}
@@ -143,7 +143,7 @@ module _ {T K C V S : Type 0} (refuses : T → Parts → TransportError → Type
 
     -- nothing more is asked
     pub by-outcome : {X : Type 0} (view : X → Result LoadedDoc Failure) (o : Option X) → keeper_of new ≡ keeper_of old → fetch_of old ≡ None → option_map view o ≡ ended (core_doc (core_of old)).stage
-        → (IsSome o → core_doc (core_of new) ≡ record { setting = (core_doc (core_of old)).setting; stage = Taken }) → counts_of (core_of new) ≡ counts_of (core_of old)
+        → (IsSome o → core_doc (core_of new) ≡ handed_out (core_doc (core_of old))) → counts_of (core_of new) ≡ counts_of (core_of old)
         → IfSome o (λ r. Finishes refuses serves keeps yields verifies old (view r) new)
     by-outcome view None ke idle e l counts = tt
     by-outcome view (Some r) ke idle e l counts = record {

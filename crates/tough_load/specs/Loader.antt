@@ -3,7 +3,7 @@ use Rattle.std.specs.Prelude.{◌≡◌, ◌*◌, ◌^◌, ℕ, List, [], None, 
 use Rattle.url.specs.Parts.{Parts}
 use Rattle.tough_vault.specs.Checks.{enforces}
 use Rattle.tough_update.specs.declared.limits.Limits.{Limits}
-use Rattle.tough_update.specs.Stages.{CoreDoc, Moment}
+use Rattle.tough_update.specs.Stages.{CoreDoc, new_core}
 use Rattle.tough_update.specs.Counts.{none_yet}
 use Rattle.tough_update.specs.View.{core_doc, counts_of}
 use Rattle.tough_load.specs.declared.loader.RepositoryLoader.{RepositoryLoader}
@@ -27,7 +27,7 @@ default_limits = record { max_root_size = 2 ^ 20; max_targets_size = 10 * 2 ^ 20
 
 -- the update that begins with these settings: nothing was answered yet
 abbrev pub first_core : SettingsDoc → CoreDoc
-first_core s = record { setting = record { trusted = s.root; limits = s.limits; enforced = s.enforced }; stage = Moment }
+first_core s = new_core s.root s.limits s.enforced
 
 module _ {T V C K : Type 0} where
   abbrev pub settings_of : RepositoryLoader T V C K → SettingsDoc

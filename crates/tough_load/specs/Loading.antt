@@ -10,7 +10,7 @@ use Rattle.tough_net.specs.declared.error.TransportError.{TransportError}
 use Rattle.tough_net.specs.declared.collect.Collect.{Collect}
 use Rattle.tough_net.specs.Items.{Item}
 use Rattle.tough_update.specs.Failure.{Failure, Memory, step_failure}
-use Rattle.tough_update.specs.Stages.{LoadedDoc, CoreDoc, Taken}
+use Rattle.tough_update.specs.Stages.{LoadedDoc, CoreDoc, handed_out}
 use Rattle.tough_update.specs.Questions.{Question}
 use Rattle.tough_update.specs.Questions as ask
 use Rattle.tough_update.specs.Answered.{AnswerDoc}
@@ -55,7 +55,7 @@ module _ {T S K : Type 0} (refuses : T → Parts → TransportError → Type 0) 
   -- a load may end with this outcome, and then leave this machine and keeper
   abbrev pub Ends : Option (Collect S) → CoreDoc → K → Result LoadedDoc Failure → CoreDoc → K → Type 0
   Ends f c k outcome left kept = (last : CoreDoc) × Reaches f c k last kept × (ended last.stage ≡ Some outcome)
-      × (left ≡ record { setting = last.setting; stage = Taken })
+      × (left ≡ handed_out last)
 
   -- the outcomes that a load may come to
   abbrev pub Gives : Option (Collect S) → CoreDoc → K → Result LoadedDoc Failure → Type 0

@@ -8,7 +8,7 @@ use Rattle.tough_vault.specs.declared.entry.Receipt.{Receipt}
 use Rattle.tough_vault.specs.declared.checks.StepError.{StepError}
 use Rattle.tough_net.specs.declared.error.TransportError.{TransportError}
 use Rattle.tough_net.specs.Items.{Item}
-use Rattle.tough_update.specs.Stages.{LoadedDoc, CoreDoc, Done, Taken}
+use Rattle.tough_update.specs.Stages.{LoadedDoc, CoreDoc, Done, handed_out}
 use Rattle.tough_update.specs.Answered.{AnswerDoc}
 use Rattle.tough_update.specs.Runs.{Loaded}
 use Rattle.tough_vault.specs.Act.{Act}
@@ -22,7 +22,7 @@ module _ {T S K : Type 0} (refuses : T → Parts → TransportError → Type 0) 
     -- the transport or the keeper allowed each for what was asked, and so they led to the end with these documents
     pub allowed : Leads refuses serves keeps yields verifies base t c k answers (record { setting = c.setting; stage = Done (Ok l) }) kept
     -- which were handed out
-    pub taken : left ≡ record { setting = c.setting; stage = Taken }
+    pub taken : left ≡ handed_out c
     -- on these answers the update ends with documents that are trusted from the root that was handed in, and unexpired where that counts
     pub loaded : Loaded verifies c answers l
 

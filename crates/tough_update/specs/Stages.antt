@@ -89,3 +89,11 @@ pub record SettingDoc : Type 0 where
 pub record CoreDoc : Type 0 where
   pub setting : SettingDoc
   pub stage : StageDoc
+
+-- an update by these bytes of a root, to which nothing was answered yet
+abbrev pub new_core : List ℕ → Limits → Bool → CoreDoc
+new_core trusted limits enforced = record { setting = record { trusted = trusted; limits = limits; enforced = enforced }; stage = Moment }
+
+-- the update whose outcome was handed out
+abbrev pub handed_out : CoreDoc → CoreDoc
+handed_out c = record { setting = c.setting; stage = Taken }

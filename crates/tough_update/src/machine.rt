@@ -3,7 +3,7 @@
 ghost use Rattle.std.specs.Prelude.{◌≡◌, IsSome, IsNone, option_map, option_copied};
 ghost use Rattle.tough_vault.specs.Checks.{enforces};
 ghost use Rattle.tough_update.specs.Counts.{none_yet, with_fetch, with_tree};
-ghost use Rattle.tough_update.specs.Stages as at;
+ghost use Rattle.tough_update.specs.Stages.{handed_out, new_core};
 ghost use Rattle.tough_update.specs.Machine.{question, stage_after};
 ghost use Rattle.tough_update.specs.Failure.{Gives};
 ghost use Rattle.tough_update.specs.View.{core_doc, counts_of, stage_doc, answer_doc, question_of, setting_doc, outcome_doc};
@@ -80,15 +80,7 @@ fn next<V: Verify>(setting: &Setting<'_>, stage: Stage, answer: Answer, verifier
 impl Core {
     /// An update from a root that is trusted, given as its bytes.
     pub fn new(trusted: Vec<u8>, limits: Limits, enforcement: ExpirationEnforcement) -> Core
-        ensures core { core_doc result
-            ≡ record {
-              setting = record {
-                trusted = trusted.items;
-                limits = limits;
-                enforced = enforces enforcement;
-              };
-              stage = at.Moment;
-            } }
+        ensures core { core_doc result ≡ new_core trusted.items limits (enforces enforcement) }
         ensures counts { counts_of result ≡ none_yet }
     {
         Core {
@@ -169,9 +161,7 @@ impl Core {
     /// Hands out how the update ended, once it has; then nothing more is asked.
     pub fn take_outcome(&mut self) -> Option<Result<Loaded, UpdateError>>
         ensures done { option_map outcome_doc result ≡ ended (core_doc self.old).stage }
-        ensures taken { IsSome result
-            → core_doc self.new ≡ record
-            { setting = (core_doc self.old).setting; stage = at.Taken } }
+        ensures taken { IsSome result → core_doc self.new ≡ handed_out (core_doc self.old) }
         ensures not_yet { IsNone result → core_doc self.new ≡ core_doc self.old }
         ensures counts { counts_of self.new ≡ counts_of self.old }
     {
