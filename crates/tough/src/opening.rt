@@ -94,13 +94,8 @@ where
     ensures { IfOk result (λ both. IsVouchedFor (loaded_doc both.0)) }
 {
     let clock = SystemClock::new(rt.clone()?);
-    let Wanted {
-        root,
-        metadata,
-        targets,
-        ..
-    } = wanted;
-    let loader = RepositoryLoader::new(rt.alloc(), root.as_slice(), metadata, targets)
+    let root = wanted.root;
+    let loader = RepositoryLoader::new(rt.alloc(), root.as_slice(), wanted.metadata, wanted.targets)
         .transport(transport)
         .verifier(DemoVerify)
         .clock(clock)

@@ -88,10 +88,10 @@ where
     let store = wanted.store;
     let mut vault = vault_in(rt, store)?;
     match open_by(rt, runtime, transport, &mut vault, wanted) {
-        Ok(repository) => {
-            let text = versions(rt.alloc(), repository.documents())?;
-            Ok(text)
-        }
+        Ok(repository) => match versions(rt.alloc(), repository.documents()) {
+            Ok(text) => Ok(text),
+            Err(error) => Err(Fault::from(error)),
+        },
         Err(fault) => Err(with_cause(rt.alloc(), fault, vault, store)),
     }
 }
@@ -210,10 +210,10 @@ where
             write!(out, "{text}")?;
             Ok(true)
         }
-        Some(Err(fault)) => {
-            tell(err, &fault)?;
-            Ok(false)
-        }
+        Some(Err(fault)) => match tell(err, &fault) {
+            Ok(()) => Ok(false),
+            Err(error) => Err(error),
+        },
         None => {
             writeln!(err, "{LOAD}\n{GET}")?;
             Ok(false)
