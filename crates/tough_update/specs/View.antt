@@ -87,13 +87,13 @@ answer_doc (by.Step r) = got.Step (step_doc r)
 
 -- ---- stages
 
--- the root that the walk is at
-abbrev pub last_of : Signed Root → Option (Signed Root) → SignedDoc RootDoc
-last_of first None = signed_doc root_doc first
-last_of first (Some later) = signed_doc root_doc later
+-- of the two, the later one where there is one
+abbrev pub latest : {A : Type 0} → A → Option A → A
+latest first None = first
+latest first (Some later) = later
 
 abbrev pub walk_doc : Walk → WalkDoc
-walk_doc w = record { start = w.start.nanosecond; first = signed_doc root_doc w.first; last = last_of w.first w.later }
+walk_doc w = record { start = w.start.nanosecond; first = signed_doc root_doc w.first; last = signed_doc root_doc (latest w.first w.later) }
 
 abbrev pub base_doc : Base → BaseDoc
 base_doc b = record { start = b.start.nanosecond; root = signed_doc root_doc b.root }

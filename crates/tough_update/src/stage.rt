@@ -1,11 +1,9 @@
 //! The stages of an update.
 
 ghost use Rattle.std.specs.Prelude.{◌≡◌};
-ghost use Rattle.tough_roles.specs.Signature.{signed_doc};
-ghost use Rattle.tough_roles.specs.Root.{root_doc};
 ghost use Rattle.tough_vault.specs.Checks.{enforces};
 ghost use Rattle.tough_update.specs.Machine.{base_of, act_at};
-ghost use Rattle.tough_update.specs.View.{last_of, walk_doc, base_doc, pending_doc, act_of, root_of, timestamp_of, snapshot_of, targets_of, received_of};
+ghost use Rattle.tough_update.specs.View.{latest, walk_doc, base_doc, pending_doc, act_of, root_of, timestamp_of, snapshot_of, targets_of, received_of};
 
 use crate::error::UpdateError;
 use crate::request::{Act, Request};
@@ -104,7 +102,7 @@ pub(crate) enum Stage {
 impl Walk {
     /// The root that the walk is at.
     pub(crate) fn last(&self) -> &Signed<Root>
-        ensures { signed_doc root_doc result.now ≡ last_of self.now.first self.now.later }
+        ensures { result.now ≡ latest self.now.first self.now.later }
     {
         match &self.later {
             None => &self.first,
