@@ -168,7 +168,7 @@ impl Core {
         match mem::replace(&mut self.stage, Stage::Taken) {
             Stage::Done(outcome) => Some(outcome),
             stage => {
-                self.stage = stage;
+                drop(mem::replace(&mut self.stage, stage));
                 None
             }
         }
@@ -181,7 +181,10 @@ impl Core {
         let Core { stage, .. } = self;
         match stage {
             Stage::Done(outcome) => Some(outcome),
-            _ => None,
+            stage => {
+                drop(stage);
+                None
+            }
         }
     }
 }
