@@ -13,17 +13,31 @@ use tough::{
 pub fn run(rt: &HostRuntime, folder: &str) -> Result<(), Error> {
     let alloc = rt.alloc();
     let root = fs::read(rt, format!(in alloc; "{folder}/root.json")?.as_str())?;
-    let served = format!(in alloc; "file://{folder}/")?;
-    let transport = FilesystemTransport::new(rt.clone()?);
     let mut vault = Vault::new(alloc, MemoryStore::new(alloc));
-    let repository = load(rt, root.as_slice(), served.as_str(), transport, &mut vault)?;
-    save(rt, repository, folder)
+    let done = load_and_save(rt, root.as_slice(), &mut vault, folder);
+    drop(vault);
+    done
+}
+
+// Loads the repository by this keeper, and saves it.
+fn load_and_save<K: Keeper>(
+    rt: &HostRuntime,
+    root: &[u8],
+    keeper: K,
+    folder: &str,
+) -> Result<(), Error> {
+    let served = format!(in rt.alloc(); "file://{folder}/")?;
+    let transport = FilesystemTransport::new(rt.clone()?);
+    let mut repository = load(rt, root, served.as_str(), transport, keeper)?;
+    let done = save(rt, &mut repository, folder);
+    drop(repository);
+    done
 }
 
 // Saves all targets and the metadata of the repository.
 fn save<T: Transport, K: Keeper, C: Clock + Drop>(
     rt: &HostRuntime,
-    mut repository: Repository<T, K, C>,
+    repository: &mut Repository<T, K, C>,
     folder: &str,
 ) -> Result<(), Error> {
     let alloc = rt.alloc();

@@ -74,13 +74,14 @@ where
     R: Files + Net + Wait + Clock + RandomSource + AllocGlobal + Print + Clone + Drop,
 {
     let url = Url::parse(rt.alloc(), url)?;
-    let mut runtime = LocalRuntime::new(rt)?;
     let settings = HttpTransportBuilder::new().initial_backoff(Duration::ZERO);
+    let began = Instant::now(rt)?;
+    let mut runtime = LocalRuntime::new(rt)?;
     let handle = runtime.handle().clone()?;
     let transport = DefaultTransport::new_with_http_settings(rt.clone()?, handle, settings)?;
-    let began = Instant::now(rt)?;
-    let length = length_by(rt, &mut runtime, transport, &url)?;
-    let millis = began.elapsed(rt)?.as_millis();
+    let length = length_by(rt, &mut runtime, transport, &url);
+    drop(runtime);
+    let (length, millis) = (length?, began.elapsed(rt)?.as_millis());
     println!(rt; "{length} bytes in {millis} ms")?;
     Ok(())
 }

@@ -81,7 +81,15 @@ fn verify_and_store(rt: &HostRuntime, root: &Root, targets: &Signed<Targets>) ->
     store(rt, targets)
 }
 
-// Reads a targets document, verifies it and stores it.
+// Reads a targets document, verifies it under the root and stores it.
+fn parts_of(rt: &HostRuntime, root: &Root, document: &[u8]) -> Result<(), Error> {
+    let targets = read::<Targets>(rt, document)?;
+    let done = verify_and_store(rt, root, &targets);
+    drop(targets);
+    done
+}
+
+// Reads a root and a targets document, verifies this and stores it.
 fn parts(rt: &HostRuntime, root: &[u8], document: &[u8]) -> Result<(), Error> {
     println!(rt;
         "a root of {} bytes, a targets document of {}",
@@ -89,8 +97,9 @@ fn parts(rt: &HostRuntime, root: &[u8], document: &[u8]) -> Result<(), Error> {
         document.len()
     )?;
     let root = read::<Root>(rt, root)?;
-    let targets = read::<Targets>(rt, document)?;
-    verify_and_store(rt, &root.signed, &targets)
+    let done = parts_of(rt, &root.signed, document);
+    drop(root);
+    done
 }
 
 // The files, served in memory.
@@ -112,14 +121,16 @@ pub fn over_memory(
 ) -> Result<(), Error> {
     let transport = served(rt.alloc(), metadata)?;
     let mut vault = Vault::new(rt.alloc(), MemoryStore::new(rt.alloc()));
-    measure(
+    let done = measure(
         rt,
         root,
         SERVED,
         transport,
         &mut vault,
         "loaded over memory",
-    )
+    );
+    drop(vault);
+    done
 }
 
 // Makes the files and the folder of the store.
@@ -153,14 +164,16 @@ pub fn over_files(
     let served = format!(in alloc; "file://{folder}/")?;
     let transport = FilesystemTransport::new(rt.clone()?);
     let mut vault = Vault::new(alloc, DirStore::new(rt.clone()?, store));
-    measure(
+    let done = measure(
         rt,
         root,
         served.as_str(),
         transport,
         &mut vault,
         "loaded over files",
-    )
+    );
+    drop(vault);
+    done
 }
 
 // Loads the repository that is served below this URL, and prints what was done and how long it took.

@@ -2,6 +2,7 @@
 
 use anyhow::Error;
 use std::alloc::Global;
+use std::mem;
 use std::num::NonZeroU64;
 use std::time::Instant;
 use tough::TargetName;
@@ -11,24 +12,20 @@ use tough::schema::{DelegatedRole, DelegatedTargets, PathPattern, PathSet, Signe
 /// roles whose paths all match, and the same with a tenth of the roles.
 pub fn run(rt: &HostRuntime, roles: u32) -> Result<(), Error> {
     for count in [roles / 10, roles] {
-        let began = Instant::now(rt)?;
-        let tree = chain(rt.alloc(), count)?;
-        println!(rt;
-            "a chain of {count} roles, made in {} us",
-            began.elapsed(rt)?.as_micros()
-        )?;
-        look(rt, &tree)?;
+        measure(rt, "chain", count, chain(rt.alloc(), count)?)?;
     }
     for count in [roles / 10, roles] {
-        let began = Instant::now(rt)?;
-        let tree = fan(rt.alloc(), count)?;
-        println!(rt;
-            "a fan of {count} roles, made in {} us",
-            began.elapsed(rt)?.as_micros()
-        )?;
-        look(rt, &tree)?;
+        measure(rt, "fan", count, fan(rt.alloc(), count)?)?;
     }
     Ok(())
+}
+
+// Prints how long a look takes in a tree of this shape.
+fn measure(rt: &HostRuntime, shape: &str, count: u32, tree: Targets) -> Result<(), Error> {
+    println!(rt; "a {shape} of {count} roles")?;
+    let looked = look(rt, &tree);
+    drop(tree);
+    looked
 }
 
 // Looks for a name that isn't there.
@@ -44,44 +41,61 @@ fn look(rt: &HostRuntime, tree: &Targets) -> Result<(), Error> {
 fn chain(alloc: Global, count: u32) -> Result<Targets, Error> {
     let mut tree = empty(alloc)?;
     for number in 0..count {
-        let mut above = empty(alloc)?;
-        let role = role(alloc, number, tree)?;
-        if let Some(delegations) = &mut above.delegations {
-            delegations.roles.push(role)?;
-        }
-        tree = above;
+        tree = above(alloc, number, tree)?;
     }
     Ok(tree)
+}
+
+// Targets that delegate to a role with this document.
+fn above(alloc: Global, number: u32, targets: Targets) -> Result<Targets, Error> {
+    let mut role = role(alloc, number)?;
+    if let Some(document) = &mut role.targets {
+        drop(mem::replace(&mut document.signed.targets, targets));
+    }
+    delegating(alloc, role)
+}
+
+// Targets that delegate to this role.
+fn delegating(alloc: Global, role: DelegatedRole) -> Result<Targets, Error> {
+    let mut targets = empty(alloc)?;
+    add(&mut targets, role)?;
+    Ok(targets)
+}
+
+// Adds a role to the delegations.
+fn add(targets: &mut Targets, role: DelegatedRole) -> Result<(), Error> {
+    if let Some(delegations) = &mut targets.delegations {
+        delegations.roles.push(role)?;
+    }
+    Ok(())
 }
 
 // Targets that delegate to many roles, none of which delegates further.
 fn fan(alloc: Global, count: u32) -> Result<Targets, Error> {
     let mut tree = empty(alloc)?;
     for number in 0..count {
-        let below = empty(alloc)?;
-        let role = role(alloc, number, below)?;
-        if let Some(delegations) = &mut tree.delegations {
-            delegations.roles.push(role)?;
-        }
+        add(&mut tree, role(alloc, number)?)?;
     }
     Ok(tree)
 }
 
-// A role with this document, that may list every name.
-fn role(alloc: Global, number: u32, targets: Targets) -> Result<DelegatedRole, Error> {
+// A role that may list every name, with a document that lists nothing.
+fn role(alloc: Global, number: u32) -> Result<DelegatedRole, Error> {
     let mut paths = Vec::new(alloc);
     paths.push(PathPattern::from_str(alloc, "*")?)?;
+    let name = format!(in alloc; "role-{number}")?;
+    let signed = DelegatedTargets {
+        name: name.clone()?,
+        targets: empty(alloc)?,
+    };
     Ok(DelegatedRole {
-        name: format!(in alloc; "role-{number}")?,
+        name,
         keyids: Vec::new(alloc),
         threshold: NonZeroU64::MIN,
         paths: PathSet::Paths(paths),
         terminating: false,
         targets: Some(Signed {
-            signed: DelegatedTargets {
-                name: format!(in alloc; "role-{number}")?,
-                targets,
-            },
+            signed,
             signatures: Vec::new(alloc),
         }),
     })

@@ -119,7 +119,10 @@ where
     match open_by(rt, runtime, transport, &mut vault, wanted) {
         Ok(repository) => {
             let mut repository = repository;
-            match save_and_report(rt, runtime, &mut repository, name, outdir, err) {
+            let told = save_and_report(rt, runtime, &mut repository, name, outdir, err);
+            drop(repository);
+            drop(vault);
+            match told {
                 Ok(text) => Ok(text),
                 Err(fault) => Err(fault),
             }

@@ -88,10 +88,15 @@ where
     let store = wanted.store;
     let mut vault = vault_in(rt, store)?;
     match open_by(rt, runtime, transport, &mut vault, wanted) {
-        Ok(repository) => match versions(rt.alloc(), repository.documents()) {
-            Ok(text) => Ok(text),
-            Err(error) => Err(Fault::from(error)),
-        },
+        Ok(repository) => {
+            let told = versions(rt.alloc(), repository.documents());
+            drop(repository);
+            drop(vault);
+            match told {
+                Ok(text) => Ok(text),
+                Err(error) => Err(Fault::from(error)),
+            }
+        }
         Err(fault) => Err(with_cause(rt.alloc(), fault, vault, store)),
     }
 }
@@ -210,10 +215,14 @@ where
             write!(out, "{text}")?;
             Ok(true)
         }
-        Some(Err(fault)) => match tell(err, &fault) {
-            Ok(()) => Ok(false),
-            Err(error) => Err(error),
-        },
+        Some(Err(fault)) => {
+            let told = tell(err, &fault);
+            drop(fault);
+            match told {
+                Ok(()) => Ok(false),
+                Err(error) => Err(error),
+            }
+        }
         None => {
             writeln!(err, "{LOAD}\n{GET}")?;
             Ok(false)

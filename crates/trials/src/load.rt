@@ -112,6 +112,35 @@ fn search(
     Ok(())
 }
 
+// Adds what a load came to, and what the searches of the case find in what was loaded.
+fn tell_load(
+    alloc: Global,
+    case: &Value,
+    outcome: &Result<Loaded, Error>,
+    told: &mut String,
+) -> anyhow::Result<()> {
+    let line = tell(alloc, outcome)?;
+    told.push_str(format!(in alloc; "\n  {line}")?.as_str())?;
+    match outcome {
+        Ok(repository) => search(alloc, repository, list(case, "find"), told),
+        Err(_) => Ok(()),
+    }
+}
+
+// Runs a load on the vault, and adds what it came to.
+fn run_and_tell(
+    rt: &HostRuntime,
+    case: &Value,
+    load: &Value,
+    vault: &mut Vault<Shelf>,
+    told: &mut String,
+) -> anyhow::Result<()> {
+    let outcome = run(rt, case, load, vault)?;
+    let done = tell_load(rt.alloc(), case, &outcome, told);
+    drop(outcome);
+    done
+}
+
 /// Runs the loads of a case on one store, one after another, and tells of each what it came to and what the store then holds. Each has a
 /// vault of its own, as in a process of its own, but for those after which the case keeps the vault. A load says after how many calls its
 /// store fails, if it does.
@@ -124,12 +153,7 @@ pub(crate) fn loads(rt: &HostRuntime, case: &Value) -> anyhow::Result<String> {
         if !is_kept {
             vault = Vault::new(alloc, vault.into_store().restarted(load));
         }
-        let outcome = run(rt, case, load, &mut vault)?;
-        let line = tell(alloc, &outcome)?;
-        told.push_str(format!(in alloc; "\n  {line}")?.as_str())?;
-        if let Ok(repository) = &outcome {
-            search(alloc, repository, list(case, "find"), &mut told)?;
-        }
+        run_and_tell(rt, case, load, &mut vault, &mut told)?;
         is_kept = flag(load, "keeps the vault");
         if !is_kept {
             vault = reopen(alloc, case, vault, &mut told)?;

@@ -81,7 +81,11 @@ fn named(alloc: Global, call: &Call) -> Result<String, AllocError> {
 fn outcome(alloc: Global, answer: Result<(), Error>, saved: &str) -> Result<String, AllocError> {
     match answer {
         Ok(()) => String::from_str(alloc, saved),
-        Err(error) => told(alloc, &error),
+        Err(error) => {
+            let told = told(alloc, &error);
+            drop(error);
+            told
+        }
     }
 }
 
@@ -157,17 +161,29 @@ fn act<T: Transport, K: Keeper, C: Clock + Drop>(
 fn tell<T: Transport, K: Keeper, C: Clock + Drop>(
     rt: &HostRuntime,
     case: &Value,
-    mut repository: Repository<T, K, C>,
+    repository: &mut Repository<T, K, C>,
+    files: &mut MemoryFiles,
 ) -> Result<String> {
     let alloc = rt.alloc();
-    let mut files = files(alloc, case)?;
     let before = files.calls().len();
-    let mut line = act(rt, case, &mut repository, &mut files)?;
+    let mut line = act(rt, case, repository, files)?;
     for call in files.calls().iter().skip(before) {
         let call = named(alloc, call)?;
         line.push_str(format!(in alloc; "\n  {call}")?.as_str())?;
     }
     Ok(line)
+}
+
+// The same over new files.
+fn tell_anew<T: Transport, K: Keeper, C: Clock + Drop>(
+    rt: &HostRuntime,
+    case: &Value,
+    repository: &mut Repository<T, K, C>,
+) -> Result<String> {
+    let mut files = files(rt.alloc(), case)?;
+    let told = tell(rt, case, repository, &mut files);
+    drop(files);
+    told
 }
 
 // The metadata and the targets of the case, in pieces where it says so.
@@ -182,20 +198,30 @@ fn served(alloc: Global, case: &Value) -> Result<MemoryTransport> {
     Ok(transport)
 }
 
-/// Loads the repository of the case, saves a target of it or caches it, and tells what that came to, and which calls the files were given.
-pub(crate) fn play(rt: &HostRuntime, case: &Value) -> Result<String> {
+// Loads the repository of the case by this keeper, saves a target of it or caches it, and tells what that came to.
+fn play_by<K: Keeper>(rt: &HostRuntime, case: &Value, keeper: K) -> Result<String> {
     let alloc = rt.alloc();
     let now = text(case, "now").parse()?;
     let metadata = Url::parse(alloc, "http://h/metadata/")?;
     let targets = Url::parse(alloc, "http://h/targets")?;
     let transport = served(alloc, case)?;
-    let mut vault = Vault::new(alloc, MemoryStore::new(alloc));
     let loader = RepositoryLoader::new(alloc, text(case, "root").as_bytes(), metadata, targets)
         .transport(transport)
         .verifier(DemoVerify)
         .clock(FixedClock(now))
-        .keeper(&mut vault)
+        .keeper(keeper)
         .limits(limits(case))
         .expiration_enforcement(enforcement(case));
-    tell(rt, case, drive(rt, loader.load()?)??)
+    let mut repository = drive(rt, loader.load()?)??;
+    let told = tell_anew(rt, case, &mut repository);
+    drop(repository);
+    told
+}
+
+/// Loads the repository of the case, saves a target of it or caches it, and tells what that came to, and which calls the files were given.
+pub(crate) fn play(rt: &HostRuntime, case: &Value) -> Result<String> {
+    let mut vault = Vault::new(rt.alloc(), MemoryStore::new(rt.alloc()));
+    let told = play_by(rt, case, &mut vault);
+    drop(vault);
+    told
 }

@@ -50,11 +50,14 @@ fn asked(alloc: Global, core: &Core) -> Result<String, AllocError> {
 
 // How the update ended, if it did.
 fn ended(alloc: Global, core: Core) -> Result<String, AllocError> {
-    match core.into_outcome() {
-        None => format!(in alloc; "not ended"),
-        Some(Ok(loaded)) => tell(alloc, &Ok(loaded)),
-        Some(Err(error)) => tell(alloc, &Err(Error::from(error))),
-    }
+    let outcome = match core.into_outcome() {
+        None => return format!(in alloc; "not ended"),
+        Some(Ok(loaded)) => Ok(loaded),
+        Some(Err(error)) => Err(Error::from(error)),
+    };
+    let told = tell(alloc, &outcome);
+    drop(outcome);
+    told
 }
 
 // A fetch that failed.

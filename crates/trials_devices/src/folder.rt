@@ -40,7 +40,9 @@ fn call(alloc: Global, store: &mut Folder, step: &Value) -> Result<String> {
 // Notes a moment in a vault over the store, as a process of its own does.
 fn note_in(alloc: Global, store: Folder, now: Timestamp) -> Result<Receipt, StepError> {
     let mut vault = Vault::new(alloc, store);
-    vault.note_time(now)
+    let taken = vault.note_time(now);
+    drop(vault);
+    taken
 }
 
 // The same of the moment and the folder, and what it came to.

@@ -41,6 +41,13 @@ fn fault(alloc: Global, error: &TransportError) -> Result<String> {
     Ok(format!(in alloc; "{:?} {} {error}", error.kind(), error.url())?)
 }
 
+// The same of a fault that isn't needed any more.
+fn failed(alloc: Global, error: TransportError) -> Result<String> {
+    let told = fault(alloc, &error);
+    drop(error);
+    told
+}
+
 /// A fault as a transport makes it: with a cause of HTTP, for want of memory, or with no cause.
 pub(crate) fn made(alloc: Global, case: &Value) -> Result<String> {
     let (kind, url) = (TransportErrorKind::FileNotFound, text(case, "url"));
@@ -52,7 +59,21 @@ pub(crate) fn made(alloc: Global, case: &Value) -> Result<String> {
         "memory" => TransportError::from(AllocError),
         _ => TransportError::new(alloc, kind, url)?,
     };
-    Ok(format!(in alloc; "{} {}", fault(alloc, &error)?, error.cause().is_some())?)
+    let has_cause = error.cause().is_some();
+    Ok(format!(in alloc; "{} {has_cause}", failed(alloc, error)?)?)
+}
+
+// Items, each with a stroke behind it.
+fn tell(alloc: Global, items: &[std::result::Result<Bytes, TransportError>]) -> Result<String> {
+    let mut told = String::new(alloc);
+    for item in items {
+        match item {
+            Ok(bytes) => told.push_str(str::from_utf8(bytes.as_slice())?)?,
+            Err(error) => told.push_str(fault(alloc, error)?.as_str())?,
+        }
+        told.push('|')?;
+    }
+    Ok(told)
 }
 
 // The first items of a stream, each with a stroke behind it.
@@ -64,22 +85,16 @@ where
     let alloc = rt.alloc();
     let collected = stream.take(most).collect(alloc).now_or_never(rt)?;
     let items = collected.ok_or_else(|| anyhow!("the stream waits"))??;
-    let mut told = String::new(alloc);
-    for item in &items {
-        match item {
-            Ok(bytes) => told.push_str(str::from_utf8(bytes.as_slice())?)?,
-            Err(error) => told.push_str(fault(alloc, error)?.as_str())?,
-        }
-        told.push('|')?;
-    }
-    Ok(told)
+    let told = tell(alloc, items.as_slice());
+    drop(items);
+    told
 }
 
 // All bytes of a file, or why they didn't come.
 fn whole(alloc: Global, outcome: Option<Result<Vec<u8>, TransportError>>) -> Result<String> {
     match outcome {
         Some(Ok(bytes)) => Ok(String::from_utf8(bytes)?),
-        Some(Err(error)) => fault(alloc, &error),
+        Some(Err(error)) => failed(alloc, error),
         None => Err(anyhow!("the stream waits")),
     }
 }
@@ -103,7 +118,7 @@ fn bounded(rt: &HostRuntime, transport: &MemoryTransport, case: &Value) -> Resul
     let url = Url::parse(alloc, text(case, "url"))?;
     match fetch_max_size(alloc, transport, &url, limit(case), "a limit") {
         Ok(stream) => shown(rt, stream, 9),
-        Err(error) => fault(alloc, &error),
+        Err(error) => failed(alloc, error),
     }
 }
 
@@ -113,7 +128,7 @@ fn checked(rt: &HostRuntime, transport: &MemoryTransport, case: &Value) -> Resul
     let url = Url::parse(alloc, text(case, "url"))?;
     match fetch_sha256(alloc, transport, &url, limit(case), "a limit", digest(case)) {
         Ok(stream) => shown(rt, stream, 5),
-        Err(error) => fault(alloc, &error),
+        Err(error) => failed(alloc, error),
     }
 }
 
@@ -124,7 +139,7 @@ fn collected(rt: &HostRuntime, transport: &MemoryTransport, case: &Value) -> Res
     let sha256 = stated(alloc, case)?;
     match fetch_whole(alloc, transport, &url, limit(case), "a limit", sha256) {
         Ok(future) => whole(alloc, future.now_or_never(rt)?),
-        Err(error) => fault(alloc, &error),
+        Err(error) => failed(alloc, error),
     }
 }
 
@@ -134,20 +149,22 @@ fn fetched<T: Transport>(rt: &HostRuntime, transport: &T, url: &str) -> Result<S
     let url = Url::parse(alloc, url)?;
     match transport.fetch(&url) {
         Ok(stream) => whole(alloc, stream.into_vec(alloc).now_or_never(rt)?),
-        Err(error) => fault(alloc, &error),
+        Err(error) => failed(alloc, error),
     }
 }
 
 /// What a fetch over memory gives.
 pub(crate) fn fetch(rt: &HostRuntime, call: &str, case: &Value) -> Result<String> {
     let transport = memory(rt.alloc(), case)?;
-    match call {
+    let told = match call {
         "fetch_max_size" => bounded(rt, &transport, case),
         "fetch_sha256" => checked(rt, &transport, case),
         "fetch_whole" => collected(rt, &transport, case),
         "MemoryTransport" => fetched(rt, &transport, text(case, "url")),
         _ => Err(anyhow!("no call {call}")),
-    }
+    };
+    drop(transport);
+    told
 }
 
 /// What a fetch from a new folder, which the case calls `DIR`, gives: it holds a file `a b` and one of 20,000 letters, of which the number is told.

@@ -93,9 +93,26 @@ fn take(
     }
 }
 
-// What the store holds in the files that the case names.
-fn read_back(alloc: Global, store: &mut Shelf, case: &Value) -> anyhow::Result<String> {
-    let mut told = String::new(alloc);
+// Takes a step on the vault, and adds what it came to.
+fn take_and_tell(
+    alloc: Global,
+    vault: &mut Vault<Shelf>,
+    root: &Signed<Root>,
+    step: &Value,
+    told: &mut String,
+) -> anyhow::Result<()> {
+    let line = take(alloc, vault, root, step)?;
+    told.push_str(format!(in alloc; "\n  {line}")?.as_str())?;
+    Ok(())
+}
+
+// Adds what the store holds in the files that the case names.
+fn read_back(
+    alloc: Global,
+    store: &mut Shelf,
+    case: &Value,
+    told: &mut String,
+) -> anyhow::Result<()> {
     for name in list(case, "read") {
         let name = name.as_str().unwrap_or("");
         let held = match store.read(alloc, name) {
@@ -104,22 +121,35 @@ fn read_back(alloc: Global, store: &mut Shelf, case: &Value) -> anyhow::Result<S
         };
         told.push_str(format!(in alloc; "\n  {name}: {held}")?.as_str())?;
     }
-    Ok(told)
+    Ok(())
 }
 
-/// Takes the steps of a case on a vault over memory, and tells what each came to, and then what the files hold that the case names.
-pub(crate) fn steps(alloc: Global, case: &Value) -> anyhow::Result<String> {
-    let root = Signed::<Root>::read(alloc, text(case, "root").as_bytes())?;
-    let mut told = String::new(alloc);
-    let mut vault = Vault::new(alloc, Shelf::new(alloc, case)?);
+// Takes the steps of the case on a vault over the store, which is given back.
+fn take_all(
+    alloc: Global,
+    store: Shelf,
+    root: &Signed<Root>,
+    case: &Value,
+    told: &mut String,
+) -> anyhow::Result<Shelf> {
+    let mut vault = Vault::new(alloc, store);
     for step in list(case, "steps") {
         if flag(step, "reopened") {
             vault = Vault::new(alloc, vault.into_store());
         }
-        let line = take(alloc, &mut vault, &root, step)?;
-        told.push_str(format!(in alloc; "\n  {line}")?.as_str())?;
+        take_and_tell(alloc, &mut vault, root, step, told)?;
     }
-    let mut store = vault.into_store();
-    told.push_str(read_back(alloc, &mut store, case)?.as_str())?;
+    Ok(vault.into_store())
+}
+
+/// Takes the steps of a case on a vault over memory, and tells what each came to, and then what the files hold that the case names.
+pub fn steps(alloc: Global, case: &Value) -> anyhow::Result<String> {
+    let mut told = String::new(alloc);
+    let store = Shelf::new(alloc, case)?;
+    let root = Signed::<Root>::read(alloc, text(case, "root").as_bytes())?;
+    let taken = take_all(alloc, store, &root, case, &mut told);
+    drop(root);
+    let mut store = taken?;
+    read_back(alloc, &mut store, case, &mut told)?;
     Ok(told)
 }
