@@ -148,7 +148,11 @@ fn over_store(alloc: Global, error: Error, cause: Option<io::Error>, folder: &st
             folder,
             cause,
         },
-        Err(error) => Fault::from(error),
+        Err(_) => {
+            drop(error);
+            drop(cause);
+            Fault::Load(Error::Memory)
+        }
     }
 }
 
