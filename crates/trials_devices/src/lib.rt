@@ -16,6 +16,7 @@ use serde_json::Value;
 fn of_devices(rt: &HostRuntime, call: &str, case: &Value) -> Result<Option<String>> {
     Ok(Some(match call {
         "vault" => vault::steps(rt.alloc(), case)?,
+        "ExpirationEnforcement" => vault::switch(rt.alloc(), case)?,
         "DirStore" => folder::play(rt, case)?,
         "SystemClock::now" => folder::clock(rt, case)?,
         "RetryCore" => retries::play(rt.alloc(), case)?,

@@ -18,6 +18,13 @@ pub fn enforcement(case: &Value) -> ExpirationEnforcement {
     }
 }
 
+/// What a switch is as an enforcement, and that as a switch again.
+pub(crate) fn switch(alloc: Global, case: &Value) -> Result<String, AllocError> {
+    let enforcement = ExpirationEnforcement::from(flag(case, "refused"));
+    let refused = bool::from(enforcement);
+    format!(in alloc; "{enforcement:?} {refused}")
+}
+
 // What a step came to.
 fn came_to<E: Debug + Drop>(
     alloc: Global,
