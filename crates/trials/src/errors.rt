@@ -4,8 +4,8 @@ use crate::outcome::shown;
 use anyhow::{Result, anyhow};
 use serde_json::Value;
 use std::alloc::Global;
-use tough::schema::{self, ReadError, RoleType};
-use tough::{Error, TargetName, TransportError, TransportErrorKind};
+use tough::schema::{self, ReadError, RoleType, Target};
+use tough::{Error, OsFiles, TargetName, TransportError, TransportErrorKind};
 use trials_values::case::text;
 use url::ParseError;
 
@@ -180,4 +180,15 @@ pub(crate) fn told_of_schema(alloc: Global, case: &Value) -> Result<String> {
         Some(error) => Ok(shown(alloc, error)?),
         None => Err(anyhow!("no error {name}")),
     }
+}
+
+/// What a target of a file of the system is: its length, or why there is none.
+pub fn measured(rt: &HostRuntime, case: &Value) -> Result<String> {
+    let alloc = rt.alloc();
+    let mut files = OsFiles::new(rt.clone()?);
+    let told = match Target::from_path(alloc, &mut files, text(case, "path")) {
+        Ok(target) => format!(in alloc; "{}", target.length)?,
+        Err(error) => format!(in alloc; "{error:?}")?,
+    };
+    Ok(told)
 }

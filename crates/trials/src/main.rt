@@ -34,6 +34,7 @@ fn of_updates(rt: &HostRuntime, call: &str, case: &Value) -> Result<String> {
         "Core::counts" => update::counts(rt.alloc(), case),
         "Limits::default" => update::limits_by_default(rt.alloc()),
         "save_target" | "cache" | "cache_metadata" => saves::play(rt, case),
+        "Target::from_path of the system" => errors::measured(rt, case),
         "Error" => errors::told(rt.alloc(), case),
         "schema::Error" => errors::told_of_schema(rt.alloc(), case),
         _ => Err(anyhow!("no call {call}")),
