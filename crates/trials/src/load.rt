@@ -1,12 +1,15 @@
 //! Loads of whole repositories over memory.
 
 use crate::outcome::tell;
+use crate::update::counted;
 use bytes::Bytes;
+use jiff::Timestamp as Instant;
 use serde_json::Value;
 use std::alloc::Global;
 use tough::schema::DemoVerify;
 use tough::{
-    Error, FixedClock, Limits, Loaded, MemoryTransport, RepositoryLoader, TargetName, Vault, drive,
+    Error, FixedClock, Limits, Loaded, MemoryStore, MemoryTransport, RepositoryLoader, TargetName,
+    Vault, drive,
 };
 use trials_devices::shelf::Shelf;
 use trials_devices::vault::enforcement;
@@ -160,4 +163,21 @@ pub(crate) fn loads(rt: &HostRuntime, case: &Value) -> anyhow::Result<String> {
         }
     }
     Ok(told)
+}
+
+/// What a load has counted before it runs.
+pub(crate) fn counts(alloc: Global) -> anyhow::Result<String> {
+    let mut vault = Vault::new(alloc, MemoryStore::new(alloc));
+    let metadata = Url::parse(alloc, "http://h/m/")?;
+    let targets = Url::parse(alloc, "http://h/t/")?;
+    let load = RepositoryLoader::new(alloc, b"", metadata, targets)
+        .transport(MemoryTransport::in_pieces(alloc, 100))
+        .verifier(DemoVerify)
+        .clock(FixedClock(Instant::UNIX_EPOCH))
+        .keeper(&mut vault)
+        .load()?;
+    let counts = load.core().counts();
+    drop(load);
+    drop(vault);
+    Ok(counted(alloc, counts)?)
 }

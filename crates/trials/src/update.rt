@@ -163,7 +163,7 @@ pub(crate) fn serve(alloc: Global, case: &Value) -> Result<String> {
 }
 
 // What an update has counted.
-fn counted(alloc: Global, counts: Counts) -> Result<String, AllocError> {
+pub(crate) fn counted(alloc: Global, counts: Counts) -> Result<String, AllocError> {
     format!(in alloc;
         "roots {}, delegated {}, kept {}, entries {}",
         counts.roots, counts.delegated, counts.kept, counts.entries
