@@ -28,9 +28,10 @@ use Rattle.tough_vault.specs.Files.{snapshot_file, targets_file}
 use Rattle.tough_update.specs.Failure.{Failure, ParseTrustedMetadata, VerifyTrustedMetadata, ParseMetadata, MaxUpdatesExceeded, Checked}
 use Rattle.tough_update.specs.Walk.{holds_json, if_read, if_verified, root_verdict, first_root}
 use Rattle.tough_update.specs.Outcomes.{unless, and_then}
+use Rattle.tough_update.proofs.Settling.{judged-to}
 use Rattle.tough_update.specs.Requests.{RequestDoc, fits_request, root_request, timestamp_request, snapshot_request, targets_request, role_request}
 use Rattle.tough_update.specs.Rotation.{is_rotated}
-use Rattle.tough_update.specs.Listed.{by_root, by_delegations, targets_text, targets_verdict, targets_checked, judged}
+use Rattle.tough_update.specs.Listed.{by_root, by_delegations, targets_text, targets_verdict, targets_refusal, judged}
 use Rattle.tough_update.specs.Delegated.{metas_in, role_holder, is_reserved, if_found, grown_on, roles_begun, role_given, role_stored, with_received}
 use Rattle.tough_delegated.specs.Bare.{bare, top_page, held_as}
 use Rattle.tough_delegated.specs.Full.{fetch_order}
@@ -209,18 +210,15 @@ module _ (v : Verifies) (files : Files) (s : SettingDoc) (l : LoadedDoc) (able :
   role-verified g name page r =
       ap (λ p. verdict v p (text_by targets_json page.role) page.signatures) r.there ∙ (ap (λ t. verdict v (Some r.asked) t page.signatures) r.canonical ∙ reaches-to v r.asked r.text page.signatures r.reached)
 
-  role-checked : (g : DelegationsDoc) (name : List ℕ) (page : SignedDoc TargetsDoc) (u : IsRoleServed v files s l.known g name page) → targets_checked v s.enforced l.known.start (by_delegations (Some g) name) u.entry.version page ≡ Ok (tt {0})
+  role-checked : (g : DelegationsDoc) (name : List ℕ) (page : SignedDoc TargetsDoc) (u : IsRoleServed v files s l.known g name page) → targets_refusal v s.enforced l.known.start (by_delegations (Some g) name) u.entry.version page ≡ None
   role-checked g name page u =
-      let fault : Refused → Failure = λ r. Checked (VerifyMetadata role.Targets (Some r)) in
-      let expiring : Bool → Result Unit Failure = λ b. unless (Checked (ExpiredMetadata role.Targets page.role.head.expires l.known.start)) (not b) (Ok (tt {0})) in
-      let versioned : Bool → Result Unit Failure = λ b. unless (Checked (VersionMismatch role.Targets page.role.head.version u.entry.version)) b (expiring (is_expired s.enforced l.known.start page.role.head.expires)) in
-      ap (λ w. if_verified fault w (versioned (page.role.head.version == u.entry.version))) (role-verified g name page u.signed)
+      let expiring : Bool → Option Reason = λ b. or_else (refuse b (ExpiredMetadata role.Targets page.role.head.expires l.known.start)) None in
+      let versioned : Bool → Option Reason = λ b. or_else (refuse (not b) (VersionMismatch role.Targets page.role.head.version u.entry.version)) (expiring (is_expired s.enforced l.known.start page.role.head.expires)) in
+      ap (λ w. or_else (verified role.Targets w) (versioned (page.role.head.version == u.entry.version))) (role-verified g name page u.signed)
       ∙ (ap versioned (eq-eqb _ _ u.version) ∙ ap expiring u.in_time)
 
   role-read : (g : DelegationsDoc) (name : List ℕ) (page : SignedDoc TargetsDoc) (u : IsRoleServed v files s l.known g name page) → judged v s.enforced l.known.start (by_delegations (Some g) name) u.entry.version u.document.bytes ≡ Ok (bare page)
-  role-read g name page u =
-      ap (λ o. if_read (ParseMetadata role.Targets (holds_json u.document.bytes)) o (λ d. and_then (targets_checked v s.enforced l.known.start (by_delegations (Some g) name) u.entry.version d) (λ x. Ok (bare d)))) u.document.reading
-      ∙ ap (λ r. and_then r (λ x. Ok (bare page))) (role-checked g name page u)
+  role-read g name page u = judged-to v s.enforced l.known.start (by_delegations (Some g) name) u.entry.version u.document.bytes page u.document.reading (role-checked g name page u)
 
   -- the document is stored, unless its file has a name by which nothing is
   role-stored : (n : ℕ) (r : RolesDoc) (file : List ℕ) (page : SignedDoc TargetsDoc) (reserved : Bool) → is_reserved file ≡ reserved → targets_text page ≢ None
@@ -296,18 +294,15 @@ module _ (v : Verifies) (files : Files) (s : SettingDoc) (l : LoadedDoc) (able :
   abbrev page : SignedDoc TargetsDoc
   page = top_page l.targets
 
-  checked : targets_checked v s.enforced l.known.start (by_root l.known.root.role) able.targets_entry.version page ≡ Ok (tt {0})
+  checked : targets_refusal v s.enforced l.known.start (by_root l.known.root.role) able.targets_entry.version page ≡ None
   checked =
-      let fault : Refused → Failure = λ r. Checked (VerifyMetadata role.Targets (Some r)) in
-      let expiring : Bool → Result Unit Failure = λ b. unless (Checked (ExpiredMetadata role.Targets page.role.head.expires l.known.start)) (not b) (Ok (tt {0})) in
-      let versioned : Bool → Result Unit Failure = λ b. unless (Checked (VersionMismatch role.Targets page.role.head.version able.targets_entry.version)) b (expiring (is_expired s.enforced l.known.start page.role.head.expires)) in
-      ap (λ w. if_verified fault w (versioned (page.role.head.version == able.targets_entry.version))) (signed-ok v l.known.root.role role.Targets targets_json page able.targets_signed)
+      let expiring : Bool → Option Reason = λ b. or_else (refuse b (ExpiredMetadata role.Targets page.role.head.expires l.known.start)) None in
+      let versioned : Bool → Option Reason = λ b. or_else (refuse (not b) (VersionMismatch role.Targets page.role.head.version able.targets_entry.version)) (expiring (is_expired s.enforced l.known.start page.role.head.expires)) in
+      ap (λ w. or_else (verified role.Targets w) (versioned (page.role.head.version == able.targets_entry.version))) (signed-ok v l.known.root.role role.Targets targets_json page able.targets_signed)
       ∙ (ap versioned (eq-eqb _ _ able.targets_version) ∙ ap expiring able.targets_in_time)
 
   read : judged v s.enforced l.known.start (by_root l.known.root.role) able.targets_entry.version able.targets.bytes ≡ Ok (bare page)
-  read =
-      ap (λ o. if_read (ParseMetadata role.Targets (holds_json able.targets.bytes)) o (λ d. and_then (targets_checked v s.enforced l.known.start (by_root l.known.root.role) able.targets_entry.version d) (λ u. Ok (bare d)))) able.targets.reading
-      ∙ ap (λ r. and_then r (λ u. Ok (bare page))) checked
+  read = judged-to v s.enforced l.known.start (by_root l.known.root.role) able.targets_entry.version able.targets.bytes page able.targets.reading checked
 
   moves-targets : new_targets v s.enforced l.known able.targets_entry.version able.targets.bytes ≡ Ok (at.Step (at.PutTargets l.known (bare page)))
   moves-targets = ap (λ r. and_then r (λ d. Ok (at.Step (at.PutTargets l.known d)))) read

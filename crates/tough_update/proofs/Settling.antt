@@ -1,7 +1,11 @@
 -- How a turn of the program ends.
-use Rattle.std.proofs.Common.{◌≡◌, ◌⊎◌, List, ℕ, ℤ, Bool, Some, None, Result, Ok, Err, refl, sym, ap, ◌∙◌, inl, inr}
+use Rattle.std.proofs.Common.{◌≡◌, ◌⊎◌, List, ℕ, ℤ, Bool, Option, Some, None, Result, Ok, Err, refl, sym, ap, subst, ◌∙◌, inl, inr}
 use Rattle.tough_keys.specs.Same.{Verifies}
-use Rattle.tough_update.specs.Failure.{Failure, ParseTrustedMetadata, VerifyTrustedMetadata, ParseMetadata, MaxUpdatesExceeded, ParseUrl, JoinUrl, Transport, InvalidPath, Checked, DatastoreOpen, DatastoreCreate, DatastoreRemove, Memory, IsRefused}
+use Rattle.tough_update.specs.Failure.{Failure, ParseTrustedMetadata, VerifyTrustedMetadata, ParseMetadata, MaxUpdatesExceeded, ParseUrl, JoinUrl, Transport, InvalidPath, Checked, DatastoreOpen, DatastoreCreate, DatastoreRemove, Memory, IsRefused, failure_of, step_failure}
+use Rattle.tough_vault.specs.Checks.{Reason}
+use Rattle.tough_vault.specs.Checks as vault
+use Rattle.tough_vault.specs.declared.checks.StepError.{StepError}
+use Rattle.tough_vault.specs.declared.checks.StepError.TheVariants as steps
 use Rattle.tough_update.specs.Stages.{StageDoc, CoreDoc, Done}
 use Rattle.tough_update.specs.Answered.{AnswerDoc}
 use Rattle.tough_update.specs.Machine.{settled, stage_after}
@@ -10,8 +14,8 @@ use Rattle.tough_roles.specs.Signature.{SignedDoc}
 use Rattle.tough_roles.specs.declared.role_type.RoleType.TheVariants as role
 use Rattle.tough_schema.specs.Targets.{TargetsDoc}
 use Rattle.tough_delegated.specs.Bare.{bare}
-use Rattle.tough_update.specs.Listed.{HolderDoc, targets_in, targets_checked, judged}
-use Rattle.tough_update.specs.Outcomes.{and_then}
+use Rattle.tough_update.specs.Listed.{HolderDoc, targets_in, targets_refusal, judged}
+use Rattle.tough_update.specs.Outcomes.{unrefused}
 use Rattle.tough_update.specs.View.{stage_doc}
 use Rattle.tough_update.specs.Walk.{if_read, holds_json}
 use Rattle.tough_update.specs.declared.error.UpdateError.{UpdateError}
@@ -60,7 +64,23 @@ unended in_stage.Taken h = refl
 
 -- targets that were read and checked
 pub judged-to : (v : Verifies) (enforced : Bool) (start : ℤ) (holder : HolderDoc) (listed : ℕ) (bytes : List ℕ) (page : SignedDoc TargetsDoc) → targets_in bytes ≡ Some page
-    → targets_checked v enforced start holder listed page ≡ Ok (tt {0}) → judged v enforced start holder listed bytes ≡ Ok (bare page)
+    → targets_refusal v enforced start holder listed page ≡ None → judged v enforced start holder listed bytes ≡ Ok (bare page)
 judged-to v enforced start holder listed bytes page h k =
-    ap (λ o. if_read (ParseMetadata role.Targets (holds_json bytes)) o (λ d. and_then (targets_checked v enforced start holder listed d) (λ u. Ok (bare d)))) h
-    ∙ ap (λ r. and_then r (λ u. Ok (bare page))) k
+    ap (λ o. if_read (ParseMetadata role.Targets (holds_json bytes)) o (λ d. unrefused (targets_refusal v enforced start holder listed d) (bare d))) h
+    ∙ ap (λ o. unrefused o (bare page)) k
+
+-- a step's refusal is told as it is
+pub refused-so : {U A : Type 0} (o : Option Reason) (a : A) (s : StepError) → vault.Checked {A = U} o (Err s) → IsRefused (step_failure s) (unrefused o a)
+refused-so o a (steps.Refused r) h = ap (λ x. unrefused x a) h
+refused-so o a steps.Memory h = tt
+refused-so o a (steps.DatastoreOpen path) h = absurd h
+refused-so o a (steps.DatastoreCreate path) h = absurd h
+refused-so o a (steps.DatastoreRemove path) h = absurd h
+
+-- targets that were read, and refused
+pub judged-not : (v : Verifies) (enforced : Bool) (start : ℤ) (holder : HolderDoc) (listed : ℕ) (bytes : List ℕ) (page : SignedDoc TargetsDoc) (s : StepError) (e : UpdateError) → targets_in bytes ≡ Some page
+    → vault.Checked {A = Unit {0}} (targets_refusal v enforced start holder listed page) (Err s) → failure_of e ≡ step_failure s → IsRefused (failure_of e) (judged v enforced start holder listed bytes)
+judged-not v enforced start holder listed bytes page s e h k f =
+    subst (λ x. IsRefused x (judged v enforced start holder listed bytes)) (sym f)
+    (subst (IsRefused (step_failure s)) (sym (ap (λ o. if_read (ParseMetadata role.Targets (holds_json bytes)) o (λ d. unrefused (targets_refusal v enforced start holder listed d) (bare d))) h))
+    (refused-so {U = Unit {0}} (targets_refusal v enforced start holder listed page) (bare page) s k))

@@ -22,9 +22,9 @@ use Rattle.tough_update.specs.Failure.{Failure, ParseTrustedMetadata, VerifyTrus
 use Rattle.tough_update.specs.Walk.{holds_json, first_root, next_root, root_verdict, if_read, if_verified, if_next}
 use Rattle.tough_update.specs.Requests.{RequestDoc, bound, stated_digest, has_digest, fits_request, root_request, timestamp_request}
 use Rattle.tough_schema.specs.Targets.{TargetsDoc, targets_json}
-use Rattle.tough_update.specs.Outcomes.{unless, and_then}
+use Rattle.tough_update.specs.Outcomes.{unless, unrefused, and_then}
 use Rattle.tough_update.specs.Rotation.{is_rotated}
-use Rattle.tough_update.specs.Listed.{targets_in, HolderDoc, by_root, by_delegations, targets_verdict, targets_checked, judged}
+use Rattle.tough_update.specs.Listed.{targets_in, HolderDoc, by_root, by_delegations, targets_verdict, targets_refusal, judged}
 use Rattle.tough_update.specs.Delegated.{first_name, wanted_name, role_holder, metas_in, is_reserved, if_found, grown_on, roles_begun, given, role_given, role_stored, with_received, new_role}
 use Rattle.tough_names.specs.Named.{Named as ListedName}
 use Rattle.tough_roles.specs.Policy.{Policy}
@@ -79,6 +79,9 @@ pub is_verified : (type : RoleType) (v : Result Unit Refused) → verified type 
 is_verified type (Ok u) h = refl
 is_verified type (Err r) h = cc
 
+pub not-expired : (type : RoleType) (enforced : Bool) (start expires : ℤ) → expiry type enforced start expires ≡ None → is_expired enforced start expires ≡ false
+not-expired type enforced start expires h = refuse-none (is_expired enforced start expires) (ExpiredMetadata type expires start) h
+
 -- ---- requests that bytes fit
 
 pub has-true : (b c : Bool) → IsTrue (b && c) → IsTrue b × IsTrue c
@@ -127,24 +130,21 @@ next-fine verifies old bytes root h =
     let n = if-ok (r.0.role.head.version == old.role.head.version + 1) r.0 root (Checked (OlderMetadata role.Root old.role.head.version r.0.role.head.version)) v.1 in
     subst (λ (x : SignedDoc RootDoc). IsNext verifies old x) n.1 (follows verifies old.role old r.0 refl u.0 v.0 (eqb-true _ _ n.0))
 
-unless-ok : {A : Type 0} (f : Failure) (b : Bool) (r : Result A Failure) (a : A) → unless f b r ≡ Ok a → IsTrue b × (r ≡ Ok a)
-unless-ok f true r a h = (refl, h)
-unless-ok f false r a h = cc
+unrefused-ok : {A : Type 0} (o : Option Reason) (x y : A) → unrefused o x ≡ Ok y → (o ≡ None) × (x ≡ y)
+unrefused-ok None x y h = (refl, cc)
+unrefused-ok (Some r) x y h = cc
 
 -- targets that passed their checks
-checked-ok : (verifies : Verifies) (enforced : Bool) (start : ℤ) (holder : HolderDoc) (listed : ℕ) (d : SignedDoc TargetsDoc) (u : Unit {0}) → targets_checked verifies enforced start holder listed d ≡ Ok u
+checked-ok : (verifies : Verifies) (enforced : Bool) (start : ℤ) (holder : HolderDoc) (listed : ℕ) (d : SignedDoc TargetsDoc) → targets_refusal verifies enforced start holder listed d ≡ None
     → (targets_verdict verifies holder d ≡ Ok (tt {0})) × (d.role.head.version ≡ listed) × (is_expired enforced start d.role.head.expires ≡ false)
-checked-ok verifies enforced start holder listed d u h =
-    let expiring = unless (Checked (ExpiredMetadata role.Targets d.role.head.expires start)) (not (is_expired enforced start d.role.head.expires)) (Ok (tt {0})) in
-    let v = if_verified-ok (λ x. Checked (VerifyMetadata role.Targets (Some x))) (targets_verdict verifies holder d)
-    (unless (Checked (VersionMismatch role.Targets d.role.head.version listed)) (d.role.head.version == listed) expiring) u h in
-    let w = unless-ok (Checked (VersionMismatch role.Targets d.role.head.version listed)) (d.role.head.version == listed) expiring u v.1 in
-    let x = unless-ok (Checked (ExpiredMetadata role.Targets d.role.head.expires start)) (not (is_expired enforced start d.role.head.expires)) (Ok (tt {0})) u w.1 in
-    (v.0, eqb-true _ _ w.0, not-true _ x.0)
-
-and_then-ok : {A B : Type 0} (r : Result A Failure) (f : A → Result B Failure) (b : B) → and_then r f ≡ Ok b → (a : A) × (r ≡ Ok a) × (f a ≡ Ok b)
-and_then-ok (Ok a) f b h = (a, refl, h)
-and_then-ok (Err e) f b h = cc
+checked-ok verifies enforced start holder listed d h =
+    let mismatch = VersionMismatch role.Targets d.role.head.version listed in
+    let expiring = expiry role.Targets enforced start d.role.head.expires in
+    let later = or_second (verified role.Targets (targets_verdict verifies holder d)) (or_else (refuse (not (d.role.head.version == listed)) mismatch) (or_else expiring None)) h in (
+      is_verified role.Targets (targets_verdict verifies holder d) (or_first _ _ h),
+      eqb-true _ _ (not_refused (d.role.head.version == listed) mismatch (or_first _ _ later)),
+      not-expired role.Targets enforced start d.role.head.expires (or_first _ _ (or_second (refuse (not (d.role.head.version == listed)) mismatch) (or_else expiring None) later)),
+    )
 
 -- targets that were read and passed
 pub record Passed (verifies : Verifies) (enforced : Bool) (start : ℤ) (holder : HolderDoc) (listed : ℕ) (bytes : List ℕ) (d : SignedDoc TreeDoc) : Type 0 where
@@ -158,10 +158,10 @@ pub record Passed (verifies : Verifies) (enforced : Bool) (start : ℤ) (holder 
 pub judged-ok : (verifies : Verifies) (enforced : Bool) (start : ℤ) (holder : HolderDoc) (listed : ℕ) (bytes : List ℕ) (d : SignedDoc TreeDoc) → judged verifies enforced start holder listed bytes ≡ Ok d
     → Passed verifies enforced start holder listed bytes d
 judged-ok verifies enforced start holder listed bytes d h =
-    let r = if_read-ok (ParseMetadata role.Targets (holds_json bytes)) (targets_in bytes) (λ x. and_then (targets_checked verifies enforced start holder listed x) (λ u. Ok (bare x))) d h in
-    let p = and_then-ok (targets_checked verifies enforced start holder listed r.0) (λ u. Ok (bare r.0)) d r.2 in
-    let c = checked-ok verifies enforced start holder listed r.0 p.0 p.1 in
-    record { page = r.0; is = cc (p.2); reading = r.1; verified = c.0; version = c.1; in_time = c.2 }
+    let r = if_read-ok (ParseMetadata role.Targets (holds_json bytes)) (targets_in bytes) (λ x. unrefused (targets_refusal verifies enforced start holder listed x) (bare x)) d h in
+    let p = unrefused-ok (targets_refusal verifies enforced start holder listed r.0) (bare r.0) d r.2 in
+    let c = checked-ok verifies enforced start holder listed r.0 p.0 in
+    record { page = r.0; is = sym p.1; reading = r.1; verified = c.0; version = c.1; in_time = c.2 }
 
 -- ---- delegations that vouch
 
@@ -186,9 +186,6 @@ first-entry (e ∷ rest) U h = h
 
 le_from_lt : (a b : ℤ) → int_lt a b ≡ false → b ≤ℤ a
 le_from_lt a b h = omega (arith, signed_arith, h)
-
-pub not-expired : (type : RoleType) (enforced : Bool) (start expires : ℤ) → expiry type enforced start expires ≡ None → is_expired enforced start expires ≡ false
-not-expired type enforced start expires h = refuse-none (is_expired enforced start expires) (ExpiredMetadata type expires start) h
 
 pub in-time : (enforced : Bool) (start expires : ℤ) → enforced ≡ true → is_expired enforced start expires ≡ false → start ≤ℤ expires
 in-time true start expires e h = le_from_lt expires start h

@@ -1,5 +1,5 @@
 -- Targets as an update takes them: those of a repository, and the documents of delegated roles (TUF specification 1.0, section 5.6).
-use Rattle.std.specs.Prelude.{ℕ, ℤ, ◌==◌, List, Option, Some, Bool, not, option_and_then, Result, Ok}
+use Rattle.std.specs.Prelude.{ℕ, ℤ, ◌==◌, List, [], ◌∷◌, Option, Bool, not, option_and_then, Result}
 use Rattle.tough_json.specs.Results.{json_of}
 use Rattle.tough_keys.specs.Same.{Verifies}
 use Rattle.tough_roles.specs.Signature.{SignedDoc, signed_at, signed_json}
@@ -13,11 +13,11 @@ use Rattle.tough_schema.specs.Targets.{TargetsDoc, targets_at, targets_json}
 use Rattle.tough_schema.specs.Verify.{delegated_policy}
 use Rattle.tough_schema.specs.Whole.{TreeDoc}
 use Rattle.tough_delegated.specs.Bare.{bare}
-use Rattle.tough_vault.specs.Checks.{VerifyMetadata, VersionMismatch, ExpiredMetadata, is_expired}
+use Rattle.tough_vault.specs.Checks.{Reason, VersionMismatch, first_of, refuse, verified, expiry}
 use Rattle.tough_vault.specs.Documents.{stored_text}
-use Rattle.tough_update.specs.Failure.{Failure, ParseMetadata, Checked}
-use Rattle.tough_update.specs.Walk.{if_read, holds_json, if_verified}
-use Rattle.tough_update.specs.Outcomes.{unless, and_then}
+use Rattle.tough_update.specs.Failure.{Failure, ParseMetadata}
+use Rattle.tough_update.specs.Walk.{if_read, holds_json}
+use Rattle.tough_update.specs.Outcomes.{unrefused}
 
 -- the signed targets that bytes are
 abbrev pub targets_in : List ℕ → Option (SignedDoc TargetsDoc)
@@ -40,14 +40,16 @@ policy_in (by_delegations g name) = option_and_then (λ d. delegated_policy d na
 abbrev pub targets_verdict : Verifies → HolderDoc → SignedDoc TargetsDoc → Result Unit Refused
 targets_verdict verifies holder d = verdict verifies (policy_in holder) (text_by targets_json d.role) d.signatures
 
--- they must reach the threshold, have the listed version, and not be expired when the update began
-abbrev pub targets_checked : Verifies → Bool → ℤ → HolderDoc → ℕ → SignedDoc TargetsDoc → Result Unit Failure
-targets_checked verifies enforced start holder listed d = if_verified (λ r. Checked (VerifyMetadata role.Targets (Some r))) (targets_verdict verifies holder d)
-    (unless (Checked (VersionMismatch role.Targets d.role.head.version listed)) (d.role.head.version == listed)
-    (unless (Checked (ExpiredMetadata role.Targets d.role.head.expires start)) (not (is_expired enforced start d.role.head.expires))
-    (Ok (tt {0}))))
+-- The check that refuses them, if one does: they must reach the threshold, have the listed version, and not be expired when the update
+-- began.
+abbrev pub targets_refusal : Verifies → Bool → ℤ → HolderDoc → ℕ → SignedDoc TargetsDoc → Option Reason
+targets_refusal verifies enforced start holder listed d = first_of
+    (verified role.Targets (targets_verdict verifies holder d)
+    ∷ refuse (not (d.role.head.version == listed)) (VersionMismatch role.Targets d.role.head.version listed)
+    ∷ expiry role.Targets enforced start d.role.head.expires
+    ∷ [])
 
 -- targets that were read and checked; none of their roles has a document
 abbrev pub judged : Verifies → Bool → ℤ → HolderDoc → ℕ → List ℕ → Result (SignedDoc TreeDoc) Failure
 judged verifies enforced start holder listed bytes = if_read (ParseMetadata role.Targets (holds_json bytes)) (targets_in bytes) (λ d.
-    and_then (targets_checked verifies enforced start holder listed d) (λ u. Ok (bare d)))
+    unrefused (targets_refusal verifies enforced start holder listed d) (bare d))

@@ -6,7 +6,7 @@ ghost use Rattle.tough_roles.specs.Signature.{signed_doc};
 ghost use Rattle.tough_roles.specs.Root.{root_doc};
 ghost use Rattle.tough_roles.specs.Timestamp.{timestamp_doc, metafile_doc, metafiles_doc};
 ghost use Rattle.tough_roles.specs.Snapshot.{snapshot_doc};
-ghost use Rattle.tough_vault.specs.Checks.{enforces, is_expired};
+ghost use Rattle.tough_vault.specs.Checks.{enforces};
 ghost use Rattle.tough_vault.specs.Documents.{metafile_in, timestamp_in, snapshot_in};
 ghost use Rattle.tough_vault.specs.Files.{snapshot_file, targets_file};
 ghost use Rattle.tough_update.specs.Failure.{Gives, failure_of};
@@ -18,7 +18,7 @@ ghost use Rattle.tough_roles.specs.declared.role_type.RoleType.TheVariants as ty
 ghost use Rattle.tough_update.specs.View.{walk_doc, base_doc, known_doc, wanted_doc, pending_doc, stage_doc, setting_doc, step_doc, request_doc};
 
 use crate::error::UpdateError;
-use crate::judge::{Holder, is_expired, judge};
+use crate::judge::{Holder, judge};
 use crate::limits::Limits;
 use crate::request::{
     Fault, Request, root_request, snapshot_request, targets_request, timestamp_request,
@@ -32,7 +32,7 @@ use std::alloc::Global;
 use std::collections::BTreeMap;
 use tough_net::TransportErrorKind;
 use tough_roles::{Metafile, ReadError, RoleType, Signed, Snapshot, Timestamp, Verify};
-use tough_vault::{ExpirationEnforcement, Refusal, StepError};
+use tough_vault::{ExpirationEnforcement, Refusal, StepError, check_expiry};
 use url::ParseError;
 
 /// What the caller set.
@@ -121,12 +121,8 @@ fn end_walk(
         (walk_ended limits.now (enforces enforcement) (walk_doc walk)) result }
 {
     let last = &walk.last().signed;
-    if is_expired(enforcement, walk.start, last.expires) {
-        return Err(UpdateError::Refused(Refusal::ExpiredMetadata {
-            role: RoleType::Root,
-            expires: last.expires,
-            now: walk.start,
-        }));
+    if let Err(error) = check_expiry(RoleType::Root, enforcement, walk.start, last.expires) {
+        return Err(UpdateError::from(error));
     }
     if is_rotated(&walk.first.signed, last) {
         return Ok(Stage::Step(Pending::Clear(walk.into_base())));

@@ -1,13 +1,14 @@
 //! The checks of the steps, in their order.
 
-ghost use Rattle.std.specs.Prelude.{◌≡◌, true, option_map, option_copied};
+ghost use Rattle.std.specs.Prelude.{◌≡◌, ◌==◌, true, not, option_map, option_copied};
 ghost use Rattle.tough_roles.specs.Signature.{signed_doc};
 ghost use Rattle.tough_roles.specs.Root.{root_doc};
 ghost use Rattle.tough_roles.specs.Timestamp.{timestamp_doc, metafile_doc};
+ghost use Rattle.tough_roles.specs.Verdict.{Answers};
 ghost use Rattle.tough_vault.specs.Documents.{timestamp_verdict, metafile_in};
 ghost use Rattle.tough_vault.specs.Files.{snapshot_file};
 ghost use Rattle.tough_vault.specs.Journal.{pair_of, pair_where, time_where};
-ghost use Rattle.tough_vault.specs.Checks.{Checked, expiry, later, time_after, snapshot_version, timestamp_form, timestamp_first, timestamp_older, timestamp_below, timestamp_against, timestamp_tip, timestamp_after, timestamp_where, enforces};
+ghost use Rattle.tough_vault.specs.Checks.{Checked, VersionMismatch, refuse, verified, expiry, later, time_after, snapshot_version, timestamp_form, timestamp_first, timestamp_older, timestamp_below, timestamp_against, timestamp_tip, timestamp_after, timestamp_where, enforces};
 
 use crate::entry::TimestampVersions;
 use jiff::Timestamp as Instant;
@@ -226,6 +227,33 @@ fn check_form(timestamp: &Timestamp) -> Result<(), StepError>
     Ok(())
 }
 
+/// A document of this role is signed as its keys and threshold demand, by what its verification answers: else `VerifyMetadata` with the
+/// refusal, or `Memory` (TUF specification 5.3 to 5.6).
+pub fn check_signed(role: RoleType, answer: Result<(), Error>) -> Result<(), StepError>
+    ensures { (verdict : _) → Answers answer verdict → Checked (verified role verdict) result }
+{
+    match answer {
+        Ok(()) => Ok(()),
+        Err(Error::Memory) => Err(StepError::Memory),
+        Err(source) => Err(StepError::Refused(Refusal::VerifyMetadata { role, source })),
+    }
+}
+
+/// A document has the version under which it is listed, or else `VersionMismatch` (TUF specification 5.5.4 and 5.6.4).
+pub fn check_version(role: RoleType, fetched: u64, listed: u64) -> Result<(), StepError>
+    ensures { Checked (refuse (not (fetched == listed)) (VersionMismatch role fetched listed))
+        result }
+{
+    if fetched != listed {
+        return Err(StepError::Refused(Refusal::VersionMismatch {
+            role,
+            fetched,
+            expected: listed,
+        }));
+    }
+    Ok(())
+}
+
 /// Before the stored timestamp is read.
 pub(crate) fn check_timestamp<V: Verify>(
     alloc: Global,
@@ -237,14 +265,8 @@ pub(crate) fn check_timestamp<V: Verify>(
         (timestamp_verdict (V.verifies verifier.now) (root_doc root.now)
         (signed_doc timestamp_doc new.now)) (timestamp_doc new.now.signed)) result }
 {
-    match root.verify_role(alloc, new, verifier) {
-        Ok(()) => check_form(&new.signed),
-        Err(Error::Memory) => Err(StepError::Memory),
-        Err(source) => Err(StepError::Refused(Refusal::VerifyMetadata {
-            role: RoleType::Timestamp,
-            source,
-        })),
-    }
+    check_signed(RoleType::Timestamp, root.verify_role(alloc, new, verifier))?;
+    check_form(&new.signed)
 }
 
 // The timestamp's version isn't lower than an older one's.
@@ -305,8 +327,9 @@ fn check_tip(tip: Option<TimestampVersions>, new: &Timestamp) -> Result<(), Step
     check_not_below(tip, new)
 }
 
-/// The update began no later than the document expires, where that is enforced.
-pub(crate) fn check_expiry(
+/// The update began no later than a document of this role expires, where that is enforced, or else `ExpiredMetadata` (TUF specification
+/// 5.3.10, 5.4.4, 5.5.6 and 5.6.5).
+pub fn check_expiry(
     role: RoleType,
     enforcement: ExpirationEnforcement,
     start: Instant,

@@ -17,7 +17,9 @@ mod snapshot_step;
 mod store;
 mod vault;
 
-pub use checks::{ExpirationEnforcement, Refusal, StepError};
+pub use checks::{
+    ExpirationEnforcement, Refusal, StepError, check_expiry, check_signed, check_version,
+};
 pub use clock::{Clock, FixedClock, SystemClock};
 pub use document_name::DocumentName;
 pub use entry::{Entry, ListedVersion, Receipt, SnapshotVersions, TimestampVersions, Tip};

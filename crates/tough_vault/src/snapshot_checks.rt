@@ -11,12 +11,14 @@ ghost use Rattle.tough_vault.specs.Journal.{roles_where, items_of, roles_of, ver
 ghost use Rattle.tough_vault.specs.Checks.{Checked, items_in, snapshot_form, snapshot_first, fallen_at, fallen, snapshot_older, snapshot_against, snapshot_tip, snapshot_after, snapshot_where, enforces};
 ghost use Rattle.tough_vault.specs.Steps.{roles_in};
 
-use crate::checks::{ExpirationEnforcement, Refusal, StepError, check_expiry};
+use crate::checks::{
+    ExpirationEnforcement, Refusal, StepError, check_expiry, check_signed, check_version,
+};
 use crate::entry::{ListedVersion, SnapshotVersions};
 use jiff::Timestamp as Instant;
 use std::alloc::{AllocError, Global};
 use std::collections::BTreeMap;
-use tough_roles::{Error, Metafile, RoleType, Root, Signed, Snapshot, Verify};
+use tough_roles::{Metafile, RoleType, Root, Signed, Snapshot, Verify};
 
 // A snapshot lists `targets.json`.
 fn check_form(snapshot: &Snapshot) -> Result<(), StepError>
@@ -50,22 +52,9 @@ pub(crate) fn check_snapshot<V: Verify>(
         (snapshot_verdict (V.verifies verifier.now) (root_doc root.now)
         (signed_doc snapshot_doc new.now)) (snapshot_doc new.now.signed)) result }
 {
-    let fetched = new.signed.version.get();
-    if fetched != listed {
-        return Err(StepError::Refused(Refusal::VersionMismatch {
-            role: RoleType::Snapshot,
-            fetched,
-            expected: listed,
-        }));
-    }
-    match root.verify_role(alloc, new, verifier) {
-        Ok(()) => check_form(&new.signed),
-        Err(Error::Memory) => Err(StepError::Memory),
-        Err(source) => Err(StepError::Refused(Refusal::VerifyMetadata {
-            role: RoleType::Snapshot,
-            source,
-        })),
-    }
+    check_version(RoleType::Snapshot, new.signed.version.get(), listed)?;
+    check_signed(RoleType::Snapshot, root.verify_role(alloc, new, verifier))?;
+    check_form(&new.signed)
 }
 
 // The version that is listed for a name.
