@@ -19,7 +19,7 @@ use Rattle.tough_roles.specs.declared.role_type.RoleType.{RoleType}
 use Rattle.tough_roles.specs.declared.role_type.RoleType.TheVariants as role
 use Rattle.tough_roles.proofs.lemmas.Reached.{reaches-to}
 use Rattle.tough_schema.specs.Targets.{TargetsDoc, targets_json}
-use Rattle.tough_vault.specs.Checks.{Reason, VerifyMetadata, VersionMismatch, TimestampMetaLength, MissingSnapshotMeta, SnapshotTargetsMetaMissing, ExpiredMetadata, refuse, or_else, is_expired, expiry, verified, timestamp_form, snapshot_form}
+use Rattle.tough_vault.specs.Checks.{Reason, VersionMismatch, TimestampMetaLength, MissingSnapshotMeta, SnapshotTargetsMetaMissing, ExpiredMetadata, refuse, or_else, is_expired, expiry, verified, timestamp_form, snapshot_form}
 use Rattle.tough_vault.specs.Documents.{root_text, snapshot_verdict, metafile_in}
 use Rattle.tough_vault.specs.Steps.{time_text, needs}
 use Rattle.tough_vault.specs.Act.{Act}

@@ -1,11 +1,7 @@
 -- How a turn of the program ends.
-use Rattle.std.proofs.Common.{◌≡◌, ◌⊎◌, List, ℕ, ℤ, Bool, Option, Some, None, Result, Ok, Err, refl, sym, ap, subst, ◌∙◌, inl, inr}
+use Rattle.std.proofs.Common.{◌≡◌, ◌⊎◌, List, ℕ, ℤ, Bool, Some, None, Result, Ok, Err, refl, sym, ap, ◌∙◌, inl, inr}
 use Rattle.tough_keys.specs.Same.{Verifies}
-use Rattle.tough_update.specs.Failure.{Failure, ParseTrustedMetadata, VerifyTrustedMetadata, ParseMetadata, MaxUpdatesExceeded, ParseUrl, JoinUrl, Transport, InvalidPath, Checked, DatastoreOpen, DatastoreCreate, DatastoreRemove, Memory, IsRefused, failure_of, step_failure}
-use Rattle.tough_vault.specs.Checks.{Reason}
-use Rattle.tough_vault.specs.Checks as vault
-use Rattle.tough_vault.specs.declared.checks.StepError.{StepError}
-use Rattle.tough_vault.specs.declared.checks.StepError.TheVariants as steps
+use Rattle.tough_update.specs.Failure.{Failure, ParseTrustedMetadata, VerifyTrustedMetadata, ParseMetadata, MaxUpdatesExceeded, ParseUrl, JoinUrl, Transport, InvalidPath, Checked, DatastoreOpen, DatastoreCreate, DatastoreRemove, Memory, IsRefused}
 use Rattle.tough_update.specs.Stages.{StageDoc, CoreDoc, Done}
 use Rattle.tough_update.specs.Answered.{AnswerDoc}
 use Rattle.tough_update.specs.Machine.{settled, stage_after}
@@ -68,19 +64,3 @@ pub judged-to : (v : Verifies) (enforced : Bool) (start : ℤ) (holder : HolderD
 judged-to v enforced start holder listed bytes page h k =
     ap (λ o. if_read (ParseMetadata role.Targets (holds_json bytes)) o (λ d. unrefused (targets_refusal v enforced start holder listed d) (bare d))) h
     ∙ ap (λ o. unrefused o (bare page)) k
-
--- a step's refusal is told as it is
-pub refused-so : {U A : Type 0} (o : Option Reason) (a : A) (s : StepError) → vault.Checked {A = U} o (Err s) → IsRefused (step_failure s) (unrefused o a)
-refused-so o a (steps.Refused r) h = ap (λ x. unrefused x a) h
-refused-so o a steps.Memory h = tt
-refused-so o a (steps.DatastoreOpen path) h = absurd h
-refused-so o a (steps.DatastoreCreate path) h = absurd h
-refused-so o a (steps.DatastoreRemove path) h = absurd h
-
--- targets that were read, and refused
-pub judged-not : (v : Verifies) (enforced : Bool) (start : ℤ) (holder : HolderDoc) (listed : ℕ) (bytes : List ℕ) (page : SignedDoc TargetsDoc) (s : StepError) (e : UpdateError) → targets_in bytes ≡ Some page
-    → vault.Checked {A = Unit {0}} (targets_refusal v enforced start holder listed page) (Err s) → failure_of e ≡ step_failure s → IsRefused (failure_of e) (judged v enforced start holder listed bytes)
-judged-not v enforced start holder listed bytes page s e h k f =
-    subst (λ x. IsRefused x (judged v enforced start holder listed bytes)) (sym f)
-    (subst (IsRefused (step_failure s)) (sym (ap (λ o. if_read (ParseMetadata role.Targets (holds_json bytes)) o (λ d. unrefused (targets_refusal v enforced start holder listed d) (bare d))) h))
-    (refused-so {U = Unit {0}} (targets_refusal v enforced start holder listed page) (bare page) s k))

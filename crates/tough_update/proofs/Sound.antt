@@ -22,7 +22,7 @@ use Rattle.tough_update.specs.Failure.{Failure, ParseTrustedMetadata, VerifyTrus
 use Rattle.tough_update.specs.Walk.{holds_json, first_root, next_root, root_verdict, if_read, if_verified, if_next}
 use Rattle.tough_update.specs.Requests.{RequestDoc, bound, stated_digest, has_digest, fits_request, root_request, timestamp_request}
 use Rattle.tough_schema.specs.Targets.{TargetsDoc, targets_json}
-use Rattle.tough_update.specs.Outcomes.{unless, unrefused, and_then}
+use Rattle.tough_update.specs.Outcomes.{unrefused}
 use Rattle.tough_update.specs.Rotation.{is_rotated}
 use Rattle.tough_update.specs.Listed.{targets_in, HolderDoc, by_root, by_delegations, targets_verdict, targets_refusal, judged}
 use Rattle.tough_update.specs.Delegated.{first_name, wanted_name, role_holder, metas_in, is_reserved, if_found, grown_on, roles_begun, given, role_given, role_stored, with_received, new_role}

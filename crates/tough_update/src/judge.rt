@@ -1,6 +1,5 @@
 //! Whether targets are taken: those of a repository, and those of a delegated role (TUF specification 5.6).
 
-ghost use Rattle.std.specs.Prelude.{◌≡◌};
 ghost use Rattle.tough_roles.specs.Signature.{signed_doc};
 ghost use Rattle.tough_roles.specs.Verdict.{Answers};
 ghost use Rattle.tough_vault.specs.Checks.{Checked, enforces};
