@@ -79,19 +79,19 @@ where
     Repository::new(load, loaded)
 }
 
-// Loads a repository over a transport that the runtime serves, by this keeper, and gives the load back beside its documents.
-fn load_by<R, T, K>(
+/// Loads a repository over a transport that the runtime serves, by this keeper.
+pub(crate) fn open_by<R, T, K>(
     rt: &R,
     runtime: &mut LocalRuntime,
     transport: T,
     keeper: K,
     wanted: Wanted<'_>,
-) -> Result<(Loaded, Load<T, K, SystemClock<R>, DemoVerify>), Fault>
+) -> Result<Repository<T, K, SystemClock<R>>, Fault>
 where
     R: rt::Files + Wait + rt::Clock + RandomSource + AllocGlobal + Clone + Drop,
     T: Transport,
     K: Keeper,
-    ensures { IfOk result (λ both. IsVouchedFor (loaded_doc both.0)) }
+    ensures { IfOk result (λ r. IsVouchedFor (documents_of r)) }
 {
     let clock = SystemClock::new(rt.clone()?);
     let root = wanted.root;
@@ -109,31 +109,11 @@ where
         Err(error) => return Err(Fault::Run(error)),
     };
     match outcome {
-        Ok(loaded) => Ok((loaded, load)),
+        Ok(loaded) => Ok(opened(load, loaded)),
         Err(error) => {
             drop(load);
             Err(Fault::Load(Error::from(error)))
         }
-    }
-}
-
-/// Loads a repository over a transport that the runtime serves, by this keeper.
-pub(crate) fn open_by<R, T, K>(
-    rt: &R,
-    runtime: &mut LocalRuntime,
-    transport: T,
-    keeper: K,
-    wanted: Wanted<'_>,
-) -> Result<Repository<T, K, SystemClock<R>>, Fault>
-where
-    R: rt::Files + Wait + rt::Clock + RandomSource + AllocGlobal + Clone + Drop,
-    T: Transport,
-    K: Keeper,
-    ensures { IfOk result (λ r. IsVouchedFor (documents_of r)) }
-{
-    match load_by(rt, runtime, transport, keeper, wanted) {
-        Ok((loaded, load)) => Ok(opened(load, loaded)),
-        Err(fault) => Err(fault),
     }
 }
 
