@@ -2,7 +2,7 @@
 use Rattle.std.specs.Prelude.{◌≡◌, List, Result, Ok, IfOk, true}
 use Rattle.std.proofs.Common.{subst}
 use Rattle.tough_keys.specs.Demo.{demo_verifies}
-use Rattle.tough_update.specs.declared.error.UpdateError.{UpdateError}
+use Rattle.tough_trust.specs.declared.error.UpdateError.{UpdateError}
 use Rattle.tough_update.specs.declared.stage.Loaded.{Loaded}
 use Rattle.tough_update.specs.Answered.{AnswerDoc}
 use Rattle.tough_update.specs.Runs as runs

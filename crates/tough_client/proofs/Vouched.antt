@@ -9,7 +9,7 @@ use Rattle.tough_vault.specs.declared.checks.StepError.{StepError}
 use Rattle.tough_vault.specs.Act.{Act}
 use Rattle.tough_net.specs.declared.error.TransportError.{TransportError}
 use Rattle.tough_net.specs.Items.{Item}
-use Rattle.tough_update.specs.declared.error.UpdateError.{UpdateError}
+use Rattle.tough_trust.specs.declared.error.UpdateError.{UpdateError}
 use Rattle.tough_update.specs.declared.stage.Loaded.{Loaded}
 use Rattle.tough_update.specs.Stages.{CoreDoc}
 use Rattle.tough_update.specs.View.{loaded_doc, outcome_doc}

@@ -20,7 +20,7 @@ use Rattle.tough_net.specs.Limiting.{limited}
 use Rattle.tough_vault.specs.Act.{Act}
 use Rattle.tough_vault.specs.declared.checks.StepError.{StepError}
 use Rattle.tough_vault.specs.declared.entry.Receipt.{Receipt}
-use Rattle.tough_update.specs.Requests.{RequestDoc}
+use Rattle.tough_trust.specs.Requests.{RequestDoc}
 use Rattle.tough_update.specs.Stages.{LoadedDoc}
 use Rattle.tough_error.specs.declared.error.Error.{Error}
 use Rattle.tough_error.specs.declared.error.Error.TheVariants as error

@@ -13,8 +13,8 @@ use Rattle.tough_schema.specs.Targets.{delegated_file}
 use Rattle.tough_schema.specs.Whole.{top_doc}
 use Rattle.tough_vault.specs.Documents.{metafile_in}
 use Rattle.tough_vault.specs.Files.{snapshot_file, targets_file}
-use Rattle.tough_update.specs.declared.limits.Limits.{Limits}
-use Rattle.tough_update.specs.Requests.{RequestDoc, bound, root_request, timestamp_request}
+use Rattle.tough_trust.specs.declared.limits.Limits.{Limits}
+use Rattle.tough_trust.specs.Requests.{RequestDoc, bound, root_request, timestamp_request}
 use Rattle.tough_update.specs.Stages.{LoadedDoc, ReceivedDoc}
 use Rattle.tough_error.specs.declared.error.Error.{Error}
 use Rattle.tough_error.specs.declared.error.Error.TheVariants as error

@@ -22,7 +22,7 @@ use Rattle.tough_vault.specs.Act.{Act, NoteTime}
 use Rattle.tough_vault.specs.Checks.{ExpiredMetadata}
 use Rattle.tough_vault.specs.declared.checks.StepError.{StepError}
 use Rattle.tough_vault.specs.declared.entry.Receipt.{Receipt}
-use Rattle.tough_update.specs.Failure.{Checked, step_failure}
+use Rattle.tough_trust.specs.Failure.{Checked, step_failure}
 use Rattle.tough_update.specs.Stages.{LoadedDoc}
 use Rattle.tough_error.specs.declared.error.Error.{Error}
 use Rattle.tough_error.specs.declared.error.Error.TheVariants as error

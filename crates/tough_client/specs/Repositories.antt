@@ -3,7 +3,7 @@ use Rattle.std.specs.Prelude.{◌≡◌, Bool, List}
 use Rattle.url.specs.Parts.{Parts}
 use Rattle.tough_vault.specs.Checks.{enforces}
 use Rattle.tough_vault.specs.declared.entry.Receipt.{Receipt}
-use Rattle.tough_update.specs.declared.limits.Limits.{Limits}
+use Rattle.tough_trust.specs.declared.limits.Limits.{Limits}
 use Rattle.tough_update.specs.declared.stage.Loaded.{Loaded}
 use Rattle.tough_update.specs.Stages.{LoadedDoc}
 use Rattle.tough_update.specs.View.{loaded_doc}

@@ -4,7 +4,7 @@ ghost use Rattle.std.specs.Prelude.{◌≡◌, List, None, map, IfOk, IfErr, IfS
 ghost use Rattle.futures.specs.Poll.{IfReady, OnPending};
 ghost use Rattle.futures.specs.Task.{Covers, Keeps};
 ghost use Rattle.tough_files.specs.Calls.{Told};
-ghost use Rattle.tough_update.specs.View.{request_doc};
+ghost use Rattle.tough_trust.specs.View.{request_doc};
 ghost use Rattle.tough_client.specs.Caching.{Ends, Follows, IsPollable, Needs, prefix_of, IsBegun, IsUnstarted, BeginsFile, BeginsTarget, BeginsText, Begins, GoesOnCaching, Continues, AreMade, BeginsMetadata, PlansAll, BeginsAll, GoesOnMetadata, GoesOnAll};
 ghost use Rattle.tough_client.specs.Futures.{cached_from, cached_in, folders_in, subset_in, chain_in, caching_in, metadata_from, metadata_in, metadata_folders_in, metadata_chain_in, metadata_caching_in};
 ghost use Rattle.tough_client.specs.Plans.{left_in};

@@ -4,8 +4,8 @@ use Rattle.tough_names.specs.declared.name.NameError.{NameError}
 use Rattle.tough_names.specs.declared.name.NameError.TheVariants as names
 use Rattle.tough_vault.specs.Checks.{refused}
 use Rattle.tough_vault.specs.Checks as check
-use Rattle.tough_update.specs.Failure as failed
-use Rattle.tough_update.specs.Failure.{Failure, is_json, name_missing}
+use Rattle.tough_trust.specs.Failure as failed
+use Rattle.tough_trust.specs.Failure.{Failure, is_json, name_missing}
 use Rattle.tough_error.specs.declared.error.Error.{Error}
 use Rattle.tough_error.specs.declared.error.Error.TheVariants as error
 

@@ -36,7 +36,7 @@ impl From<NameError> for Error {
 
 impl From<Refusal> for Error {
     ghost use Rattle.tough_vault.specs.Checks.{reason_of};
-    ghost use Rattle.tough_update.specs.Failure.{Checked};
+    ghost use Rattle.tough_trust.specs.Failure.{Checked};
 
     ghost from_gives = { λ r e. failure_in e ≡ Some (Checked (reason_of r)) };
 
@@ -133,7 +133,7 @@ impl From<Refusal> for Error {
 }
 
 impl From<StepError> for Error {
-    ghost use Rattle.tough_update.specs.Failure.{step_failure};
+    ghost use Rattle.tough_trust.specs.Failure.{step_failure};
 
     ghost from_gives = { λ s e. failure_in e ≡ Some (step_failure s) };
 
@@ -149,7 +149,7 @@ impl From<StepError> for Error {
 }
 
 impl From<UpdateError> for Error {
-    ghost use Rattle.tough_update.specs.Failure.{failure_of};
+    ghost use Rattle.tough_trust.specs.Failure.{failure_of};
 
     ghost from_gives = { λ u e. failure_in e ≡ Some (failure_of u) };
 

@@ -6,7 +6,7 @@ use Rattle.tough_update.specs.declared.counts.Counts.{Counts}
 use Rattle.tough_update.specs.declared.machine.Core.{Core}
 use Rattle.tough_update.specs.Counts.{none_yet}
 use Rattle.tough_update.specs.Counted.{Counted, begun, FetchesFew, KeepsAll}
-use Rattle.tough_update.specs.Failure.{Failure}
+use Rattle.tough_trust.specs.Failure.{Failure}
 use Rattle.tough_update.specs.Stages.{LoadedDoc, CoreDoc, SettingDoc, Done}
 use Rattle.tough_update.specs.View.{core_doc, counts_of}
 use Rattle.tough_load.specs.Loader.{SettingsDoc, first_core}

@@ -2,7 +2,7 @@
 use Rattle.std.specs.Prelude.{◌≡◌, Some, Result}
 use Rattle.std.proofs.Common.{ap, inl, inr}
 use Rattle.tough_keys.specs.Same.{Verifies}
-use Rattle.tough_update.specs.Failure.{Failure}
+use Rattle.tough_trust.specs.Failure.{Failure}
 use Rattle.tough_update.specs.Stages.{LoadedDoc, StageDoc, CoreDoc}
 use Rattle.tough_update.specs.Stages as at
 use Rattle.tough_update.specs.Answered.{AnswerDoc}

@@ -12,8 +12,8 @@ use Rattle.tough_net.specs.declared.collect.Collect.{Collect}
 use Rattle.tough_net.specs.Items.{Item}
 use Rattle.tough_net.specs.Collecting.{Bounds, Collects, collected, held_by}
 use Rattle.tough_net.proofs.lemmas.Collect.{Collects-Within}
-use Rattle.tough_update.specs.Requests.{RequestDoc}
-use Rattle.tough_update.specs.Failure.{Failure}
+use Rattle.tough_trust.specs.Requests.{RequestDoc}
+use Rattle.tough_trust.specs.Failure.{Failure}
 use Rattle.tough_update.specs.Stages.{LoadedDoc, CoreDoc, handed_out}
 use Rattle.tough_update.specs.Questions.{Question}
 use Rattle.tough_update.specs.Questions as ask

@@ -13,8 +13,8 @@ use Rattle.tough_net.specs.declared.error.TransportError.{TransportError}
 use Rattle.tough_net.specs.declared.collect.Collect.{Collect}
 use Rattle.tough_net.specs.Items.{Item}
 use Rattle.tough_net.specs.Collecting.{Fits}
-use Rattle.tough_update.specs.Failure.{Failure, Memory}
-use Rattle.tough_update.specs.Requests.{RequestDoc, has_digest, fits_request}
+use Rattle.tough_trust.specs.Failure.{Failure, Memory}
+use Rattle.tough_trust.specs.Requests.{RequestDoc, has_digest, fits_request}
 use Rattle.tough_update.specs.Stages.{LoadedDoc, StageDoc, CoreDoc}
 use Rattle.tough_update.specs.Stages as at
 use Rattle.tough_update.specs.Questions.{Question}

@@ -8,7 +8,7 @@ use Rattle.tough_vault.specs.declared.checks.StepError.{StepError}
 use Rattle.tough_vault.specs.Act.{Act}
 use Rattle.tough_net.specs.declared.error.TransportError.{TransportError}
 use Rattle.tough_net.specs.Items.{Item}
-use Rattle.tough_update.specs.Failure.{Failure}
+use Rattle.tough_trust.specs.Failure.{Failure}
 use Rattle.tough_update.specs.Stages.{LoadedDoc, CoreDoc}
 use Rattle.tough_update.specs.View.{core_doc, counts_of}
 use Rattle.tough_load.specs.declared.load.Load.{Load}

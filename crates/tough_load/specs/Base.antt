@@ -4,8 +4,8 @@ use Rattle.std.specs.List.{ends_with}
 use Rattle.url.specs.Parts.{Parts, serialize}
 use Rattle.url.specs.Parser.{Parsed, parse_url}
 use Rattle.url.specs.declared.error.ParseError.TheVariants.{Overflow}
-use Rattle.tough_update.specs.declared.error.UpdateError.{UpdateError}
-use Rattle.tough_update.specs.declared.error.UpdateError.TheVariants as error
+use Rattle.tough_trust.specs.declared.error.UpdateError.{UpdateError}
+use Rattle.tough_trust.specs.declared.error.UpdateError.TheVariants as error
 
 -- the URL itself where its text ends with a slash, else what its text and a slash are as a URL
 abbrev pub with_slash : Parts → Parsed Parts

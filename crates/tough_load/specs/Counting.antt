@@ -2,10 +2,10 @@
 use Rattle.std.specs.Prelude.{◌≡◌, ◌≤◌, Result, IfOk}
 use Rattle.tough_keys.specs.Same.{Verifies}
 use Rattle.tough_update.specs.declared.counts.Counts.{Counts}
-use Rattle.tough_update.specs.declared.limits.Limits.{Limits}
+use Rattle.tough_trust.specs.declared.limits.Limits.{Limits}
 use Rattle.tough_update.specs.declared.machine.Core.{Core}
 use Rattle.tough_update.specs.Counted.{Counted, HadAsMany, KeepsAll, roles_listed}
-use Rattle.tough_update.specs.Failure.{Failure}
+use Rattle.tough_trust.specs.Failure.{Failure}
 use Rattle.tough_update.specs.Stages.{LoadedDoc, CoreDoc, SettingDoc, Done}
 use Rattle.tough_update.specs.View.{core_doc, counts_of}
 

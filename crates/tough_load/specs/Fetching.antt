@@ -11,10 +11,10 @@ use Rattle.tough_net.specs.declared.collect.Collect.{Collect}
 use Rattle.tough_net.specs.Errors.{IsMemory}
 use Rattle.tough_net.specs.Items.{Item}
 use Rattle.tough_net.specs.Collecting.{Bounds, Collects, collected, bounds_of, held_by}
-use Rattle.tough_update.specs.Requests.{RequestDoc}
+use Rattle.tough_trust.specs.Requests.{RequestDoc}
 use Rattle.tough_update.specs.Answered.{AnswerDoc}
 use Rattle.tough_update.specs.Answered as got
-use Rattle.tough_update.specs.declared.request.Fault.TheVariants as fault
+use Rattle.tough_trust.specs.declared.fault.Fault.TheVariants as fault
 
 -- what is asked of the bytes at a URL
 abbrev pub bounds : Parts → RequestDoc → Bounds

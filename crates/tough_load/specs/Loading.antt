@@ -9,7 +9,7 @@ use Rattle.tough_vault.specs.declared.checks.StepError.{StepError}
 use Rattle.tough_net.specs.declared.error.TransportError.{TransportError}
 use Rattle.tough_net.specs.declared.collect.Collect.{Collect}
 use Rattle.tough_net.specs.Items.{Item}
-use Rattle.tough_update.specs.Failure.{Failure, Memory, step_failure}
+use Rattle.tough_trust.specs.Failure.{Failure, Memory, step_failure}
 use Rattle.tough_update.specs.Stages.{LoadedDoc, CoreDoc, handed_out}
 use Rattle.tough_update.specs.Questions.{Question}
 use Rattle.tough_update.specs.Questions as ask

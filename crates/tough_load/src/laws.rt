@@ -3,7 +3,7 @@
 ghost use Rattle.std.specs.Prelude.{◌≡◌, Ok, Result};
 ghost use Rattle.url.specs.Parts.{Parts};
 ghost use Rattle.tough_vault.specs.Act.{NoteTime};
-ghost use Rattle.tough_update.specs.Failure.{Failure};
+ghost use Rattle.tough_trust.specs.Failure.{Failure};
 ghost use Rattle.tough_update.specs.Stages.{LoadedDoc, CoreDoc};
 ghost use Rattle.tough_update.specs.View.{core_doc, counts_of};
 ghost use Rattle.tough_load.specs.declared.loader.RepositoryLoader.{RepositoryLoader as Loader};

@@ -5,7 +5,8 @@ ghost use Rattle.futures.specs.Task.{Covers, Keeps};
 ghost use Rattle.futures.specs.Poll.{IfReady, OnPending};
 ghost use Rattle.tough_net.specs.Collecting.{collected, bounds_of, held_by};
 ghost use Rattle.tough_update.specs.Answered as got;
-ghost use Rattle.tough_update.specs.View.{request_doc, outcome_doc, answer_doc};
+ghost use Rattle.tough_update.specs.View.{outcome_doc, answer_doc};
+ghost use Rattle.tough_trust.specs.View.{request_doc};
 ghost use Rattle.tough_load.specs.Fetching.{Fetches, IsStarted, answer_of};
 ghost use Rattle.tough_load.specs.Running.{CanPoll};
 

@@ -18,12 +18,14 @@ use Rattle.tough_delegated.specs.Bare.{held_as}
 use Rattle.tough_delegated.specs.Tallies.{tally_work}
 use Rattle.tough_delegated.proofs.lemmas.Tallied.{IsKeyed, bare-keyed, WorkKeyed, ProgressGrows, begun-grows, taken-grows}
 use Rattle.tough_update.specs.declared.counts.Counts.{Counts}
-use Rattle.tough_update.specs.Failure.{Failure, ParseMetadata, MaxUpdatesExceeded, Checked}
-use Rattle.tough_update.specs.Walk.{holds_json, if_read, first_root, next_root}
-use Rattle.tough_update.specs.Requests.{RequestDoc, root_request, timestamp_request}
-use Rattle.tough_update.specs.Rotation.{is_rotated}
-use Rattle.tough_update.specs.Listed.{by_root, judged}
-use Rattle.tough_update.specs.Delegated.{wanted_name, role_holder, metas_in, is_reserved, if_found, grown_on, given, role_given, role_stored, with_received}
+use Rattle.tough_trust.specs.Failure.{Failure, ParseMetadata, MaxUpdatesExceeded, Checked}
+use Rattle.tough_trust.specs.Walk.{first_root, next_root}
+use Rattle.tough_trust.specs.Outcomes.{holds_json, if_read}
+use Rattle.tough_trust.specs.Requests.{RequestDoc, root_request, timestamp_request}
+use Rattle.tough_trust.specs.Rotation.{is_rotated}
+use Rattle.tough_trust.specs.Listed.{by_root, judged}
+use Rattle.tough_update.specs.Delegated.{metas_in, is_reserved, if_found, grown_on, given, role_given, role_stored, with_received}
+use Rattle.tough_trust.specs.Listed.{wanted_name, role_holder}
 use Rattle.tough_update.specs.Stages.{WalkDoc, BaseDoc, KnownDoc, WantedDoc, PendingDoc, ReceivedDoc, RolesDoc, LoadedDoc, StageDoc, SettingDoc, CoreDoc}
 use Rattle.tough_update.specs.Stages as at
 use Rattle.tough_update.specs.Answered.{AnswerDoc}
@@ -33,8 +35,9 @@ use Rattle.tough_update.specs.Promises.{Goes}
 use Rattle.tough_update.specs.Counts.{none_yet, one_more, ends_fetch, with_fetch, with_tree}
 use Rattle.tough_update.specs.Counted.{Counted, Passes, HadAsMany, roles_listed, FetchesFew, KeepsAll}
 use Rattle.tough_update.specs.Counted as counted
-use Rattle.tough_update.proofs.Turning.{Fine, unless-fine, if-fine, and_then-fine, waits, keeps-answer}
-use Rattle.tough_update.proofs.Sound.{next-fine, judged-ok}
+use Rattle.tough_update.proofs.Turning.{Fine, and_then-fine, walking, ending, reading, waits, keeps-answer}
+use Rattle.tough_trust.proofs.lemmas.Walking.{next-fine}
+use Rattle.tough_trust.proofs.lemmas.Judging.{judged-ok}
 use Rattle.tough_update.proofs.Keeping.{kept_listed}
 
 one-more : (n : ℕ) → one_more n ≤ n + 1
@@ -156,23 +159,10 @@ module _ (v : Verifies) (s : SettingDoc) where
     early l t = subst Early (sym l) t
 
     walked-bounded : (w : WalkDoc) → Over w m → m.roots ≤ s.limits.max_root_updates → Well (walked s.limits w)
-    walked-bounded w o le =
-        let ended : Result StageDoc Failure = Ok (at.Step (at.PutLast w)) in
-        let further : Result StageDoc Failure = Ok (at.Fetch (at.Root w) (root_request s.limits (w.last.role.head.version + 1))) in
-        unless-fine Next bad (MaxUpdatesExceeded s.limits.max_root_updates) (nat_lt (w.last.role.head.version - w.first.role.head.version) s.limits.max_root_updates) (if w.last.role.head.version == 2 ^ 64 - 1 then ended else further) (λ g.
-        if-fine Next bad (w.last.role.head.version == 2 ^ 64 - 1) ended further (λ _. (le, o.1))
-        (o, below w.first.role.head.version w.last.role.head.version m.roots s.limits.max_root_updates o.0 g))
+    walked-bounded w o le = walking Next bad s.limits w (λ _ _. (le, o.1)) (λ g. (o, below w.first.role.head.version w.last.role.head.version m.roots s.limits.max_root_updates o.0 g))
 
     walk_ended-bounded : (w : WalkDoc) → Early m → Well (walk_ended s.limits s.enforced w)
-    walk_ended-bounded w f =
-        let cleared : Result StageDoc Failure = Ok (at.Step (at.Clear (base_of w))) in
-        let kept : Result StageDoc Failure = Ok (at.Fetch (at.Timestamp (base_of w)) (timestamp_request s.limits)) in
-        unless-fine Next bad (Checked (ExpiredMetadata role.Root w.last.role.head.expires w.start)) (not (is_expired s.enforced w.start w.last.role.head.expires)) (if is_rotated w.first.role w.last.role then cleared else kept) (λ _.
-        if-fine Next bad (is_rotated w.first.role w.last.role) cleared kept (λ _. f) f)
-
-    if_read-bounded : {D : Type 0} (f : Failure) (o : Option D) (to : D → StageDoc) → ((d : D) → Next (to d)) → Well (if_read f o (λ d. Ok (to d)))
-    if_read-bounded f None to t = enough
-    if_read-bounded f (Some d) to t = t d
+    walk_ended-bounded w f = ending Next bad s.limits s.enforced w (λ _ _. f) (λ _. f)
 
     want_snapshot-bounded : (b : BaseDoc) (t : SignedDoc TimestampDoc) (o : Option MetafileDoc) → Early m → Well (want_snapshot s.limits b t o)
     want_snapshot-bounded b t None f = enough
@@ -200,8 +190,8 @@ module _ (v : Verifies) (s : SettingDoc) where
         let roots : m.roots ≤ n.roots + 1 = subst (λ x. x ≤ n.roots + 1) (sym (ap (λ (x : Counts). x.roots) l)) (one-more n.roots) in
         let over : w.first.role.head.version + m.roots ≤ root.role.head.version = omega (arith, version, roots, t.0.0) in
         ((over, ap (λ (x : Counts). x.delegated) l ∙ t.0.1), enough))
-    read-bounded (at.Timestamp b) r bytes t l = if_read-bounded (ParseMetadata role.Timestamp (holds_json bytes)) (timestamp_in bytes) (λ d. at.Step (at.PutTimestamp b d)) (λ d. early l t)
-    read-bounded (at.Snapshot b x listed) r bytes t l = if_read-bounded (ParseMetadata role.Snapshot (holds_json bytes)) (snapshot_in bytes) (λ d. at.Step (at.PutSnapshot (known_of b x d) listed)) (λ d. early l t)
+    read-bounded (at.Timestamp b) r bytes t l = reading Next bad (ParseMetadata role.Timestamp (holds_json bytes)) (timestamp_in bytes) (λ d. at.Step (at.PutTimestamp b d)) (λ d. early l t)
+    read-bounded (at.Snapshot b x listed) r bytes t l = reading Next bad (ParseMetadata role.Snapshot (holds_json bytes)) (snapshot_in bytes) (λ d. at.Step (at.PutSnapshot (known_of b x d) listed)) (λ d. early l t)
     read-bounded (at.Targets k listed) r bytes t l = and_then-fine Next bad (judged v s.enforced k.start (by_root k.root.role) listed bytes) (λ d. Ok (at.Step (at.PutTargets k d))) (λ d is.
         let p = judged-ok v s.enforced k.start (by_root k.root.role) listed bytes d is in
         (early l t, subst (λ (x : SignedDoc TreeDoc). IsKeyed x.role) (sym p.is) (bare-keyed p.page.role)))

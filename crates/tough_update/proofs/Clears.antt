@@ -3,7 +3,7 @@ use Rattle.std.specs.Prelude.{◌≡◌, List, [], ◌∷◌, Bool}
 use Rattle.std.proofs.Common.{refl, sym, ◌∙◌, ap, subst, inl, inr}
 use Rattle.tough_keys.specs.Same.{Verifies}
 use Rattle.tough_vault.specs.Act.{ClearRotated}
-use Rattle.tough_update.specs.Requests.{RequestDoc}
+use Rattle.tough_trust.specs.Requests.{RequestDoc}
 use Rattle.tough_update.specs.Stages.{WalkDoc, StageDoc, CoreDoc}
 use Rattle.tough_update.specs.Stages as at
 use Rattle.tough_update.specs.Questions as ask

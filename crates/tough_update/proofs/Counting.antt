@@ -10,13 +10,15 @@ use Rattle.tough_roles.specs.declared.role_type.RoleType.TheVariants as role
 use Rattle.tough_vault.specs.Checks.{ExpiredMetadata, is_expired}
 use Rattle.tough_vault.specs.Documents.{root_in, timestamp_in, snapshot_in, metafile_in}
 use Rattle.tough_vault.specs.Files.{snapshot_file, targets_file}
-use Rattle.tough_update.specs.declared.limits.Limits.{Limits}
-use Rattle.tough_update.specs.Failure.{Failure, ParseMetadata, MaxUpdatesExceeded, Checked}
-use Rattle.tough_update.specs.Walk.{holds_json, if_read, first_root, next_root}
-use Rattle.tough_update.specs.Requests.{RequestDoc, root_request, timestamp_request}
-use Rattle.tough_update.specs.Rotation.{is_rotated}
-use Rattle.tough_update.specs.Listed.{by_root, judged}
-use Rattle.tough_update.specs.Delegated.{wanted_name, role_holder, metas_in, is_reserved, if_found, grown_on, given, role_given, role_stored, with_received}
+use Rattle.tough_trust.specs.declared.limits.Limits.{Limits}
+use Rattle.tough_trust.specs.Failure.{Failure, ParseMetadata, MaxUpdatesExceeded, Checked}
+use Rattle.tough_trust.specs.Walk.{first_root, next_root}
+use Rattle.tough_trust.specs.Outcomes.{holds_json, if_read}
+use Rattle.tough_trust.specs.Requests.{RequestDoc, root_request, timestamp_request}
+use Rattle.tough_trust.specs.Rotation.{is_rotated}
+use Rattle.tough_trust.specs.Listed.{by_root, judged}
+use Rattle.tough_update.specs.Delegated.{metas_in, is_reserved, if_found, grown_on, given, role_given, role_stored, with_received}
+use Rattle.tough_trust.specs.Listed.{wanted_name, role_holder}
 use Rattle.tough_names.specs.Named.{Named}
 use Rattle.tough_schema.specs.Whole.{TreeDoc}
 use Rattle.tough_schema.specs.Entries.{first_missing}
@@ -31,8 +33,8 @@ use Rattle.tough_update.specs.Answered as got
 use Rattle.tough_update.specs.Machine.{question, answered, walked, base_of, walk_ended, want_snapshot, known_of, want_targets, read_wanted, after, settled, stage_after}
 use Rattle.tough_update.specs.Runs.{run, IsFresh}
 use Rattle.tough_update.specs.Asking.{fetched, requests, roots_after, first_version, IsOfRole, AsksFew}
-use Rattle.tough_update.proofs.Turning.{Fine, unless-fine, if-fine, and_then-fine, waits, keeps-answer}
-use Rattle.tough_update.proofs.Sound.{next-fine}
+use Rattle.tough_update.proofs.Turning.{Fine, and_then-fine, walking, ending, reading, waits, keeps-answer}
+use Rattle.tough_trust.proofs.lemmas.Walking.{next-fine}
 use Rattle.tough_update.proofs.Prefixes.{in_stage, whole}
 use Rattle.tough_update.proofs.History.{first-read}
 
@@ -245,23 +247,11 @@ module _ (v : Verifies) (c : CoreDoc) where
       same-counts at.Taken x e t l = many-same (asked-none at.Taken l.1 refl) t
 
       walked-counts : (w : WalkDoc) (n : ℕ) → Over next w n → n ≤ c.setting.limits.max_root_updates → Goes (walked c.setting.limits w)
-      walked-counts w n o le =
-          let ended : Result StageDoc Failure = Ok (at.Step (at.PutLast w)) in
-          let more : Result StageDoc Failure = Ok (at.Fetch (at.Root w) (root_request c.setting.limits (w.last.role.head.version + 1))) in
-          unless-fine (Counts next) bad (MaxUpdatesExceeded c.setting.limits.max_root_updates) (nat_lt (w.last.role.head.version - w.first.role.head.version) c.setting.limits.max_root_updates) (if w.last.role.head.version == 2 ^ 64 - 1 then ended else more) (λ g.
-          if-fine (Counts next) bad (w.last.role.head.version == 2 ^ 64 - 1) ended more (λ _. few-roots next n le o.2)
-          (n, o, below w.first.role.head.version n w.last.role.head.version c.setting.limits.max_root_updates o.1 g, refl))
+      walked-counts w n o le = walking (Counts next) bad c.setting.limits w (λ _ _. few-roots next n le o.2)
+          (λ g. (n, o, below w.first.role.head.version n w.last.role.head.version c.setting.limits.max_root_updates o.1 g, refl))
 
       walk_ended-counts : (w : WalkDoc) → Few next 0 → Goes (walk_ended c.setting.limits c.setting.enforced w)
-      walk_ended-counts w f =
-          let cleared : Result StageDoc Failure = Ok (at.Step (at.Clear (base_of w))) in
-          let kept : Result StageDoc Failure = Ok (at.Fetch (at.Timestamp (base_of w)) (timestamp_request c.setting.limits)) in
-          unless-fine (Counts next) bad (Checked (ExpiredMetadata role.Root w.last.role.head.expires w.start)) (not (is_expired c.setting.enforced w.start w.last.role.head.expires)) (if is_rotated w.first.role w.last.role then cleared else kept) (λ _.
-          if-fine (Counts next) bad (is_rotated w.first.role w.last.role) cleared kept (λ _. f) f)
-
-      if_read-counts : {D : Type 0} (f : Failure) (o : Option D) (to : D → StageDoc) → ((d : D) → Counts next (to d)) → Goes (if_read f o (λ d. Ok (to d)))
-      if_read-counts f None to t = enough
-      if_read-counts f (Some d) to t = t d
+      walk_ended-counts w f = ending (Counts next) bad c.setting.limits c.setting.enforced w (λ _ _. f) (λ _. f)
 
       want_snapshot-counts : (b : BaseDoc) (t : SignedDoc TimestampDoc) (o : Option MetafileDoc) → Few next 1 → Goes (want_snapshot c.setting.limits b t o)
       want_snapshot-counts b t None f = enough
@@ -288,8 +278,8 @@ module _ (v : Verifies) (c : CoreDoc) where
           let one : root.role.head.version ≡ w.first.role.head.version + suc t.0 = omega (arith, version, t.1.1) in
           let le : suc t.0 ≤ c.setting.limits.max_root_updates = omega (arith, t.2) in
           (suc t.0, (t.1.0, one, over-more w t.0 r (asked-one (at.Fetch (at.Root w) r) r l.1 (ap (fetched (ask.Fetch r)) (sym l.0))) t.1 t.3), le))
-      read-counts (at.Timestamp b) r bytes t l = if_read-counts (ParseMetadata role.Timestamp (holds_json bytes)) (timestamp_in bytes) (λ d. at.Step (at.PutTimestamp b d)) (λ d. few-fetched 0 (at.Timestamp b) r l.1 t (fetched-one r a))
-      read-counts (at.Snapshot b s m) r bytes t l = if_read-counts (ParseMetadata role.Snapshot (holds_json bytes)) (snapshot_in bytes) (λ d. at.Step (at.PutSnapshot (known_of b s d) m)) (λ d. few-fetched 1 (at.Snapshot b s m) r l.1 t (fetched-one r a))
+      read-counts (at.Timestamp b) r bytes t l = reading (Counts next) bad (ParseMetadata role.Timestamp (holds_json bytes)) (timestamp_in bytes) (λ d. at.Step (at.PutTimestamp b d)) (λ d. few-fetched 0 (at.Timestamp b) r l.1 t (fetched-one r a))
+      read-counts (at.Snapshot b s m) r bytes t l = reading (Counts next) bad (ParseMetadata role.Snapshot (holds_json bytes)) (snapshot_in bytes) (λ d. at.Step (at.PutSnapshot (known_of b s d) m)) (λ d. few-fetched 1 (at.Snapshot b s m) r l.1 t (fetched-one r a))
       read-counts (at.Targets k m) r bytes t l = and_then-fine (Counts next) bad (judged v c.setting.enforced k.start (by_root k.root.role) m bytes) (λ d. Ok (at.Step (at.PutTargets k d))) (λ d _.
           few-fetched 2 (at.Targets k m) r l.1 t (fetched-one r a))
       read-counts (at.Role k roles m) r bytes t l =

@@ -12,13 +12,15 @@ use Rattle.tough_vault.specs.Checks.{ExpiredMetadata, is_expired}
 use Rattle.tough_vault.specs.Documents.{root_in, timestamp_in, snapshot_in, metafile_in}
 use Rattle.tough_vault.specs.Files.{snapshot_file, targets_file}
 use Rattle.tough_vault.specs.Act.{Act, ClearRotated, AdvanceSnapshot}
-use Rattle.tough_update.specs.Failure.{Failure, ParseTrustedMetadata, VerifyTrustedMetadata, ParseMetadata, MaxUpdatesExceeded, Checked}
-use Rattle.tough_update.specs.Walk.{holds_json, if_read, if_verified, root_verdict, first_root, next_root}
-use Rattle.tough_update.specs.Outcomes.{unless}
-use Rattle.tough_update.specs.Requests.{RequestDoc, root_request, timestamp_request}
-use Rattle.tough_update.specs.Rotation.{is_rotated}
-use Rattle.tough_update.specs.Listed.{by_root, judged}
-use Rattle.tough_update.specs.Delegated.{first_name, wanted_name, role_holder, metas_in, is_reserved, if_found, grown_on, given, role_given, role_stored, with_received}
+use Rattle.tough_trust.specs.Failure.{Failure, ParseTrustedMetadata, VerifyTrustedMetadata, ParseMetadata, MaxUpdatesExceeded, Checked}
+use Rattle.tough_trust.specs.Walk.{first_root, next_root}
+use Rattle.tough_trust.specs.Outcomes.{holds_json, if_read}
+use Rattle.tough_trust.specs.Outcomes.{unless}
+use Rattle.tough_trust.specs.Requests.{RequestDoc, root_request, timestamp_request}
+use Rattle.tough_trust.specs.Rotation.{is_rotated}
+use Rattle.tough_trust.specs.Listed.{by_root, judged}
+use Rattle.tough_update.specs.Delegated.{metas_in, is_reserved, if_found, grown_on, given, role_given, role_stored, with_received}
+use Rattle.tough_trust.specs.Listed.{first_name, wanted_name, role_holder}
 use Rattle.tough_names.specs.Named.{Named}
 use Rattle.tough_schema.specs.Whole.{TreeDoc, HeldDoc}
 use Rattle.tough_schema.specs.Entries.{first_missing}
@@ -38,16 +40,13 @@ use Rattle.tough_update.specs.Machine.{question, walked, base_of, walk_ended, wa
 use Rattle.tough_update.specs.Trusted.{Chain, followed}
 use Rattle.tough_update.specs.Runs.{run, EndsWalk, IsLast, IsFresh, WasTold, EndsWalking, WasRotated}
 use Rattle.tough_update.specs.Asking.{HasTaken, AsksSnapshot, AsksTargets, AsksRole}
-use Rattle.tough_update.proofs.Turning.{Fine, unless-fine, if-fine, and_then-fine, keeps-answer}
-use Rattle.tough_update.proofs.Sound.{first-fine, next-fine, if_read-ok, if_verified-ok, ok-same}
+use Rattle.tough_update.proofs.Turning.{Fine, and_then-fine, walking, ending, reading, keeps-answer}
+use Rattle.tough_trust.proofs.lemmas.Walking.{first-passed, next-fine}
+use Rattle.tough_update.proofs.Sound.{first-fine}
 use Rattle.tough_update.proofs.Prefixes.{in_stage, longer, run-same, whole, whole-at}
 
 pub first-read : (v : Verifies) (bytes : List ℕ) (root : SignedDoc RootDoc) → first_root v bytes ≡ Ok root → root_in bytes ≡ Some root
-first-read v bytes root h =
-    let fault : Refused → Failure = λ x. VerifyTrustedMetadata (Some x) in
-    let r = if_read-ok (ParseTrustedMetadata (holds_json bytes)) (root_in bytes) (λ d. if_verified fault (root_verdict v d.role d) (Ok d)) root h in
-    let u = if_verified-ok fault (root_verdict v r.0.role r.0) (Ok r.0) root r.2 in
-    r.1 ∙ ap Some (ok-same r.0 root (Ok r.0) refl u.1)
+first-read v bytes root h = (first-passed v bytes root h).0
 
 module _ (v : Verifies) (c : CoreDoc) where
   abbrev Walks : WalkDoc → Type 0
@@ -167,11 +166,7 @@ module _ (v : Verifies) (c : CoreDoc) where
     Goes = Fine (Tells next) (bad next)
 
     walked-tells : (w : WalkDoc) → Walks w → Goes (walked c.setting.limits w)
-    walked-tells w t =
-        let ended : Result StageDoc Failure = Ok (at.Step (at.PutLast w)) in
-        let more : Result StageDoc Failure = Ok (at.Fetch (at.Root w) (root_request c.setting.limits (w.last.role.head.version + 1))) in
-        unless-fine (Tells next) (bad next) (MaxUpdatesExceeded c.setting.limits.max_root_updates) (nat_lt (w.last.role.head.version - w.first.role.head.version) c.setting.limits.max_root_updates) (if w.last.role.head.version == 2 ^ 64 - 1 then ended else more) (λ _.
-        if-fine (Tells next) (bad next) (w.last.role.head.version == 2 ^ 64 - 1) ended more (λ e. (t, inr (eqb-true _ _ e))) (t, refl))
+    walked-tells w t = walking (Tells next) (bad next) c.setting.limits w (λ _ e. (t, inr e)) (λ _. (t, refl))
 
     -- this step succeeded
     took : (act : Act) → question (run v c h) ≡ ask.Step act → a ≡ got.Step (Ok (tt {0})) → HasTaken v c next act
@@ -179,10 +174,7 @@ module _ (v : Verifies) (c : CoreDoc) where
 
     walk_ended-tells : (w : WalkDoc) → a ≡ got.Step (Ok (tt {0})) → run v c h ≡ in_stage c (at.Step (at.PutLast w)) → Walks w × IsLast v c h w.last → Goes (walk_ended c.setting.limits c.setting.enforced w)
     walk_ended-tells w e stands t =
-        let cleared : Result StageDoc Failure = Ok (at.Step (at.Clear (base_of w))) in
-        let kept : Result StageDoc Failure = Ok (at.Fetch (at.Timestamp (base_of w)) (timestamp_request c.setting.limits)) in
-        unless-fine (Tells next) (bad next) (Checked (ExpiredMetadata role.Root w.last.role.head.expires w.start)) (not (is_expired c.setting.enforced w.start w.last.role.head.expires)) (if is_rotated w.first.role w.last.role then cleared else kept) (λ _.
-        if-fine (Tells next) (bad next) (is_rotated w.first.role w.last.role) cleared kept (λ r. record {
+        ending (Tells next) (bad next) c.setting.limits c.setting.enforced w (λ _ r. record {
           walk = w;
           before = h;
           after = [];
@@ -191,12 +183,7 @@ module _ (v : Verifies) (c : CoreDoc) where
           walked = ends-walking h w stands t;
           rotated = r;
           since = ap (λ x. run v c (h ++ x ∷ [])) e;
-        }) refl)
-
-    -- a document was read, and the stage after it tells nothing
-    if_read-tells : {D : Type 0} (f : Failure) (o : Option D) (to : D → StageDoc) → ((d : D) → Tells next (to d)) → Goes (if_read f o (λ d. Ok (to d)))
-    if_read-tells f None to t = tt
-    if_read-tells f (Some d) to t = t d
+        }) (λ _. refl)
 
     want_snapshot-tells : (b : BaseDoc) (t : SignedDoc TimestampDoc) (o : Option MetafileDoc) → metafile_in t.role.meta snapshot_file ≡ o
         → a ≡ got.Step (Ok (tt {0})) → run v c h ≡ in_stage c (at.Step (at.PutTimestamp b t)) → Goes (want_snapshot c.setting.limits b t o)
@@ -231,8 +218,8 @@ module _ (v : Verifies) (c : CoreDoc) where
     read-tells : (w : WantedDoc) (r : RequestDoc) (bytes : List ℕ) → Tells h (at.Fetch w r) → Goes (read_wanted v c.setting w r bytes)
     read-tells (at.Root w) r bytes t = and_then-fine (Tells next) (bad next) (next_root v w.last.role bytes) (λ root. Ok (at.Step (at.PutRoot (record { start = w.start; first = w.first; last = root })))) (λ root is.
         (t.0.0, followed w.last root t.0.1 (next-fine v w.last bytes root is)))
-    read-tells (at.Timestamp b) r bytes t = if_read-tells (ParseMetadata role.Timestamp (holds_json bytes)) (timestamp_in bytes) (λ d. at.Step (at.PutTimestamp b d)) (λ d. tt)
-    read-tells (at.Snapshot b s n) r bytes t = if_read-tells (ParseMetadata role.Snapshot (holds_json bytes)) (snapshot_in bytes) (λ d. at.Step (at.PutSnapshot (known_of b s d) n)) (λ d. tt)
+    read-tells (at.Timestamp b) r bytes t = reading (Tells next) (bad next) (ParseMetadata role.Timestamp (holds_json bytes)) (timestamp_in bytes) (λ d. at.Step (at.PutTimestamp b d)) (λ d. tt)
+    read-tells (at.Snapshot b s n) r bytes t = reading (Tells next) (bad next) (ParseMetadata role.Snapshot (holds_json bytes)) (snapshot_in bytes) (λ d. at.Step (at.PutSnapshot (known_of b s d) n)) (λ d. tt)
     read-tells (at.Targets k n) r bytes t = and_then-fine (Tells next) (bad next) (judged v c.setting.enforced k.start (by_root k.root.role) n bytes) (λ d. Ok (at.Step (at.PutTargets k d))) (λ d _. accepted-more k t.0)
     read-tells (at.Role k roles n) r bytes t =
         let kept = with_received roles bytes in

@@ -17,12 +17,14 @@ use Rattle.tough_delegated.specs.Bare.{held_as}
 use Rattle.tough_delegated.proofs.lemmas.Bare.{bare-none}
 use Rattle.tough_delegated.proofs.lemmas.Kept.{WorkKeeps, ProgressKeeps, begun-keeps, taken-keeps, tree-few}
 use Rattle.tough_update.specs.declared.counts.Counts.{Counts}
-use Rattle.tough_update.specs.Failure.{Failure, ParseMetadata, MaxUpdatesExceeded, Checked}
-use Rattle.tough_update.specs.Walk.{holds_json, if_read, first_root, next_root}
-use Rattle.tough_update.specs.Requests.{RequestDoc, root_request, timestamp_request}
-use Rattle.tough_update.specs.Rotation.{is_rotated}
-use Rattle.tough_update.specs.Listed.{by_root, judged}
-use Rattle.tough_update.specs.Delegated.{wanted_name, role_holder, metas_in, is_reserved, if_found, grown_on, given, role_given, role_stored, with_received}
+use Rattle.tough_trust.specs.Failure.{Failure, ParseMetadata, MaxUpdatesExceeded, Checked}
+use Rattle.tough_trust.specs.Walk.{first_root, next_root}
+use Rattle.tough_trust.specs.Outcomes.{holds_json, if_read}
+use Rattle.tough_trust.specs.Requests.{RequestDoc, root_request, timestamp_request}
+use Rattle.tough_trust.specs.Rotation.{is_rotated}
+use Rattle.tough_trust.specs.Listed.{by_root, judged}
+use Rattle.tough_update.specs.Delegated.{metas_in, is_reserved, if_found, grown_on, given, role_given, role_stored, with_received}
+use Rattle.tough_trust.specs.Listed.{wanted_name, role_holder}
 use Rattle.tough_update.specs.Stages.{WalkDoc, BaseDoc, KnownDoc, WantedDoc, PendingDoc, ReceivedDoc, RolesDoc, LoadedDoc, StageDoc, SettingDoc, CoreDoc}
 use Rattle.tough_update.specs.Stages as at
 use Rattle.tough_update.specs.Answered.{AnswerDoc}
@@ -32,8 +34,8 @@ use Rattle.tough_update.specs.Promises.{Goes}
 use Rattle.tough_update.specs.Counts.{none_yet, one_more, ends_fetch, with_fetch, with_tree}
 use Rattle.tough_update.specs.Counted.{Counted, HadAsMany, names_listed, KeepsFew}
 use Rattle.tough_update.specs.Counted as counted
-use Rattle.tough_update.proofs.Turning.{Fine, unless-fine, if-fine, and_then-fine, keeps-answer}
-use Rattle.tough_update.proofs.Sound.{judged-ok}
+use Rattle.tough_update.proofs.Turning.{Fine, and_then-fine, walking, ending, reading, keeps-answer}
+use Rattle.tough_trust.proofs.lemmas.Judging.{judged-ok}
 
 -- a fetch leaves what is kept
 kept-if : (b : Bool) (x n : Counts) → x.kept ≡ n.kept → (if b then x else n).kept ≡ n.kept
@@ -85,22 +87,10 @@ module _ (v : Verifies) (s : SettingDoc) (n m : Counts) (same : m.kept ≡ n.kep
   Heard st a = ⊤
 
   walked-keeps : (w : WalkDoc) → m.kept ≡ 0 → Well (walked s.limits w)
-  walked-keeps w h =
-      let ended : Result StageDoc Failure = Ok (at.Step (at.PutLast w)) in
-      let further : Result StageDoc Failure = Ok (at.Fetch (at.Root w) (root_request s.limits (w.last.role.head.version + 1))) in
-      unless-fine Next bad (MaxUpdatesExceeded s.limits.max_root_updates) (nat_lt (w.last.role.head.version - w.first.role.head.version) s.limits.max_root_updates) (if w.last.role.head.version == 2 ^ 64 - 1 then ended else further) (λ _.
-      if-fine Next bad (w.last.role.head.version == 2 ^ 64 - 1) ended further (λ _. h) h)
+  walked-keeps w h = walking Next bad s.limits w (λ _ _. h) (λ _. h)
 
   walk_ended-keeps : (w : WalkDoc) → m.kept ≡ 0 → Well (walk_ended s.limits s.enforced w)
-  walk_ended-keeps w h =
-      let cleared : Result StageDoc Failure = Ok (at.Step (at.Clear (base_of w))) in
-      let kept : Result StageDoc Failure = Ok (at.Fetch (at.Timestamp (base_of w)) (timestamp_request s.limits)) in
-      unless-fine Next bad (Checked (ExpiredMetadata role.Root w.last.role.head.expires w.start)) (not (is_expired s.enforced w.start w.last.role.head.expires)) (if is_rotated w.first.role w.last.role then cleared else kept) (λ _.
-      if-fine Next bad (is_rotated w.first.role w.last.role) cleared kept (λ _. h) h)
-
-  if_read-keeps : {D : Type 0} (f : Failure) (o : Option D) (to : D → StageDoc) → ((d : D) → Next (to d)) → Well (if_read f o (λ d. Ok (to d)))
-  if_read-keeps f None to t = tt
-  if_read-keeps f (Some d) to t = t d
+  walk_ended-keeps w h = ending Next bad s.limits s.enforced w (λ _ _. h) (λ _. h)
 
   want_snapshot-keeps : (b : BaseDoc) (t : SignedDoc TimestampDoc) (o : Option MetafileDoc) → m.kept ≡ 0 → Well (want_snapshot s.limits b t o)
   want_snapshot-keeps b t None h = tt
@@ -124,8 +114,8 @@ module _ (v : Verifies) (s : SettingDoc) (n m : Counts) (same : m.kept ≡ n.kep
 
   read-keeps : (w : WantedDoc) (r : RequestDoc) (bytes : List ℕ) → Keeps n (at.Fetch w r) → Heard (at.Fetch w r) (got.Bytes bytes) → Well (read_wanted v s w r bytes)
   read-keeps (at.Root w) r bytes t _ = and_then-fine Next bad (next_root v w.last.role bytes) (λ root. Ok (at.Step (at.PutRoot (record { start = w.start; first = w.first; last = root })))) (λ root is. same ∙ t)
-  read-keeps (at.Timestamp b) r bytes t _ = if_read-keeps (ParseMetadata role.Timestamp (holds_json bytes)) (timestamp_in bytes) (λ d. at.Step (at.PutTimestamp b d)) (λ d. same ∙ t)
-  read-keeps (at.Snapshot b x listed) r bytes t _ = if_read-keeps (ParseMetadata role.Snapshot (holds_json bytes)) (snapshot_in bytes) (λ d. at.Step (at.PutSnapshot (known_of b x d) listed)) (λ d. same ∙ t)
+  read-keeps (at.Timestamp b) r bytes t _ = reading Next bad (ParseMetadata role.Timestamp (holds_json bytes)) (timestamp_in bytes) (λ d. at.Step (at.PutTimestamp b d)) (λ d. same ∙ t)
+  read-keeps (at.Snapshot b x listed) r bytes t _ = reading Next bad (ParseMetadata role.Snapshot (holds_json bytes)) (snapshot_in bytes) (λ d. at.Step (at.PutSnapshot (known_of b x d) listed)) (λ d. same ∙ t)
   read-keeps (at.Targets k listed) r bytes t _ = and_then-fine Next bad (judged v s.enforced k.start (by_root k.root.role) listed bytes) (λ d. Ok (at.Step (at.PutTargets k d))) (λ d is.
       let p = judged-ok v s.enforced k.start (by_root k.root.role) listed bytes d is in
       (same ∙ t, subst (λ (x : SignedDoc TreeDoc). IsUnloaded x.role) (sym p.is) (bare-none p.page)))

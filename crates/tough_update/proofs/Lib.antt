@@ -1,8 +1,6 @@
 pub mod lemmas
-pub mod Walking
 pub mod Turning
 pub mod Sound
-pub mod Rotated
 pub mod Settling
 pub mod Alike
 pub mod Loads

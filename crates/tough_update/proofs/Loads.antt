@@ -25,14 +25,16 @@ use Rattle.tough_vault.specs.Steps.{time_text, needs}
 use Rattle.tough_vault.specs.Act.{Act}
 use Rattle.tough_vault.specs.Act as act
 use Rattle.tough_vault.specs.Files.{snapshot_file, targets_file}
-use Rattle.tough_update.specs.Failure.{Failure, ParseTrustedMetadata, VerifyTrustedMetadata, ParseMetadata, MaxUpdatesExceeded, Checked}
-use Rattle.tough_update.specs.Walk.{holds_json, if_read, if_verified, root_verdict, first_root}
-use Rattle.tough_update.specs.Outcomes.{unless, and_then}
-use Rattle.tough_update.proofs.Settling.{judged-to}
-use Rattle.tough_update.specs.Requests.{RequestDoc, fits_request, root_request, timestamp_request, snapshot_request, targets_request, role_request}
-use Rattle.tough_update.specs.Rotation.{is_rotated}
-use Rattle.tough_update.specs.Listed.{by_root, by_delegations, targets_text, targets_verdict, targets_refusal, judged}
-use Rattle.tough_update.specs.Delegated.{metas_in, role_holder, is_reserved, if_found, grown_on, roles_begun, role_given, role_stored, with_received}
+use Rattle.tough_trust.specs.Failure.{Failure, ParseTrustedMetadata, VerifyTrustedMetadata, ParseMetadata, MaxUpdatesExceeded, Checked}
+use Rattle.tough_trust.specs.Walk.{if_trusted, root_verdict, first_root}
+use Rattle.tough_trust.specs.Outcomes.{holds_json, if_read}
+use Rattle.tough_trust.specs.Outcomes.{unless, and_then}
+use Rattle.tough_trust.proofs.lemmas.Judging.{judged-to}
+use Rattle.tough_trust.specs.Requests.{RequestDoc, fits_request, root_request, timestamp_request, snapshot_request, targets_request, role_request}
+use Rattle.tough_trust.specs.Rotation.{is_rotated}
+use Rattle.tough_trust.specs.Listed.{by_root, by_delegations, targets_text, targets_verdict, targets_refusal, judged}
+use Rattle.tough_update.specs.Delegated.{metas_in, is_reserved, if_found, grown_on, roles_begun, role_given, role_stored, with_received}
+use Rattle.tough_trust.specs.Listed.{role_holder}
 use Rattle.tough_delegated.specs.Bare.{bare, top_page, held_as}
 use Rattle.tough_delegated.specs.Full.{fetch_order}
 use Rattle.tough_delegated.specs.Growing.{Metas, listed_as, Fetched, OpenDoc, Progress, wants, grown, begun, go_on}
@@ -52,10 +54,11 @@ use Rattle.std.specs.BTreeMap.{insert_entry}
 use Rattle.tough_update.specs.Stages.{WalkDoc, BaseDoc, RolesDoc, ReceivedDoc, LoadedDoc, StageDoc, SettingDoc, CoreDoc}
 use Rattle.tough_update.specs.Stages as at
 use Rattle.tough_update.specs.Questions as ask
-use Rattle.tough_update.specs.declared.request.Fault.TheVariants as fault
+use Rattle.tough_trust.specs.declared.fault.Fault.TheVariants as fault
 use Rattle.tough_update.specs.Answered.{AnswerDoc}
 use Rattle.tough_update.specs.Answered as got
-use Rattle.tough_update.specs.Machine.{is_memory, fault_failure, question, question_at, settled, stage_after, walked, want_snapshot, known_of, want_targets, new_targets}
+use Rattle.tough_update.specs.Machine.{question, question_at, settled, stage_after, ask_root, walked, want_snapshot, known_of, want_targets, new_targets}
+use Rattle.tough_trust.specs.Faults.{is_memory, fault_failure}
 use Rattle.tough_update.specs.Runs.{run, IsFresh}
 use Rattle.tough_update.specs.Loadable.{Files, Delivers, Gets, refusal_at_first, step_answer, Honest, AllHonest, IsRoleServed, IsServedUnder, or_nothing, role_bytes, turns_as, role_turns, all_turns, Loadable, IsLoaded}
 use Rattle.tough_update.proofs.Alike.{not-rotated}
@@ -360,16 +363,14 @@ module _ (v : Verifies) (files : Files) (s : SettingDoc) (l : LoadedDoc) (able :
 
   first : first_root v s.trusted ≡ Ok l.known.root
   first =
-      let fault : Refused → Failure = λ r. VerifyTrustedMetadata (Some r) in
-      ap (λ o. if_read (ParseTrustedMetadata (holds_json s.trusted)) o (λ d. if_verified fault (root_verdict v d.role d) (Ok d))) able.root
-      ∙ ap (λ w. if_verified fault w (Ok l.known.root)) (signed-ok v l.known.root.role role.Root root_json l.known.root able.root_signed)
+      ap (λ o. if_read (ParseTrustedMetadata (holds_json s.trusted)) o (λ d. if_trusted (root_verdict v d.role d) d)) able.root
+      ∙ ap (λ w. if_trusted w l.known.root) (signed-ok v l.known.root.role role.Root root_json l.known.root able.root_signed)
 
   begins : walked s.limits walk ≡ Ok root_wanted
   begins =
-      let ended : Result StageDoc Failure = Ok (at.Step (at.PutLast walk)) in
-      let more : Result StageDoc Failure = Ok root_wanted in
-      ap (λ b. unless (MaxUpdatesExceeded s.limits.max_root_updates) b (if l.known.root.role.head.version == 2 ^ 64 - 1 then ended else more)) (none-first l.known.root.role.head.version s.limits.max_root_updates able.one_update)
-      ∙ ap (λ b. if b then ended else more) (not-equal l.known.root.role.head.version (2 ^ 64 - 1) able.root_low)
+      let next : Bool → Bool → Result StageDoc Failure = λ more end. and_then (unless (MaxUpdatesExceeded s.limits.max_root_updates) more (if end then Ok None else Ok (Some (l.known.root.role.head.version + 1)))) (λ version. Ok (ask_root s.limits walk version)) in
+      ap (λ b. next b (l.known.root.role.head.version == 2 ^ 64 - 1)) (none-first l.known.root.role.head.version s.limits.max_root_updates able.one_update)
+      ∙ ap (next true) (not-equal l.known.root.role.head.version (2 ^ 64 - 1) able.root_low)
 
   leads-note_time : Leads (more + 1 + 1 + 1 + 1 + 1 + 1 + 1 + 1 + 1) (at.Step (at.NoteTime l.known.start))
   leads-note_time = leads-turn (more + 1 + 1 + 1 + 1 + 1 + 1 + 1 + 1) (at.Step (at.NoteTime l.known.start)) root_wanted (got.Step (Ok (tt {0}))) (λ e. cc) (passes (act.NoteTime l.known.start) time-passes)

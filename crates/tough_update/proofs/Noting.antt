@@ -9,12 +9,14 @@ use Rattle.tough_vault.specs.Checks.{ExpiredMetadata, is_expired}
 use Rattle.tough_vault.specs.Documents.{timestamp_in, snapshot_in, metafile_in}
 use Rattle.tough_vault.specs.Files.{snapshot_file, targets_file}
 use Rattle.tough_vault.specs.Act.{NoteTime}
-use Rattle.tough_update.specs.Failure.{Failure, ParseMetadata, MaxUpdatesExceeded, Checked}
-use Rattle.tough_update.specs.Walk.{holds_json, if_read, first_root, next_root}
-use Rattle.tough_update.specs.Requests.{RequestDoc, root_request, timestamp_request}
-use Rattle.tough_update.specs.Rotation.{is_rotated}
-use Rattle.tough_update.specs.Listed.{by_root, judged}
-use Rattle.tough_update.specs.Delegated.{role_holder, metas_in, is_reserved, if_found, grown_on, given, role_given, role_stored, with_received}
+use Rattle.tough_trust.specs.Failure.{Failure, ParseMetadata, MaxUpdatesExceeded, Checked}
+use Rattle.tough_trust.specs.Walk.{first_root, next_root}
+use Rattle.tough_trust.specs.Outcomes.{holds_json, if_read}
+use Rattle.tough_trust.specs.Requests.{RequestDoc, root_request, timestamp_request}
+use Rattle.tough_trust.specs.Rotation.{is_rotated}
+use Rattle.tough_trust.specs.Listed.{by_root, judged}
+use Rattle.tough_update.specs.Delegated.{metas_in, is_reserved, if_found, grown_on, given, role_given, role_stored, with_received}
+use Rattle.tough_trust.specs.Listed.{role_holder}
 use Rattle.tough_names.specs.Named.{Named}
 use Rattle.tough_schema.specs.Whole.{TreeDoc}
 use Rattle.tough_schema.specs.Entries.{first_missing}
@@ -27,7 +29,7 @@ use Rattle.tough_update.specs.Answered.{AnswerDoc}
 use Rattle.tough_update.specs.Answered as got
 use Rattle.tough_update.specs.Machine.{question, question_at, answered, walked, base_of, walk_ended, want_snapshot, known_of, want_targets, read_wanted, after, settled, stage_after}
 use Rattle.tough_update.specs.Runs.{run}
-use Rattle.tough_update.proofs.Turning.{Fine, unless-fine, if-fine, and_then-fine, keeps-answer}
+use Rattle.tough_update.proofs.Turning.{Fine, and_then-fine, walking, ending, reading, keeps-answer}
 use Rattle.tough_update.proofs.Prefixes.{run-on, Parts, parts}
 
 -- the moment was noted before
@@ -40,22 +42,10 @@ bad : (f : Failure) → Late (at.Done (Err f))
 bad f = tt
 
 walked-late : (s : SettingDoc) (w : WalkDoc) → Fine Late bad (walked s.limits w)
-walked-late s w =
-    let ended : Result StageDoc Failure = Ok (at.Step (at.PutLast w)) in
-    let more : Result StageDoc Failure = Ok (at.Fetch (at.Root w) (root_request s.limits (w.last.role.head.version + 1))) in
-    unless-fine Late bad (MaxUpdatesExceeded s.limits.max_root_updates) (nat_lt (w.last.role.head.version - w.first.role.head.version) s.limits.max_root_updates) (if w.last.role.head.version == 2 ^ 64 - 1 then ended else more) (λ _.
-    if-fine Late bad (w.last.role.head.version == 2 ^ 64 - 1) ended more (λ _. tt) tt)
+walked-late s w = walking Late bad s.limits w (λ _ _. tt) (λ _. tt)
 
 walk_ended-late : (s : SettingDoc) (w : WalkDoc) → Fine Late bad (walk_ended s.limits s.enforced w)
-walk_ended-late s w =
-    let cleared : Result StageDoc Failure = Ok (at.Step (at.Clear (base_of w))) in
-    let kept : Result StageDoc Failure = Ok (at.Fetch (at.Timestamp (base_of w)) (timestamp_request s.limits)) in
-    unless-fine Late bad (Checked (ExpiredMetadata role.Root w.last.role.head.expires w.start)) (not (is_expired s.enforced w.start w.last.role.head.expires)) (if is_rotated w.first.role w.last.role then cleared else kept) (λ _.
-    if-fine Late bad (is_rotated w.first.role w.last.role) cleared kept (λ _. tt) tt)
-
-if_read-late : {D : Type 0} (f : Failure) (o : Option D) (next : D → StageDoc) → ((d : D) → Late (next d)) → Fine Late bad (if_read f o (λ d. Ok (next d)))
-if_read-late f None next h = tt
-if_read-late f (Some d) next h = h d
+walk_ended-late s w = ending Late bad s.limits s.enforced w (λ _ _. tt) (λ _. tt)
 
 want_snapshot-late : (s : SettingDoc) (b : BaseDoc) (t : SignedDoc TimestampDoc) (o : Option MetafileDoc) → Fine Late bad (want_snapshot s.limits b t o)
 want_snapshot-late s b t None = tt
@@ -79,8 +69,8 @@ given-late s k roles d = grown-late s k roles.received (go_on (metas_in k) (give
 module _ (v : Verifies) where
   read-late : (s : SettingDoc) (w : WantedDoc) (r : RequestDoc) (bytes : List ℕ) → Fine Late bad (read_wanted v s w r bytes)
   read-late s (at.Root w) r bytes = and_then-fine Late bad (next_root v w.last.role bytes) (λ root. Ok (at.Step (at.PutRoot (record { start = w.start; first = w.first; last = root })))) (λ root _. tt)
-  read-late s (at.Timestamp b) r bytes = if_read-late (ParseMetadata role.Timestamp (holds_json bytes)) (timestamp_in bytes) (λ t. at.Step (at.PutTimestamp b t)) (λ t. tt)
-  read-late s (at.Snapshot b t n) r bytes = if_read-late (ParseMetadata role.Snapshot (holds_json bytes)) (snapshot_in bytes) (λ d. at.Step (at.PutSnapshot (known_of b t d) n)) (λ d. tt)
+  read-late s (at.Timestamp b) r bytes = reading Late bad (ParseMetadata role.Timestamp (holds_json bytes)) (timestamp_in bytes) (λ t. at.Step (at.PutTimestamp b t)) (λ t. tt)
+  read-late s (at.Snapshot b t n) r bytes = reading Late bad (ParseMetadata role.Snapshot (holds_json bytes)) (snapshot_in bytes) (λ d. at.Step (at.PutSnapshot (known_of b t d) n)) (λ d. tt)
   read-late s (at.Targets k n) r bytes = and_then-fine Late bad (judged v s.enforced k.start (by_root k.root.role) n bytes) (λ d. Ok (at.Step (at.PutTargets k d))) (λ d _. tt)
   read-late s (at.Role k roles n) r bytes = and_then-fine Late bad (judged v s.enforced k.start (role_holder roles.work) n bytes) (role_stored s.limits k (with_received roles bytes) r.name) (λ d _.
       if-fine Late bad (is_reserved r.name) (role_given s.limits k (with_received roles bytes) d) (Ok (at.Step (at.PutDelegated k (with_received roles bytes) r.name d))) (λ _. given-late s k (with_received roles bytes) d) tt)

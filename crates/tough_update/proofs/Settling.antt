@@ -1,20 +1,13 @@
 -- How a turn of the program ends.
 use Rattle.std.proofs.Common.{◌≡◌, ◌⊎◌, List, ℕ, ℤ, Bool, Some, None, Result, Ok, Err, refl, sym, ap, ◌∙◌, inl, inr}
 use Rattle.tough_keys.specs.Same.{Verifies}
-use Rattle.tough_update.specs.Failure.{Failure, ParseTrustedMetadata, VerifyTrustedMetadata, ParseMetadata, MaxUpdatesExceeded, ParseUrl, JoinUrl, Transport, InvalidPath, Checked, DatastoreOpen, DatastoreCreate, DatastoreRemove, Memory, IsRefused}
+use Rattle.tough_trust.specs.Failure.{Failure, ParseTrustedMetadata, VerifyTrustedMetadata, ParseMetadata, MaxUpdatesExceeded, ParseUrl, JoinUrl, Transport, InvalidPath, Checked, DatastoreOpen, DatastoreCreate, DatastoreRemove, Memory, IsRefused}
 use Rattle.tough_update.specs.Stages.{StageDoc, CoreDoc, Done}
 use Rattle.tough_update.specs.Answered.{AnswerDoc}
 use Rattle.tough_update.specs.Machine.{settled, stage_after}
 use Rattle.tough_update.specs.Promises.{Settles, Goes, ended}
-use Rattle.tough_roles.specs.Signature.{SignedDoc}
-use Rattle.tough_roles.specs.declared.role_type.RoleType.TheVariants as role
-use Rattle.tough_schema.specs.Targets.{TargetsDoc}
-use Rattle.tough_delegated.specs.Bare.{bare}
-use Rattle.tough_update.specs.Listed.{HolderDoc, targets_in, targets_refusal, judged}
-use Rattle.tough_update.specs.Outcomes.{unrefused}
 use Rattle.tough_update.specs.View.{stage_doc}
-use Rattle.tough_update.specs.Walk.{if_read, holds_json}
-use Rattle.tough_update.specs.declared.error.UpdateError.{UpdateError}
+use Rattle.tough_trust.specs.declared.error.UpdateError.{UpdateError}
 use Rattle.tough_update.specs.declared.stage.Loaded.{Loaded}
 use Rattle.tough_update.specs.declared.stage.Stage.{Stage}
 use Rattle.tough_update.specs.declared.stage.Stage.TheVariants as in_stage
@@ -57,10 +50,3 @@ unended (in_stage.Fetch w r) h = refl
 unended (in_stage.Step p) h = refl
 unended (in_stage.Done o) h = absurd (h o refl)
 unended in_stage.Taken h = refl
-
--- targets that were read and checked
-pub judged-to : (v : Verifies) (enforced : Bool) (start : ℤ) (holder : HolderDoc) (listed : ℕ) (bytes : List ℕ) (page : SignedDoc TargetsDoc) → targets_in bytes ≡ Some page
-    → targets_refusal v enforced start holder listed page ≡ None → judged v enforced start holder listed bytes ≡ Ok (bare page)
-judged-to v enforced start holder listed bytes page h k =
-    ap (λ o. if_read (ParseMetadata role.Targets (holds_json bytes)) o (λ d. unrefused (targets_refusal v enforced start holder listed d) (bare d))) h
-    ∙ ap (λ o. unrefused o (bare page)) k

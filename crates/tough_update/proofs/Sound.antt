@@ -18,14 +18,16 @@ use Rattle.tough_roles.proofs.lemmas.Reached.{reaches-from, ok-reaches}
 use Rattle.tough_vault.specs.Checks.{Reason, refuse, or_else, VersionMismatch, VerifyMetadata, OlderMetadata, TimestampMetaLength, expiry, is_expired, ExpiredMetadata, verified, timestamp_first, timestamp_form, snapshot_first, snapshot_form}
 use Rattle.tough_vault.specs.Documents.{root_in, timestamp_in, snapshot_in, metafile_in, timestamp_verdict, snapshot_verdict}
 use Rattle.tough_vault.specs.Files.{snapshot_file, targets_file}
-use Rattle.tough_update.specs.Failure.{Failure, ParseTrustedMetadata, VerifyTrustedMetadata, ParseMetadata, MaxUpdatesExceeded, Checked}
-use Rattle.tough_update.specs.Walk.{holds_json, first_root, next_root, root_verdict, if_read, if_verified, if_next}
-use Rattle.tough_update.specs.Requests.{RequestDoc, bound, stated_digest, has_digest, fits_request, root_request, timestamp_request}
+use Rattle.tough_trust.specs.Failure.{Failure, ParseTrustedMetadata, VerifyTrustedMetadata, ParseMetadata, MaxUpdatesExceeded, Checked}
+use Rattle.tough_trust.specs.Walk.{first_root, next_root}
+use Rattle.tough_trust.specs.Outcomes.{holds_json, if_read}
+use Rattle.tough_trust.specs.Requests.{RequestDoc, bound, stated_digest, has_digest, fits_request, root_request, timestamp_request}
 use Rattle.tough_schema.specs.Targets.{TargetsDoc, targets_json}
-use Rattle.tough_update.specs.Outcomes.{unrefused}
-use Rattle.tough_update.specs.Rotation.{is_rotated}
-use Rattle.tough_update.specs.Listed.{targets_in, HolderDoc, by_root, by_delegations, targets_verdict, targets_refusal, judged}
-use Rattle.tough_update.specs.Delegated.{first_name, wanted_name, role_holder, metas_in, is_reserved, if_found, grown_on, roles_begun, given, role_given, role_stored, with_received, new_role}
+use Rattle.tough_trust.specs.Outcomes.{unrefused}
+use Rattle.tough_trust.specs.Rotation.{is_rotated}
+use Rattle.tough_trust.specs.Listed.{targets_in, HolderDoc, by_root, by_delegations, targets_verdict, targets_refusal, judged}
+use Rattle.tough_update.specs.Delegated.{metas_in, is_reserved, if_found, grown_on, roles_begun, given, role_given, role_stored, with_received, new_role}
+use Rattle.tough_trust.specs.Listed.{first_name, wanted_name, role_holder}
 use Rattle.tough_names.specs.Named.{Named as ListedName}
 use Rattle.tough_roles.specs.Policy.{Policy}
 use Rattle.tough_schema.specs.Delegations.{DelegationsDoc}
@@ -51,126 +53,19 @@ use Rattle.tough_update.specs.Answered as got
 use Rattle.tough_update.specs.Machine.{walked, began, new_root, base_of, walk_ended, want_snapshot, known_of, want_targets, new_targets, read_wanted, after, stage_after, question_at}
 use Rattle.tough_update.specs.Trusted.{Chain, handed_in, followed, Lists, IsVouched}
 use Rattle.tough_update.specs.Runs.{Keeps, EndsWalk}
-use Rattle.tough_update.proofs.Walking.{under, follows}
-use Rattle.tough_update.proofs.Turning.{Fine, unless-fine, if-fine, and_then-fine, keeps-answer}
-
--- ---- checks that passed
-
-pub or_first : (a b : Option Reason) → or_else a b ≡ None → a ≡ None
-or_first None b h = refl
-or_first (Some r) b h = cc
-
-pub or_second : (a b : Option Reason) → or_else a b ≡ None → b ≡ None
-or_second None b h = h
-or_second (Some r) b h = cc
-
-pub not_refused : (b : Bool) (r : Reason) → refuse (not b) r ≡ None → b ≡ true
-not_refused true r h = refl
-not_refused false r h = cc
-
-pub refuse-none : (b : Bool) (r : Reason) → refuse b r ≡ None → b ≡ false
-refuse-none true r h = cc
-refuse-none false r h = refl
-
-pub ok-same : {A : Type 0} (x y : A) (r : Result A Failure) → r ≡ Ok x → r ≡ Ok y → x ≡ y
-ok-same x y r g h = cc
-
-pub is_verified : (type : RoleType) (v : Result Unit Refused) → verified type v ≡ None → v ≡ Ok (tt {0})
-is_verified type (Ok u) h = refl
-is_verified type (Err r) h = cc
-
-pub not-expired : (type : RoleType) (enforced : Bool) (start expires : ℤ) → expiry type enforced start expires ≡ None → is_expired enforced start expires ≡ false
-not-expired type enforced start expires h = refuse-none (is_expired enforced start expires) (ExpiredMetadata type expires start) h
-
--- ---- requests that bytes fit
-
-pub has-true : (b c : Bool) → IsTrue (b && c) → IsTrue b × IsTrue c
-has-true true c h = (refl, h)
-has-true false c h = cc
-
-pub size-stated : (o : Option ℕ) (limit n : ℕ) → n ≤ bound o limit → IfSome o (λ k. n ≤ k)
-size-stated None limit n h = tt
-size-stated (Some k) limit n h = h
-
-pub digest-stated : (o : Option (List ℕ)) (bytes : List ℕ) → IsTrue (has_digest o bytes) → IfSome o (λ d. sha256 bytes ≡ d)
-digest-stated None bytes h = tt
-digest-stated (Some d) bytes h = (bytes_eq-Decides _ _).0 h
+use Rattle.tough_trust.proofs.lemmas.Passing.{size-stated, digest-stated, has-true, if_read-ok, not-true, timestamp-passes, snapshot-passes, not-expired, or_first, or_second, refuse-none}
+use Rattle.tough_trust.proofs.lemmas.Walking.{first-passed, next-fine}
+use Rattle.tough_trust.proofs.lemmas.Judging.{judged-ok, delegated-at}
+use Rattle.tough_update.proofs.Turning.{Fine, if-fine, and_then-fine, walking, ending, keeps-answer}
 
 -- ---- documents that were read and verified
 
-pub if_verified-ok : {A : Type 0} (f : Refused → Failure) (v : Result Unit Refused) (next : Result A Failure) (a : A) → if_verified f v next ≡ Ok a → (v ≡ Ok (tt {0})) × (next ≡ Ok a)
-if_verified-ok f (Ok u) next a h = (refl, h)
-if_verified-ok f (Err r) next a h = cc
-
-pub if_read-ok : {A B : Type 0} (f : Failure) (o : Option A) (next : A → Result B Failure) (b : B) → if_read f o next ≡ Ok b → (a : A) × (o ≡ Some a) × (next a ≡ Ok b)
-if_read-ok f None next b h = cc
-if_read-ok f (Some a) next b h = (a, refl, h)
-
-if-ok : {A : Type 0} (b : Bool) (x y : A) (f : Failure) → (if b then Ok x else Err f) ≡ Ok y → IsTrue b × (x ≡ y)
-if-ok true x y f h = (refl, cc)
-if-ok false x y f h = cc
-
-pub not-true : (b : Bool) → IsTrue (not b) → b ≡ false
-not-true true h = cc
-not-true false h = refl
-
 pub first-fine : (verifies : Verifies) (bytes : List ℕ) (root : SignedDoc RootDoc) → first_root verifies bytes ≡ Ok root → Chain verifies bytes root
 first-fine verifies bytes root h =
-    let r = if_read-ok (ParseTrustedMetadata (holds_json bytes)) (root_in bytes) (λ d. if_verified (λ x. VerifyTrustedMetadata (Some x)) (root_verdict verifies d.role d) (Ok d)) root h in
-    let v = if_verified-ok (λ x. VerifyTrustedMetadata (Some x)) (root_verdict verifies r.0.role r.0) (Ok r.0) root r.2 in
-    let same : r.0 ≡ root = ok-same r.0 root (Ok r.0) refl v.1 in
-    subst (λ (x : SignedDoc RootDoc). Chain verifies bytes x) same (handed_in r.0 r.1 (under verifies r.0.role r.0 v.0))
-
-pub next-fine : (verifies : Verifies) (old : SignedDoc RootDoc) (bytes : List ℕ) (root : SignedDoc RootDoc) → next_root verifies old.role bytes ≡ Ok root → IsNext verifies old root
-next-fine verifies old bytes root h =
-    let fault : Refused → Failure = λ x. Checked (VerifyMetadata role.Root (Some x)) in
-    let r = if_read-ok (ParseMetadata role.Root (holds_json bytes)) (root_in bytes) (λ d. if_verified fault (root_verdict verifies old.role d) (if_verified fault (root_verdict verifies d.role d) (if_next old.role d))) root h in
-    let u = if_verified-ok fault (root_verdict verifies old.role r.0) (if_verified fault (root_verdict verifies r.0.role r.0) (if_next old.role r.0)) root r.2 in
-    let v = if_verified-ok fault (root_verdict verifies r.0.role r.0) (if_next old.role r.0) root u.1 in
-    let n = if-ok (r.0.role.head.version == old.role.head.version + 1) r.0 root (Checked (OlderMetadata role.Root old.role.head.version r.0.role.head.version)) v.1 in
-    subst (λ (x : SignedDoc RootDoc). IsNext verifies old x) n.1 (follows verifies old.role old r.0 refl u.0 v.0 (eqb-true _ _ n.0))
-
-unrefused-ok : {A : Type 0} (o : Option Reason) (x y : A) → unrefused o x ≡ Ok y → (o ≡ None) × (x ≡ y)
-unrefused-ok None x y h = (refl, cc)
-unrefused-ok (Some r) x y h = cc
-
--- targets that passed their checks
-checked-ok : (verifies : Verifies) (enforced : Bool) (start : ℤ) (holder : HolderDoc) (listed : ℕ) (d : SignedDoc TargetsDoc) → targets_refusal verifies enforced start holder listed d ≡ None
-    → (targets_verdict verifies holder d ≡ Ok (tt {0})) × (d.role.head.version ≡ listed) × (is_expired enforced start d.role.head.expires ≡ false)
-checked-ok verifies enforced start holder listed d h =
-    let mismatch = VersionMismatch role.Targets d.role.head.version listed in
-    let expiring = expiry role.Targets enforced start d.role.head.expires in
-    let later = or_second (verified role.Targets (targets_verdict verifies holder d)) (or_else (refuse (not (d.role.head.version == listed)) mismatch) (or_else expiring None)) h in (
-      is_verified role.Targets (targets_verdict verifies holder d) (or_first _ _ h),
-      eqb-true _ _ (not_refused (d.role.head.version == listed) mismatch (or_first _ _ later)),
-      not-expired role.Targets enforced start d.role.head.expires (or_first _ _ (or_second (refuse (not (d.role.head.version == listed)) mismatch) (or_else expiring None) later)),
-    )
-
--- targets that were read and passed
-pub record Passed (verifies : Verifies) (enforced : Bool) (start : ℤ) (holder : HolderDoc) (listed : ℕ) (bytes : List ℕ) (d : SignedDoc TreeDoc) : Type 0 where
-  pub page : SignedDoc TargetsDoc
-  pub is : d ≡ bare page
-  pub reading : targets_in bytes ≡ Some page
-  pub verified : targets_verdict verifies holder page ≡ Ok (tt {0})
-  pub version : page.role.head.version ≡ listed
-  pub in_time : is_expired enforced start page.role.head.expires ≡ false
-
-pub judged-ok : (verifies : Verifies) (enforced : Bool) (start : ℤ) (holder : HolderDoc) (listed : ℕ) (bytes : List ℕ) (d : SignedDoc TreeDoc) → judged verifies enforced start holder listed bytes ≡ Ok d
-    → Passed verifies enforced start holder listed bytes d
-judged-ok verifies enforced start holder listed bytes d h =
-    let r = if_read-ok (ParseMetadata role.Targets (holds_json bytes)) (targets_in bytes) (λ x. unrefused (targets_refusal verifies enforced start holder listed x) (bare x)) d h in
-    let p = unrefused-ok (targets_refusal verifies enforced start holder listed r.0) (bare r.0) d r.2 in
-    let c = checked-ok verifies enforced start holder listed r.0 p.0 in
-    record { page = r.0; is = sym p.1; reading = r.1; verified = c.0; version = c.1; in_time = c.2 }
+    let r = first-passed verifies bytes root h in
+    handed_in root r.0 r.1
 
 -- ---- delegations that vouch
-
-delegated-at : (verifies : Verifies) (g : DelegationsDoc) (name : List ℕ) (d : SignedDoc TargetsDoc) (p : Option Policy) (text : Option (List ℕ)) → delegated_policy g name ≡ p → text_by targets_json d.role ≡ text
-    → verdict verifies p text d.signatures ≡ Ok tt → ReachesDelegated verifies g name targets_json d
-unfolding verdict
-delegated-at verifies g name d None text e f h = cc
-delegated-at verifies g name d (Some p) None e f h = cc
-delegated-at verifies g name d (Some p) (Some t) e f h = record { asked = p; there = e; text = t; canonical = f; reached = reaches-from verifies p t d.signatures h }
 
 vouched : (verifies : Verifies) (entries : List (List ℕ × MetafileDoc)) (g : Option DelegationsDoc) (name : List ℕ) (d : SignedDoc TargetsDoc) → targets_verdict verifies (by_delegations g name) d ≡ Ok tt
     → Lists targets_in entries (name ++ codes ".json") d.role.head.version d → IsVouched verifies entries g name d
@@ -190,20 +85,6 @@ le_from_lt a b h = omega (arith, signed_arith, h)
 pub in-time : (enforced : Bool) (start expires : ℤ) → enforced ≡ true → is_expired enforced start expires ≡ false → start ≤ℤ expires
 in-time true start expires e h = le_from_lt expires start h
 in-time false start expires e h = cc
-
-pub timestamp-passes : (verifies : Verifies) (root : RootDoc) (t : SignedDoc TimestampDoc) → timestamp_first (timestamp_verdict verifies root t) t.role ≡ None
-    → ReachesUnder verifies root role.Timestamp timestamp_json t × (length t.role.meta ≡ 1)
-timestamp-passes verifies root t h =
-    let v = is_verified role.Timestamp (timestamp_verdict verifies root t) (or_first _ _ h) in
-    let form : timestamp_form t.role ≡ None = or_first _ _ (or_second (verified role.Timestamp (timestamp_verdict verifies root t)) (or_else (timestamp_form t.role) None) h) in
-    (ok-reaches verifies root role.Timestamp timestamp_json t (Ok (tt {0})) v, eqb-true _ _ (not_refused (length t.role.meta == 1) (TimestampMetaLength t.role.head.version (length t.role.meta)) (or_first _ _ form)))
-
-pub snapshot-passes : (verifies : Verifies) (root : RootDoc) (listed : ℕ) (d : SignedDoc SnapshotDoc) → snapshot_first listed (snapshot_verdict verifies root d) d.role ≡ None
-    → ReachesUnder verifies root role.Snapshot snapshot_json d × (d.role.head.version ≡ listed)
-snapshot-passes verifies root listed d h =
-    let later = or_second (refuse (not (d.role.head.version == listed)) (VersionMismatch role.Snapshot d.role.head.version listed)) (or_else (verified role.Snapshot (snapshot_verdict verifies root d)) (or_else (snapshot_form d.role) None)) h in
-    let v = is_verified role.Snapshot (snapshot_verdict verifies root d) (or_first _ _ later) in
-    (ok-reaches verifies root role.Snapshot snapshot_json d (Ok (tt {0})) v, eqb-true _ _ (not_refused (d.role.head.version == listed) (VersionMismatch role.Snapshot d.role.head.version listed) (or_first _ _ h)))
 
 module _ (verifies : Verifies) (s : SettingDoc) (N : ℤ → Type 0) (E : SignedDoc RootDoc → Type 0) where
   -- whether a moment is within an expiry, where that counts
@@ -289,10 +170,7 @@ module _ (verifies : Verifies) (s : SettingDoc) (N : ℤ → Type 0) (E : Signed
 
   module _ (at_end : (r : SignedDoc RootDoc) → r.role.head.version ≡ 2 ^ 64 - 1 → E r) where
     walked-fine : (w : WalkDoc) → N w.start → Chain verifies s.trusted w.last → Fine Holds bad (walked s.limits w)
-    walked-fine w n c = unless-fine Holds bad (MaxUpdatesExceeded s.limits.max_root_updates) (nat_lt (w.last.role.head.version - w.first.role.head.version) s.limits.max_root_updates)
-        (if w.last.role.head.version == 2 ^ 64 - 1 then Ok (at.Step (at.PutLast w)) else Ok (at.Fetch (at.Root w) (root_request s.limits (w.last.role.head.version + 1)))) (λ _.
-        if-fine Holds bad (w.last.role.head.version == 2 ^ 64 - 1) (Ok (at.Step (at.PutLast w))) (Ok (at.Fetch (at.Root w) (root_request s.limits (w.last.role.head.version + 1))))
-        (λ e. (n, c, at_end w.last (eqb-true _ _ e))) (n, c, refl))
+    walked-fine w n c = walking Holds bad s.limits w (λ _ e. (n, c, at_end w.last e)) (λ _. (n, c, refl))
 
     began-fine : (start : ℤ) → N start → Fine Holds bad (began verifies s.limits s.trusted start)
     began-fine start n = and_then-fine Holds bad (first_root verifies s.trusted) (λ root. walked s.limits (record { start = start; first = root; last = root })) (λ root is.
@@ -303,10 +181,7 @@ module _ (verifies : Verifies) (s : SettingDoc) (N : ℤ → Type 0) (E : Signed
         (n, followed w.last root c (next-fine verifies w.last bytes root is)))
 
     walk_ended-fine : (w : WalkDoc) → N w.start → Chain verifies s.trusted w.last → E w.last → Fine Holds bad (walk_ended s.limits s.enforced w)
-    walk_ended-fine w n c e = unless-fine Holds bad (Checked (ExpiredMetadata role.Root w.last.role.head.expires w.start)) (not (is_expired s.enforced w.start w.last.role.head.expires))
-        (if is_rotated w.first.role w.last.role then Ok (at.Step (at.Clear (base_of w))) else Ok (at.Fetch (at.Timestamp (base_of w)) (timestamp_request s.limits))) (λ t.
-        if-fine Holds bad (is_rotated w.first.role w.last.role) (Ok (at.Step (at.Clear (base_of w)))) (Ok (at.Fetch (at.Timestamp (base_of w)) (timestamp_request s.limits)))
-        (λ _. (n, c, e, not-true _ t)) (n, c, e, not-true _ t))
+    walk_ended-fine w n c e = ending Holds bad s.limits s.enforced w (λ t _. (n, c, e, not-true _ t)) (λ t. (n, c, e, not-true _ t))
 
     new_timestamp-fine : (b : BaseDoc) (bytes : List ℕ) (o : Option (SignedDoc TimestampDoc)) → BaseFine b.start b.root → Fine Holds bad (if_read (ParseMetadata role.Timestamp (holds_json bytes)) o (λ t. Ok (at.Step (at.PutTimestamp b t))))
     new_timestamp-fine b bytes None h = tt

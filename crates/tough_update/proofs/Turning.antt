@@ -1,20 +1,26 @@
 -- A fact of stages is kept by each answer where it is kept by each file that is read, by a root's fetch that ends the walk, and by each step.
-use Rattle.std.specs.Prelude.{◌≡◌, ◌≢◌, not, ℤ, List, Bool, true, false, IsTrue, Result, Ok, Err, ℕ, if◌then◌else◌}
+use Rattle.std.specs.Prelude.{◌≡◌, ◌≢◌, ◌+◌, ◌-◌, ◌^◌, ◌==◌, nat_lt, not, ℤ, List, Bool, true, false, IsTrue, Option, Some, None, Result, Ok, Err, ℕ, if◌then◌else◌}
 use Rattle.std.proofs.Common.{refl, ap}
+use Rattle.std.proofs.lemmas.Bool.{eqb-true}
 use Rattle.tough_net.specs.declared.error.TransportErrorKind.{TransportErrorKind}
 use Rattle.tough_net.specs.declared.error.TransportErrorKind.TheVariants as kind
 use Rattle.tough_net.specs.Errors.{error_kind}
 use Rattle.tough_keys.specs.Same.{Verifies}
-use Rattle.tough_update.specs.Failure.{Failure}
-use Rattle.tough_update.specs.Outcomes.{unless, and_then}
-use Rattle.tough_update.specs.Requests.{RequestDoc}
+use Rattle.tough_roles.specs.declared.role_type.RoleType.TheVariants as role
+use Rattle.tough_vault.specs.Checks.{ExpiredMetadata, is_expired}
+use Rattle.tough_trust.specs.Failure.{Failure, MaxUpdatesExceeded, Checked}
+use Rattle.tough_trust.specs.declared.limits.Limits.{Limits}
+use Rattle.tough_trust.specs.Outcomes.{unless, if_read, and_then}
+use Rattle.tough_trust.specs.Requests.{RequestDoc, root_request, timestamp_request}
+use Rattle.tough_trust.specs.Rotation.{is_rotated}
 use Rattle.tough_update.specs.Stages.{WalkDoc, WantedDoc, PendingDoc, StageDoc, SettingDoc}
 use Rattle.tough_update.specs.Stages as at
-use Rattle.tough_update.specs.declared.request.Fault.{Fault}
-use Rattle.tough_update.specs.declared.request.Fault.TheVariants as fault
+use Rattle.tough_trust.specs.declared.fault.Fault.{Fault}
+use Rattle.tough_trust.specs.declared.fault.Fault.TheVariants as fault
 use Rattle.tough_update.specs.Answered.{AnswerDoc}
 use Rattle.tough_update.specs.Answered as got
-use Rattle.tough_update.specs.Machine.{fault_failure, is_memory, is_missing, ends_start, ends_stream, read_wanted, after, settled, stage_after}
+use Rattle.tough_update.specs.Machine.{ask_root, walked, base_of, walk_ended, read_wanted, after, settled, stage_after}
+use Rattle.tough_trust.specs.Faults.{fault_failure, is_memory, is_missing, ends_start, ends_stream}
 use Rattle.tough_update.specs.Runs.{EndsWalk}
 
 module _ (P : StageDoc → Type 0) (bad : (f : Failure) → P (at.Done (Err f))) where
@@ -32,6 +38,37 @@ module _ (P : StageDoc → Type 0) (bad : (f : Failure) → P (at.Done (Err f)))
   pub and_then-fine : {A : Type 0} (r : Result A Failure) (f : A → Result StageDoc Failure) → ((a : A) → r ≡ Ok a → Fine (f a)) → Fine (and_then r f)
   and_then-fine (Ok a) f good = good a refl
   and_then-fine (Err e) f good = bad e
+
+  -- where the limit allows another root, the walk is at its end or the root of the next version is asked for
+  walks-on : (l : Limits) (w : WalkDoc) (n : ℕ) (fault : Failure) (more end : Bool) → (IsTrue more → IsTrue end → P (at.Step (at.PutLast w))) → (IsTrue more → P (at.Fetch (at.Root w) (root_request l n)))
+      → Fine (and_then (unless fault more (if end then Ok None else Ok (Some n))) (λ version. Ok (ask_root l w version)))
+  walks-on l w n fault true true ends goes = ends refl refl
+  walks-on l w n fault true false ends goes = goes refl
+  walks-on l w n fault false end ends goes = bad fault
+
+  pub walking : (l : Limits) (w : WalkDoc)
+      → (IsTrue (nat_lt (w.last.role.head.version - w.first.role.head.version) l.max_root_updates) → w.last.role.head.version ≡ 2 ^ 64 - 1 → P (at.Step (at.PutLast w)))
+      → (IsTrue (nat_lt (w.last.role.head.version - w.first.role.head.version) l.max_root_updates) → P (at.Fetch (at.Root w) (root_request l (w.last.role.head.version + 1))))
+      → Fine (walked l w)
+  walking l w ends goes =
+      walks-on l w (w.last.role.head.version + 1) (MaxUpdatesExceeded l.max_root_updates) (nat_lt (w.last.role.head.version - w.first.role.head.version) l.max_root_updates) (w.last.role.head.version == 2 ^ 64 - 1)
+      (λ m e. ends m (eqb-true _ _ e)) goes
+
+  -- where the last root hasn't expired, timestamp and snapshot are forgotten or the timestamp is asked for
+  pub ending : (l : Limits) (enforced : Bool) (w : WalkDoc)
+      → (IsTrue (not (is_expired enforced w.start w.last.role.head.expires)) → IsTrue (is_rotated w.first.role w.last.role) → P (at.Step (at.Clear (base_of w))))
+      → (IsTrue (not (is_expired enforced w.start w.last.role.head.expires)) → P (at.Fetch (at.Timestamp (base_of w)) (timestamp_request l)))
+      → Fine (walk_ended l enforced w)
+  ending l enforced w cleared kept =
+      let clears : Result StageDoc Failure = Ok (at.Step (at.Clear (base_of w))) in
+      let keeps : Result StageDoc Failure = Ok (at.Fetch (at.Timestamp (base_of w)) (timestamp_request l)) in
+      unless-fine (Checked (ExpiredMetadata role.Root w.last.role.head.expires w.start)) (not (is_expired enforced w.start w.last.role.head.expires)) (if is_rotated w.first.role w.last.role then clears else keeps) (λ t.
+      if-fine (is_rotated w.first.role w.last.role) clears keeps (cleared t) (kept t))
+
+  -- a document was read
+  pub reading : {D : Type 0} (f : Failure) (o : Option D) (to : D → StageDoc) → ((d : D) → P (to d)) → Fine (if_read f o (λ d. Ok (to d)))
+  reading f None to good = bad f
+  reading f (Some d) to good = good d
 
 not-wanting : (k : TransportErrorKind) → IsTrue (not (is_memory k)) → k ≢ kind.Memory
 not-wanting k h e = cc (e, ap (λ x. not (is_memory x)) e, h)

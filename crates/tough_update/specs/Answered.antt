@@ -1,7 +1,7 @@
 -- What an update is answered.
 use Rattle.std.specs.Prelude.{ℤ, ℕ, List, Result}
-use Rattle.tough_update.specs.Failure.{Failure}
-use Rattle.tough_update.specs.declared.request.Fault.{Fault}
+use Rattle.tough_trust.specs.Failure.{Failure}
+use Rattle.tough_trust.specs.declared.fault.Fault.{Fault}
 
 pub data AnswerDoc : Type 0 where
   Moment : ℤ → AnswerDoc

@@ -10,24 +10,13 @@ use Rattle.tough_schema.specs.Entries.{first_missing}
 use Rattle.tough_delegated.specs.Growing.{Metas, WorkDoc, Progress, wants, grown, holder_of, first_work, with_taken, go_on}
 use Rattle.tough_delegated.specs.Bare.{held_as}
 use Rattle.tough_vault.specs.Files.{time_file, root_file, timestamp_file, snapshot_file, targets_file}
-use Rattle.tough_update.specs.declared.limits.Limits.{Limits}
-use Rattle.tough_update.specs.Failure.{Failure, InvalidPath}
-use Rattle.tough_update.specs.Listed.{HolderDoc, by_delegations, judged}
-use Rattle.tough_update.specs.Outcomes.{and_then}
-use Rattle.tough_update.specs.Requests.{role_request}
+use Rattle.tough_trust.specs.declared.limits.Limits.{Limits}
+use Rattle.tough_trust.specs.Failure.{Failure}
+use Rattle.tough_trust.specs.Listed.{wanted_name, role_holder, all_found, judged}
+use Rattle.tough_trust.specs.Outcomes.{and_then}
+use Rattle.tough_trust.specs.Requests.{role_request}
 use Rattle.tough_update.specs.Stages.{KnownDoc, RolesDoc, ReceivedDoc, LoadedDoc, StageDoc, SettingDoc}
 use Rattle.tough_update.specs.Stages as at
-
--- the role whose document is wanted, and the delegations that it stands in
-abbrev pub first_name : List Entry → List ℕ
-first_name [] = []
-first_name (e ∷ rest) = e.name
-
-abbrev pub wanted_name : WorkDoc → List ℕ
-wanted_name w = first_name w.waiting
-
-abbrev pub role_holder : WorkDoc → HolderDoc
-role_holder w = by_delegations (holder_of w) (wanted_name w)
 
 -- what the snapshot lists
 abbrev pub metas_in : KnownDoc → Metas
@@ -37,10 +26,9 @@ metas_in k = k.snapshot.role.meta
 abbrev pub is_reserved : List ℕ → Bool
 is_reserved name = bytes_eq name root_file || (bytes_eq name timestamp_file || (bytes_eq name snapshot_file || (bytes_eq name targets_file || bytes_eq name time_file)))
 
--- each name that a complete tree lists must be found by the permissive search
+-- the tree is complete: each name that it lists must be found by the permissive search
 abbrev pub if_found : Option Named → LoadedDoc → Result StageDoc Failure
-if_found None l = Ok (at.Done (Ok l))
-if_found (Some name) l = Err (InvalidPath (Some name))
+if_found missing l = and_then (all_found missing) (λ _. Ok (at.Done (Ok l)))
 
 abbrev pub finished : KnownDoc → List ReceivedDoc → SignedDoc TreeDoc → Result StageDoc Failure
 finished k received t = if_found (first_missing t.role) (record { known = k; targets = t; received = received })

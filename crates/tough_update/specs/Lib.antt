@@ -1,9 +1,3 @@
-pub mod Failure
-pub mod Walk
-pub mod Outcomes
-pub mod Requests
-pub mod Rotation
-pub mod Listed
 pub mod Stages
 pub mod Delegated
 pub mod Questions

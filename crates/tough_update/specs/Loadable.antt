@@ -23,7 +23,7 @@ use Rattle.tough_vault.specs.Steps.{time_text, time_step, root_step, timestamp_s
 use Rattle.tough_vault.specs.Act.{Act}
 use Rattle.tough_vault.specs.Act as act
 use Rattle.tough_vault.specs.Files.{snapshot_file, targets_file}
-use Rattle.tough_update.specs.Requests.{RequestDoc, fits_request, root_request, timestamp_request, snapshot_request, targets_request, role_request}
+use Rattle.tough_trust.specs.Requests.{RequestDoc, fits_request, root_request, timestamp_request, snapshot_request, targets_request, role_request}
 use Rattle.tough_schema.specs.Entries.{first_missing}
 use Rattle.tough_delegated.specs.Bare.{top_page}
 use Rattle.tough_delegated.specs.Full.{IsFull, fetch_order}
@@ -31,12 +31,12 @@ use Rattle.tough_delegated.specs.Growing.{listed_as}
 use Rattle.tough_delegated.specs.Once.{Distinct}
 use Rattle.tough_delegated.specs.Under.{Below}
 use Rattle.tough_update.specs.Delegated.{metas_in, is_reserved}
-use Rattle.tough_update.specs.Listed.{targets_in, targets_text}
-use Rattle.tough_update.specs.Failure.{Checked}
+use Rattle.tough_trust.specs.Listed.{targets_in, targets_text}
+use Rattle.tough_trust.specs.Failure.{Checked}
 use Rattle.tough_update.specs.Stages.{KnownDoc, ReceivedDoc, LoadedDoc, SettingDoc, CoreDoc, Done}
 use Rattle.tough_update.specs.Questions.{Question}
 use Rattle.tough_update.specs.Questions as ask
-use Rattle.tough_update.specs.declared.request.Fault.TheVariants as fault
+use Rattle.tough_trust.specs.declared.fault.Fault.TheVariants as fault
 use Rattle.tough_update.specs.Answered.{AnswerDoc}
 use Rattle.tough_update.specs.Answered as got
 use Rattle.tough_update.specs.Machine.{question, answered}

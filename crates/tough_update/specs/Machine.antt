@@ -1,11 +1,6 @@
 -- An update as a machine (TUF specification 1.0, section 5): what is asked next, and what an answer makes of it. An answer of a kind that
 -- isn't waited for changes nothing.
 use Rattle.std.specs.Prelude.{ℕ, ℤ, ◌+◌, ◌-◌, ◌^◌, ◌==◌, List, Option, Some, None, Bool, true, false, not, nat_lt, if◌then◌else◌, Result, Ok, Err}
-use Rattle.url.specs.declared.error.ParseError.TheVariants as url
-use Rattle.tough_net.specs.declared.error.TransportError.{TransportError}
-use Rattle.tough_net.specs.declared.error.TransportErrorKind.{TransportErrorKind}
-use Rattle.tough_net.specs.declared.error.TransportErrorKind.TheVariants as kind
-use Rattle.tough_net.specs.Errors.{error_kind}
 use Rattle.tough_keys.specs.Same.{Verifies}
 use Rattle.tough_roles.specs.Signature.{SignedDoc}
 use Rattle.tough_roles.specs.Timestamp.{TimestampDoc, MetafileDoc}
@@ -16,16 +11,16 @@ use Rattle.tough_vault.specs.Documents.{timestamp_in, snapshot_in, metafile_in}
 use Rattle.tough_vault.specs.Files.{snapshot_file, targets_file}
 use Rattle.tough_vault.specs.Act.{Act}
 use Rattle.tough_vault.specs.Act as act
-use Rattle.tough_update.specs.declared.limits.Limits.{Limits}
-use Rattle.tough_update.specs.declared.request.Fault.{Fault}
-use Rattle.tough_update.specs.declared.request.Fault.TheVariants as fault
-use Rattle.tough_update.specs.Failure.{Failure, ParseMetadata, MaxUpdatesExceeded, JoinUrl, Transport, Checked, Memory}
-use Rattle.tough_update.specs.Walk.{if_read, holds_json, first_root, next_root}
-use Rattle.tough_update.specs.Outcomes.{unless, and_then}
-use Rattle.tough_update.specs.Requests.{RequestDoc, root_request, timestamp_request, snapshot_request, targets_request}
-use Rattle.tough_update.specs.Rotation.{is_rotated}
+use Rattle.tough_trust.specs.declared.limits.Limits.{Limits}
+use Rattle.tough_trust.specs.declared.fault.Fault.{Fault}
+use Rattle.tough_trust.specs.Failure.{Failure, ParseMetadata, MaxUpdatesExceeded, JoinUrl, Transport, Checked, Memory}
+use Rattle.tough_trust.specs.Walk.{first_root, next_root, next_version}
+use Rattle.tough_trust.specs.Faults.{fault_failure, ends_start, ends_stream}
+use Rattle.tough_trust.specs.Outcomes.{unless, if_read, holds_json, and_then}
+use Rattle.tough_trust.specs.Requests.{RequestDoc, root_request, timestamp_request, snapshot_request, targets_request}
+use Rattle.tough_trust.specs.Rotation.{is_rotated}
 use Rattle.tough_delegated.specs.Bare.{top_page}
-use Rattle.tough_update.specs.Listed.{by_root, targets_text, judged}
+use Rattle.tough_trust.specs.Listed.{by_root, targets_text, judged}
 use Rattle.tough_update.specs.Delegated.{roles_begun, role_given, new_role}
 use Rattle.tough_update.specs.Stages.{WalkDoc, BaseDoc, KnownDoc, WantedDoc, PendingDoc, StageDoc, SettingDoc, CoreDoc}
 use Rattle.tough_update.specs.Stages as at
@@ -36,10 +31,14 @@ use Rattle.tough_update.specs.Answered as got
 
 -- ---- roots (TUF specification 5.2 and 5.3)
 
--- the walk goes on from a root, or ends where there is no later version
+-- the root of this version is to be fetched; where there is none, the walk is at its end
+abbrev pub ask_root : Limits → WalkDoc → Option ℕ → StageDoc
+ask_root l w None = at.Step (at.PutLast w)
+ask_root l w (Some version) = at.Fetch (at.Root w) (root_request l version)
+
+-- the walk goes on from a root
 abbrev pub walked : Limits → WalkDoc → Result StageDoc Failure
-walked l w = unless (MaxUpdatesExceeded l.max_root_updates) (nat_lt (w.last.role.head.version - w.first.role.head.version) l.max_root_updates)
-    (if w.last.role.head.version == 2 ^ 64 - 1 then Ok (at.Step (at.PutLast w)) else Ok (at.Fetch (at.Root w) (root_request l (w.last.role.head.version + 1))))
+walked l w = and_then (next_version l w.first.role.head.version w.last.role.head.version) (λ version. Ok (ask_root l w version))
 
 -- the walk begins with the root that was handed in
 abbrev pub began : Verifies → Limits → List ℕ → ℤ → Result StageDoc Failure
@@ -84,36 +83,7 @@ want_targets l k (Some m) = Ok (at.Fetch (at.Targets k m.version) (targets_reque
 abbrev pub new_targets : Verifies → Bool → KnownDoc → ℕ → List ℕ → Result StageDoc Failure
 new_targets verifies enforced k listed bytes = and_then (judged verifies enforced k.start (by_root k.root.role) listed bytes) (λ d. Ok (at.Step (at.PutTargets k d)))
 
--- ---- faults
-
--- what a transport told, where memory wasn't wanting
-abbrev pub told : TransportErrorKind → TransportError → Failure
-told kind.Memory e = Memory
-told _ e = Transport e
-
--- the same of the fault, where the file of this name is needed
-abbrev pub fault_failure : List ℕ → Fault → Failure
-fault_failure name (fault.JoinUrl url.OutOfMemory) = Memory
-fault_failure name (fault.JoinUrl e) = JoinUrl name e
-fault_failure name (fault.Transport e) = told (error_kind e) e
-
-abbrev pub is_memory : TransportErrorKind → Bool
-is_memory kind.Memory = true
-is_memory _ = false
-
-abbrev pub is_missing : TransportErrorKind → Bool
-is_missing kind.FileNotFound = true
-is_missing _ = false
-
--- any error of starting to fetch a root ends the walk, save want of memory and a name that can't be joined
-abbrev pub ends_start : Fault → Bool
-ends_start (fault.JoinUrl e) = false
-ends_start (fault.Transport e) = not (is_memory (error_kind e))
-
--- a root that the stream doesn't find ends the walk
-abbrev pub ends_stream : Fault → Bool
-ends_stream (fault.JoinUrl e) = false
-ends_stream (fault.Transport e) = is_missing (error_kind e)
+-- ---- fetches that gave no bytes
 
 -- a fetch of the file of this name gave no bytes: where it is a root's, it may end the walk
 abbrev pub unfetched : WantedDoc → Bool → List ℕ → Fault → Result StageDoc Failure

@@ -1,8 +1,8 @@
 -- What `Core::answer` and `Core::fits` promise.
 use Rattle.std.specs.Prelude.{◌≡◌, ◌⊎◌, ℕ, List, Bool, false, Option, Some, None, Result, Err}
 use Rattle.tough_keys.specs.Same.{Verifies}
-use Rattle.tough_update.specs.Failure.{Failure, Memory}
-use Rattle.tough_update.specs.Requests.{fits_request}
+use Rattle.tough_trust.specs.Failure.{Failure, Memory}
+use Rattle.tough_trust.specs.Requests.{fits_request}
 use Rattle.tough_update.specs.Stages.{LoadedDoc, StageDoc, CoreDoc, Done}
 use Rattle.tough_update.specs.Questions.{Question, Fetch}
 use Rattle.tough_update.specs.Answered.{AnswerDoc}

@@ -7,8 +7,8 @@ use Rattle.tough_roles.specs.Signature.{SignedDoc}
 use Rattle.tough_roles.specs.Root.{RootDoc}
 use Rattle.tough_vault.specs.Checks.{is_expired}
 use Rattle.tough_vault.specs.Act.{NoteTime, ClearRotated, HasChecked}
-use Rattle.tough_update.specs.declared.request.Fault.TheVariants as fault
-use Rattle.tough_update.specs.Requests.{fits_request, root_request, timestamp_request}
+use Rattle.tough_trust.specs.declared.fault.Fault.TheVariants as fault
+use Rattle.tough_trust.specs.Requests.{fits_request, root_request, timestamp_request}
 use Rattle.tough_update.specs.Stages.{WalkDoc, LoadedDoc, CoreDoc, Moment}
 use Rattle.tough_update.specs.Stages as at
 use Rattle.tough_update.specs.Questions.{Question}
@@ -17,7 +17,7 @@ use Rattle.tough_update.specs.Answered.{AnswerDoc}
 use Rattle.tough_update.specs.Answered as got
 use Rattle.tough_update.specs.Machine.{question, answered}
 use Rattle.tough_vault.specs.Documents.{root_in}
-use Rattle.tough_update.specs.Rotation.{is_rotated}
+use Rattle.tough_trust.specs.Rotation.{is_rotated}
 use Rattle.tough_update.specs.Trusted.{Chain, Trusted, Unexpired}
 
 -- What an answer promises, by what was asked: bytes fit, and a step that succeeds has made its checks on what it was given.

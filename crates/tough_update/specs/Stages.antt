@@ -6,9 +6,9 @@ use Rattle.tough_roles.specs.Timestamp.{TimestampDoc}
 use Rattle.tough_roles.specs.Snapshot.{SnapshotDoc}
 use Rattle.tough_schema.specs.Whole.{TreeDoc}
 use Rattle.tough_delegated.specs.Growing.{WorkDoc}
-use Rattle.tough_update.specs.declared.limits.Limits.{Limits}
-use Rattle.tough_update.specs.Failure.{Failure}
-use Rattle.tough_update.specs.Requests.{RequestDoc}
+use Rattle.tough_trust.specs.declared.limits.Limits.{Limits}
+use Rattle.tough_trust.specs.Failure.{Failure}
+use Rattle.tough_trust.specs.Requests.{RequestDoc}
 
 -- ---- what is known
 

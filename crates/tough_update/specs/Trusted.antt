@@ -19,8 +19,8 @@ use Rattle.tough_delegated.specs.Bare.{top_page}
 use Rattle.tough_delegated.specs.Once.{Distinct}
 use Rattle.tough_delegated.specs.Under.{Below}
 use Rattle.tough_vault.specs.Files.{snapshot_file, targets_file}
-use Rattle.tough_update.specs.Requests.{stated_digest}
-use Rattle.tough_update.specs.Listed.{targets_in}
+use Rattle.tough_trust.specs.Requests.{stated_digest}
+use Rattle.tough_trust.specs.Listed.{targets_in}
 use Rattle.tough_update.specs.Stages.{KnownDoc}
 
 -- A chain of roots from these bytes ends in this one: the bytes are the first, which reaches its own threshold, and each other one follows

@@ -19,24 +19,24 @@ use Rattle.tough_vault.specs.Act.{Act as ActDoc}
 use Rattle.tough_vault.specs.Act as act
 use Rattle.tough_vault.specs.Files.{targets_file}
 use Rattle.tough_vault.specs.DocumentName.{name_of}
-use Rattle.tough_update.specs.Listed.{targets_text, HolderDoc, by_root, by_delegations}
-use Rattle.tough_update.specs.Failure.{Failure, failure_of, step_failure}
-use Rattle.tough_update.specs.declared.error.UpdateError.{UpdateError}
-use Rattle.tough_update.specs.declared.request.Request.{Request}
-use Rattle.tough_update.specs.declared.request.Act.{Act}
-use Rattle.tough_update.specs.declared.request.Act.TheVariants as to
-use Rattle.tough_update.specs.declared.request.Ask.{Ask}
-use Rattle.tough_update.specs.declared.request.Ask.TheVariants as wants
-use Rattle.tough_update.specs.declared.request.Answer.{Answer}
-use Rattle.tough_update.specs.declared.request.Answer.TheVariants as by
+use Rattle.tough_trust.specs.Listed.{targets_text, HolderDoc, by_root, by_delegations}
+use Rattle.tough_trust.specs.Failure.{Failure, failure_of, step_failure}
+use Rattle.tough_trust.specs.declared.error.UpdateError.{UpdateError}
+use Rattle.tough_trust.specs.declared.request.Request.{Request}
+use Rattle.tough_update.specs.declared.ask.Act.{Act}
+use Rattle.tough_update.specs.declared.ask.Act.TheVariants as to
+use Rattle.tough_update.specs.declared.ask.Ask.{Ask}
+use Rattle.tough_update.specs.declared.ask.Ask.TheVariants as wants
+use Rattle.tough_update.specs.declared.ask.Answer.{Answer}
+use Rattle.tough_update.specs.declared.ask.Answer.TheVariants as by
 use Rattle.tough_update.specs.declared.stage.Walk.{Walk}
 use Rattle.tough_update.specs.declared.stage.Base.{Base}
 use Rattle.tough_update.specs.declared.stage.Known.{Known}
 use Rattle.tough_update.specs.declared.stage.Loaded.{Loaded}
 use Rattle.tough_update.specs.declared.stage.Received.{Received}
 use Rattle.tough_update.specs.declared.stage.Roles.{Roles}
-use Rattle.tough_update.specs.declared.judge.Holder.{Holder}
-use Rattle.tough_update.specs.declared.judge.Holder.TheVariants as holds
+use Rattle.tough_trust.specs.declared.holder.Holder.{Holder}
+use Rattle.tough_trust.specs.declared.holder.Holder.TheVariants as holds
 use Rattle.tough_update.specs.declared.stage.Wanted.{Wanted}
 use Rattle.tough_update.specs.declared.stage.Wanted.TheVariants as wanted
 use Rattle.tough_update.specs.declared.stage.Pending.{Pending}
@@ -46,16 +46,13 @@ use Rattle.tough_update.specs.declared.stage.Stage.TheVariants as in_stage
 use Rattle.tough_update.specs.declared.turns.Setting.{Setting}
 use Rattle.tough_update.specs.declared.counts.Counts.{Counts}
 use Rattle.tough_update.specs.declared.machine.Core.{Core}
-use Rattle.tough_update.specs.Requests.{RequestDoc}
+use Rattle.tough_trust.specs.Requests.{RequestDoc}
 use Rattle.tough_update.specs.Stages.{WalkDoc, BaseDoc, KnownDoc, ReceivedDoc, RolesDoc, LoadedDoc, WantedDoc, PendingDoc, StageDoc, SettingDoc, CoreDoc}
 use Rattle.tough_update.specs.Stages as at
 use Rattle.tough_update.specs.Questions.{Question}
 use Rattle.tough_update.specs.Questions as ask
 use Rattle.tough_update.specs.Answered.{AnswerDoc}
 use Rattle.tough_update.specs.Answered as got
-
-abbrev pub request_doc : Request → RequestDoc
-request_doc r = record { name = string_bytes r.name; max_size = r.max_size; specifier = r.specifier.now; sha256 = option_map (λ d. d.items) r.sha256 }
 
 -- ---- questions and answers
 
@@ -127,10 +124,6 @@ received_docs rs = map received_doc rs
 
 abbrev pub roles_doc : Roles → RolesDoc
 roles_doc r = record { work = work_doc r.growth; received = received_docs r.received.items }
-
-abbrev pub holder_doc : Holder → HolderDoc
-holder_doc (holds.Root root) = by_root (root_doc root.now)
-holder_doc (holds.Delegations g name) = by_delegations (option_map (λ d. delegations_doc d.now) g) name.now
 
 -- ---- the outcome
 

@@ -3,15 +3,15 @@
 ghost use Rattle.std.specs.Prelude.{◌≡◌, ◌⊎◌, IfOk, Err};
 ghost use Rattle.tough_schema.specs.Whole.{tree_doc};
 ghost use Rattle.tough_update.specs.Counts.{one_more, ends_fetch, with_fetch, with_roles, with_tree};
-ghost use Rattle.tough_update.specs.Failure.{Memory};
+ghost use Rattle.tough_trust.specs.Failure.{Memory};
 ghost use Rattle.tough_update.specs.Stages.{Done};
 ghost use Rattle.tough_update.specs.View.{stage_doc, answer_doc};
 
-use crate::error::UpdateError;
-use crate::request::Answer;
+use crate::ask::Answer;
 use crate::stage::{Stage, Wanted};
 use std::alloc::{AllocError, Global};
 use tough_schema::Targets;
+use tough_trust::UpdateError;
 
 /// How much an update fetched, and how much of it stands in the tree of delegated roles that it loaded. It stands after a failure too; an
 /// answer that fails is counted where it answered a fetch.

@@ -2,7 +2,7 @@
 
 ghost use Rattle.std.specs.Prelude.{◌≡◌, List, Ok};
 ghost use Rattle.tough_keys.specs.Same.{Verifies};
-ghost use Rattle.tough_update.specs.Requests.{RequestDoc};
+ghost use Rattle.tough_trust.specs.Requests.{RequestDoc};
 ghost use Rattle.tough_update.specs.Stages.{WalkDoc, LoadedDoc, CoreDoc, PutLast, Done};
 ghost use Rattle.tough_update.specs.Stages.{Step as AtStep};
 ghost use Rattle.tough_update.specs.Answered.{AnswerDoc};

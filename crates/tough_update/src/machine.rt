@@ -5,19 +5,18 @@ ghost use Rattle.tough_vault.specs.Checks.{enforces};
 ghost use Rattle.tough_update.specs.Counts.{none_yet, with_fetch, with_tree};
 ghost use Rattle.tough_update.specs.Stages.{handed_out, new_core};
 ghost use Rattle.tough_update.specs.Machine.{question, stage_after};
-ghost use Rattle.tough_update.specs.Failure.{Gives};
+ghost use Rattle.tough_trust.specs.Failure.{Gives};
 ghost use Rattle.tough_update.specs.View.{core_doc, counts_of, stage_doc, answer_doc, question_of, setting_doc, outcome_doc};
 ghost use Rattle.tough_update.specs.Promises.{Settles, Goes, fits, ended};
 
 use crate::counts::{Counts, count_tree};
-use crate::error::UpdateError;
-use crate::limits::Limits;
-use crate::request::{Answer, Ask};
+use crate::ask::{Answer, Ask};
 use crate::stage::{Loaded, Pending, Stage};
 use crate::turns::{Setting, end_cut, end_unstarted, read_wanted, take_step};
 use std::alloc::Global;
 use std::mem;
 use tough_roles::Verify;
+use tough_trust::{Limits, UpdateError};
 use tough_vault::ExpirationEnforcement;
 
 /// An update, from the bytes of a root that is trusted to the documents that it vouches for (TUF specification 5). It fetches nothing and

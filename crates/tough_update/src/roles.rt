@@ -7,32 +7,21 @@ ghost use Rattle.tough_vault.specs.DocumentName.{name_of};
 ghost use Rattle.tough_schema.specs.Whole.{tree_doc};
 ghost use Rattle.tough_delegated.specs.Growing.{wants, go_on};
 ghost use Rattle.tough_delegated.specs.View.{work_doc};
-ghost use Rattle.tough_update.specs.Failure.{Gives};
-ghost use Rattle.tough_update.specs.Listed.{judged};
-ghost use Rattle.tough_update.specs.Delegated.{wanted_name, role_holder, metas_in, with_received, finished, grown_on, roles_begun, role_given, role_stored, new_role};
+ghost use Rattle.tough_trust.specs.Failure.{Gives};
+ghost use Rattle.tough_trust.specs.Listed.{wanted_name, role_holder, judged};
+ghost use Rattle.tough_update.specs.Delegated.{metas_in, with_received, finished, grown_on, roles_begun, role_given, role_stored, new_role};
 ghost use Rattle.tough_update.specs.View.{known_doc, roles_doc, received_docs, stage_doc, setting_doc};
 
-use crate::error::UpdateError;
-use crate::judge::{Holder, judge};
-use crate::limits::Limits;
-use crate::request::role_request;
 use crate::stage::{Known, Loaded, Pending, Received, Roles, Stage, Wanted};
 use crate::turns::Setting;
 use std::alloc::{AllocError, Global};
 use tough_delegated::{Growth, Progress};
-use tough_roles::{self as schema, Signed, Verify};
+use tough_roles::{Signed, Verify};
 use tough_schema::Targets;
+use tough_trust::{
+    Limits, UpdateError, check_tree, holder_of, judge, role_request, wanted_name,
+};
 use tough_vault::DocumentName;
-
-// The name of the role whose document is wanted.
-fn wanted_name(growth: &Growth) -> &str
-    ensures { result.now ≡ wanted_name (work_doc growth.now) }
-{
-    match growth.role() {
-        Some(role) => role.name.as_str(),
-        None => "",
-    }
-}
 
 // The tree is complete: each name that it lists must be found.
 fn finish(
@@ -45,14 +34,13 @@ fn finish(
         (finished (known_doc known) (received_docs received.items)
         (signed_doc tree_doc targets)) result }
 {
-    match targets.signed.validate(alloc) {
+    match check_tree(alloc, &targets.signed) {
         Ok(()) => Ok(Stage::Done(Ok(Loaded {
             known,
             targets,
             received,
         }))),
-        Err(schema::Error::Memory) => Err(UpdateError::Memory),
-        Err(source) => Err(UpdateError::InvalidPath { source }),
+        Err(error) => Err(error),
     }
 }
 
@@ -162,9 +150,10 @@ pub(crate) fn take_role<V: Verify>(
         (new_role (V.verifies verifier.now) (setting_doc setting.now) (known_doc known)
         (roles_doc roles) listed (string_bytes file) bytes.items) result }
 {
-    let holder = Holder::Delegations(roles.growth.holder(), wanted_name(&roles.growth));
+    let holder = holder_of(&known.root.signed, Some(&roles.growth));
     let targets = match judge(
-        setting,
+        setting.alloc,
+        setting.enforcement,
         known.start,
         &holder,
         listed,

@@ -9,31 +9,26 @@ ghost use Rattle.tough_roles.specs.Snapshot.{snapshot_doc};
 ghost use Rattle.tough_vault.specs.Checks.{enforces};
 ghost use Rattle.tough_vault.specs.Documents.{metafile_in, timestamp_in, snapshot_in};
 ghost use Rattle.tough_vault.specs.Files.{snapshot_file, targets_file};
-ghost use Rattle.tough_update.specs.Failure.{Gives, failure_of};
-ghost use Rattle.tough_update.specs.Walk.{if_read, IsUnverified};
-ghost use Rattle.tough_update.specs.Machine.{walked, began, new_root, walk_ended, new_timestamp, want_snapshot, new_snapshot, want_targets, new_targets, fault_failure, ends_start, ends_stream, unfetched, read_wanted, after, stage_after};
+ghost use Rattle.tough_trust.specs.Failure.{Gives};
+ghost use Rattle.tough_trust.specs.Faults.{ends_start, ends_stream};
+ghost use Rattle.tough_trust.specs.View.{request_doc};
+ghost use Rattle.tough_update.specs.Machine.{walked, began, new_root, walk_ended, new_timestamp, want_snapshot, new_snapshot, want_targets, new_targets, unfetched, read_wanted, after, stage_after};
 ghost use Rattle.tough_update.specs.Stages.{Step};
 ghost use Rattle.tough_update.specs.Answered as got;
 ghost use Rattle.tough_roles.specs.declared.role_type.RoleType.TheVariants as types;
-ghost use Rattle.tough_update.specs.View.{walk_doc, base_doc, known_doc, wanted_doc, pending_doc, stage_doc, setting_doc, step_doc, request_doc};
+ghost use Rattle.tough_update.specs.View.{walk_doc, base_doc, known_doc, wanted_doc, pending_doc, stage_doc, setting_doc, step_doc};
 
-use crate::error::UpdateError;
-use crate::judge::{Holder, judge};
-use crate::limits::Limits;
-use crate::request::{
-    Fault, Request, root_request, snapshot_request, targets_request, timestamp_request,
-};
 use crate::roles::{begin_roles, give_role, take_role};
-use crate::rotation::is_rotated;
 use crate::stage::{Base, Known, Pending, Stage, Walk, Wanted};
-use crate::walk::{first_root, next_root};
 use jiff::Timestamp as Instant;
 use std::alloc::Global;
 use std::collections::BTreeMap;
-use tough_net::TransportErrorKind;
 use tough_roles::{Metafile, ReadError, RoleType, Signed, Snapshot, Timestamp, Verify};
+use tough_trust::{
+    Fault, Limits, Request, UpdateError, first_root, holder_of, is_rotated, judge, next_root,
+    next_version, root_request, snapshot_request, targets_request, timestamp_request,
+};
 use tough_vault::{ExpirationEnforcement, Refusal, StepError, check_expiry};
-use url::ParseError;
 
 /// What the caller set.
 #[derive(Clone, Copy, Drop)]
@@ -48,18 +43,16 @@ pub(crate) struct Setting<'a> {
 fn go_on(alloc: Global, limits: &Limits, walk: Walk) -> Result<Stage, UpdateError>
     ensures { Gives stage_doc (walked limits.now (walk_doc walk)) result }
 {
-    let version = walk.last().signed.version.get();
     let first = walk.first.signed.version.get();
-    if version.saturating_sub(first) >= limits.max_root_updates {
-        return Err(UpdateError::MaxUpdatesExceeded {
-            max_root_updates: limits.max_root_updates,
-        });
+    let last = walk.last().signed.version.get();
+    match next_version(limits, first, last) {
+        Ok(None) => Ok(Stage::Step(Pending::PutLast(walk))),
+        Ok(Some(version)) => {
+            let request = root_request(alloc, limits, version)?;
+            Ok(Stage::Fetch(Wanted::Root(walk), request))
+        }
+        Err(error) => Err(error),
     }
-    if version == u64::MAX {
-        return Ok(Stage::Step(Pending::PutLast(walk)));
-    }
-    let request = root_request(alloc, limits, version + 1)?;
-    Ok(Stage::Fetch(Wanted::Root(walk), request))
 }
 
 /// The walk begins.
@@ -121,8 +114,8 @@ fn end_walk(
         (walk_ended limits.now (enforces enforcement) (walk_doc walk)) result }
 {
     let last = &walk.last().signed;
-    if let Err(error) = check_expiry(RoleType::Root, enforcement, walk.start, last.expires) {
-        return Err(UpdateError::from(error));
+    if let Err(refusal) = check_expiry(RoleType::Root, enforcement, walk.start, last.expires) {
+        return Err(UpdateError::Refused(refusal));
     }
     if is_rotated(&walk.first.signed, last) {
         return Ok(Stage::Step(Pending::Clear(walk.into_base())));
@@ -232,44 +225,18 @@ fn take_targets<V: Verify>(
         (new_targets (V.verifies verifier.now) (enforces setting.now.enforcement) (known_doc known)
         listed bytes.now) result }
 {
-    let holder = Holder::Root(&known.root.signed);
-    match judge(setting, known.start, &holder, listed, bytes, verifier) {
+    let holder = holder_of(&known.root.signed, None);
+    match judge(
+        setting.alloc,
+        setting.enforcement,
+        known.start,
+        &holder,
+        listed,
+        bytes,
+        verifier,
+    ) {
         Ok(targets) => Ok(Stage::Step(Pending::PutTargets(known, targets))),
         Err(error) => Err(error),
-    }
-}
-
-// What a fault is where the file of this name is needed.
-fn fault_error(path: String, fault: Fault) -> UpdateError
-    ensures { failure_of result ≡ fault_failure (string_bytes path) fault }
-{
-    match fault {
-        Fault::JoinUrl(ParseError::OutOfMemory) => UpdateError::Memory,
-        Fault::JoinUrl(source) => UpdateError::JoinUrl { path, source },
-        Fault::Transport(source) => match source.kind() {
-            TransportErrorKind::Memory => UpdateError::Memory,
-            _ => UpdateError::Transport { source },
-        },
-    }
-}
-
-// Whether the walk ends where the fetch of a root starts with this fault.
-fn ends_start(fault: &Fault) -> bool
-    ensures { result ≡ ends_start fault.now }
-{
-    match fault {
-        Fault::JoinUrl(_) => false,
-        Fault::Transport(source) => !matches!(source.kind(), TransportErrorKind::Memory),
-    }
-}
-
-// Whether the walk ends where the stream of a root fails with this fault.
-fn ends_stream(fault: &Fault) -> bool
-    ensures { result ≡ ends_stream fault.now }
-{
-    match fault {
-        Fault::JoinUrl(_) => false,
-        Fault::Transport(source) => matches!(source.kind(), TransportErrorKind::FileNotFound),
     }
 }
 
@@ -288,13 +255,13 @@ fn end_fetch(
             if ends_walk {
                 Ok(Stage::Step(Pending::PutLast(walk)))
             } else {
-                Err(fault_error(request.name, fault))
+                Err(fault.into_error(request.name))
             }
         }
-        Wanted::Timestamp(_) => Err(fault_error(request.name, fault)),
-        Wanted::Snapshot(_, _, _) => Err(fault_error(request.name, fault)),
-        Wanted::Targets(_, _) => Err(fault_error(request.name, fault)),
-        Wanted::Role(_, _, _) => Err(fault_error(request.name, fault)),
+        Wanted::Timestamp(_) => Err(fault.into_error(request.name)),
+        Wanted::Snapshot(_, _, _) => Err(fault.into_error(request.name)),
+        Wanted::Targets(_, _) => Err(fault.into_error(request.name)),
+        Wanted::Role(_, _, _) => Err(fault.into_error(request.name)),
     }
 }
 
@@ -308,7 +275,7 @@ pub(crate) fn end_unstarted(
         (unfetched (wanted_doc wanted) (ends_start fault)
         (string_bytes request.name) fault) result }
 {
-    let ends = ends_start(&fault);
+    let ends = fault.ends_start();
     end_fetch(wanted, request, ends, fault)
 }
 
@@ -318,7 +285,7 @@ pub(crate) fn end_cut(wanted: Wanted, request: Request, fault: Fault) -> Result<
         (unfetched (wanted_doc wanted) (ends_stream fault)
         (string_bytes request.name) fault) result }
 {
-    let ends = ends_stream(&fault);
+    let ends = fault.ends_stream();
     end_fetch(wanted, request, ends, fault)
 }
 

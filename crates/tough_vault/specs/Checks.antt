@@ -207,6 +207,11 @@ Checked first (Err (step.Refused c)) = first ≡ Some (reason_of c)
 Checked first (Err step.Memory) = Unit {0}
 Checked first (Err _) = ⊥
 
+-- the same of checks that take no memory
+abbrev pub RefusedBy : {A : Type 0} → Option Reason → Result A Refusal → Type 0
+RefusedBy first (Ok x) = first ≡ None
+RefusedBy first (Err c) = first ≡ Some (reason_of c)
+
 abbrev pub timestamp_where : Option TimestampFile → Option TimestampDoc
 timestamp_where None = None
 timestamp_where (Some t) = Some (timestamp_doc t)

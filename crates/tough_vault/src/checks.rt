@@ -1,6 +1,6 @@
 //! The checks of the steps, in their order.
 
-ghost use Rattle.std.specs.Prelude.{◌≡◌, ◌==◌, true, not, option_map, option_copied};
+ghost use Rattle.std.specs.Prelude.{◌≡◌, ◌==◌, true, not, Err, option_map, option_copied};
 ghost use Rattle.tough_roles.specs.Signature.{signed_doc};
 ghost use Rattle.tough_roles.specs.Root.{root_doc};
 ghost use Rattle.tough_roles.specs.Timestamp.{timestamp_doc, metafile_doc};
@@ -8,7 +8,11 @@ ghost use Rattle.tough_roles.specs.Verdict.{Answers};
 ghost use Rattle.tough_vault.specs.Documents.{timestamp_verdict, metafile_in};
 ghost use Rattle.tough_vault.specs.Files.{snapshot_file};
 ghost use Rattle.tough_vault.specs.Journal.{pair_of, pair_where, time_where};
-ghost use Rattle.tough_vault.specs.Checks.{Checked, VersionMismatch, refuse, verified, expiry, later, time_after, snapshot_version, timestamp_form, timestamp_first, timestamp_older, timestamp_below, timestamp_against, timestamp_tip, timestamp_after, timestamp_where, enforces};
+ghost use Rattle.tough_vault.specs.Checks.{Checked, RefusedBy, VersionMismatch, refuse, verified, expiry, later, time_after, snapshot_version, timestamp_form, timestamp_first, timestamp_older, timestamp_below, timestamp_against, timestamp_tip, timestamp_after, timestamp_where, enforces};
+
+ghost use Rattle.tough_roles.specs.declared.error.Error.TheVariants as error;
+ghost use Rattle.tough_vault.specs.declared.checks.StepError.TheVariants as step;
+ghost use Rattle.tough_vault.specs.declared.checks.StepError.TheVariants.{Refused};
 
 use crate::entry::TimestampVersions;
 use jiff::Timestamp as Instant;
@@ -191,6 +195,14 @@ pub enum StepError {
     Memory,
 }
 
+impl From<Refusal> for StepError {
+    ghost from_gives = { λ r e. e ≡ Refused r };
+
+    fn from(refusal: Refusal) -> StepError {
+        StepError::Refused(refusal)
+    }
+}
+
 // What a timestamp says of the snapshot.
 fn snapshot_meta(timestamp: &Timestamp) -> Option<&Metafile>
     ensures { option_map metafile_doc (option_copied result)
@@ -210,19 +222,19 @@ pub(crate) fn snapshot_version(timestamp: &Timestamp) -> u64
 }
 
 // A timestamp lists exactly `snapshot.json`.
-fn check_form(timestamp: &Timestamp) -> Result<(), StepError>
-    ensures { Checked (timestamp_form (timestamp_doc timestamp.now)) result }
+fn check_form(timestamp: &Timestamp) -> Result<(), Refusal>
+    ensures { RefusedBy (timestamp_form (timestamp_doc timestamp.now)) result }
 {
     let version = timestamp.version.get();
     let meta_length = timestamp.meta.len();
     if meta_length != 1 {
-        return Err(StepError::Refused(Refusal::TimestampMetaLength {
+        return Err(Refusal::TimestampMetaLength {
             version,
             meta_length,
-        }));
+        });
     }
     if snapshot_meta(timestamp).is_none() {
-        return Err(StepError::Refused(Refusal::MissingSnapshotMeta { version }));
+        return Err(Refusal::MissingSnapshotMeta { version });
     }
     Ok(())
 }
@@ -230,7 +242,9 @@ fn check_form(timestamp: &Timestamp) -> Result<(), StepError>
 /// A document of this role is signed as its keys and threshold demand, by what its verification answers: else `VerifyMetadata` with the
 /// refusal, or `Memory` (TUF specification 5.3 to 5.6).
 pub fn check_signed(role: RoleType, answer: Result<(), Error>) -> Result<(), StepError>
-    ensures { (verdict : _) → Answers answer verdict → Checked (verified role verdict) result }
+    ensures signed { (verdict : _) → Answers answer verdict
+        → Checked (verified role verdict) result }
+    ensures memory { result ≡ Err step.Memory → answer ≡ Err error.Memory }
 {
     match answer {
         Ok(()) => Ok(()),
@@ -240,16 +254,16 @@ pub fn check_signed(role: RoleType, answer: Result<(), Error>) -> Result<(), Ste
 }
 
 /// A document has the version under which it is listed, or else `VersionMismatch` (TUF specification 5.5.4 and 5.6.4).
-pub fn check_version(role: RoleType, fetched: u64, listed: u64) -> Result<(), StepError>
-    ensures { Checked (refuse (not (fetched == listed)) (VersionMismatch role fetched listed))
+pub fn check_version(role: RoleType, fetched: u64, listed: u64) -> Result<(), Refusal>
+    ensures { RefusedBy (refuse (not (fetched == listed)) (VersionMismatch role fetched listed))
         result }
 {
     if fetched != listed {
-        return Err(StepError::Refused(Refusal::VersionMismatch {
+        return Err(Refusal::VersionMismatch {
             role,
             fetched,
             expected: listed,
-        }));
+        });
     }
     Ok(())
 }
@@ -266,43 +280,43 @@ pub(crate) fn check_timestamp<V: Verify>(
         (signed_doc timestamp_doc new.now)) (timestamp_doc new.now.signed)) result }
 {
     check_signed(RoleType::Timestamp, root.verify_role(alloc, new, verifier))?;
-    check_form(&new.signed)
+    Ok(check_form(&new.signed)?)
 }
 
 // The timestamp's version isn't lower than an older one's.
-fn check_not_older(old: u64, new: &Timestamp) -> Result<(), StepError>
-    ensures { Checked (timestamp_older old (timestamp_doc new.now)) result }
+fn check_not_older(old: u64, new: &Timestamp) -> Result<(), Refusal>
+    ensures { RefusedBy (timestamp_older old (timestamp_doc new.now)) result }
 {
     let new_version = new.version.get();
     if new_version < old {
-        return Err(StepError::Refused(Refusal::OlderMetadata {
+        return Err(Refusal::OlderMetadata {
             role: RoleType::Timestamp,
             current_version: old,
             new_version,
-        }));
+        });
     }
     Ok(())
 }
 
 // The snapshot that the timestamp names isn't older than the one of an older timestamp.
-fn check_not_below(old: TimestampVersions, new: &Timestamp) -> Result<(), StepError>
-    ensures { Checked (timestamp_below (pair_of old) (timestamp_doc new.now)) result }
+fn check_not_below(old: TimestampVersions, new: &Timestamp) -> Result<(), Refusal>
+    ensures { RefusedBy (timestamp_below (pair_of old) (timestamp_doc new.now)) result }
 {
     let snapshot_new = snapshot_version(new);
     if snapshot_new < old.snapshot {
-        return Err(StepError::Refused(Refusal::OlderSnapshotInTimestamp {
+        return Err(Refusal::OlderSnapshotInTimestamp {
             snapshot_new,
             timestamp_new: new.version.get(),
             snapshot_old: old.snapshot,
             timestamp_old: old.version,
-        }));
+        });
     }
     Ok(())
 }
 
 // Against the stored timestamp.
-fn check_against(old: &Option<Timestamp>, new: &Timestamp) -> Result<(), StepError>
-    ensures { Checked (timestamp_against (timestamp_where old.now) (timestamp_doc new.now)) result }
+fn check_against(old: &Option<Timestamp>, new: &Timestamp) -> Result<(), Refusal>
+    ensures { RefusedBy (timestamp_against (timestamp_where old.now) (timestamp_doc new.now)) result }
 {
     let Some(old) = old else {
         return Ok(());
@@ -317,8 +331,8 @@ fn check_against(old: &Option<Timestamp>, new: &Timestamp) -> Result<(), StepErr
 }
 
 // Against the tip.
-fn check_tip(tip: Option<TimestampVersions>, new: &Timestamp) -> Result<(), StepError>
-    ensures { Checked (timestamp_tip (pair_where tip) (timestamp_doc new.now)) result }
+fn check_tip(tip: Option<TimestampVersions>, new: &Timestamp) -> Result<(), Refusal>
+    ensures { RefusedBy (timestamp_tip (pair_where tip) (timestamp_doc new.now)) result }
 {
     let Some(tip) = tip else {
         return Ok(());
@@ -334,18 +348,18 @@ pub fn check_expiry(
     enforcement: ExpirationEnforcement,
     start: Instant,
     expires: Instant,
-) -> Result<(), StepError>
-    ensures { Checked (expiry role (enforces enforcement) start.nanosecond
+) -> Result<(), Refusal>
+    ensures { RefusedBy (expiry role (enforces enforcement) start.nanosecond
         expires.nanosecond) result }
 {
     match enforcement {
         ExpirationEnforcement::Safe => {
             if expires < start {
-                return Err(StepError::Refused(Refusal::ExpiredMetadata {
+                return Err(Refusal::ExpiredMetadata {
                     role,
                     expires,
                     now: start,
-                }));
+                });
             }
             Ok(())
         }
@@ -360,8 +374,8 @@ pub(crate) fn check_timestamp_late(
     new: &Timestamp,
     start: Instant,
     enforcement: ExpirationEnforcement,
-) -> Result<(), StepError>
-    ensures { Checked (timestamp_after (timestamp_where old.now) (pair_where tip)
+) -> Result<(), Refusal>
+    ensures { RefusedBy (timestamp_after (timestamp_where old.now) (pair_where tip)
         (timestamp_doc new.now) start.nanosecond (enforces enforcement)) result }
 {
     check_against(old, new)?;
@@ -370,15 +384,15 @@ pub(crate) fn check_timestamp_late(
 }
 
 // No later time was noted.
-fn check_not_later(known: Option<Instant>, now: Instant) -> Result<(), StepError>
-    ensures { Checked (later (time_where known) now.nanosecond) result }
+fn check_not_later(known: Option<Instant>, now: Instant) -> Result<(), Refusal>
+    ensures { RefusedBy (later (time_where known) now.nanosecond) result }
 {
     if let Some(latest_known_time) = known {
         if now < latest_known_time {
-            return Err(StepError::Refused(Refusal::SystemTimeSteppedBackward {
+            return Err(Refusal::SystemTimeSteppedBackward {
                 sys_time: now,
                 latest_known_time,
-            }));
+            });
         }
     }
     Ok(())
@@ -389,8 +403,8 @@ pub(crate) fn check_time(
     stored: Option<Instant>,
     tip: Option<Instant>,
     now: Instant,
-) -> Result<(), StepError>
-    ensures { Checked (time_after (time_where stored) (time_where tip) now.nanosecond) result }
+) -> Result<(), Refusal>
+    ensures { RefusedBy (time_after (time_where stored) (time_where tip) now.nanosecond) result }
 {
     check_not_later(stored, now)?;
     check_not_later(tip, now)

@@ -137,8 +137,8 @@ pub(crate) fn prepare_time<S: Store>(
     let Ok(stored) = read_time(alloc, &found) else {
         return Err(StepError::Memory);
     };
-    if let Err(error) = check_time(stored, tip.time, now) {
-        return Err(error);
+    if let Err(refusal) = check_time(stored, tip.time, now) {
+        return Err(StepError::Refused(refusal));
     }
     let bytes = match time_bytes(alloc, now) {
         Ok(bytes) => bytes,
@@ -202,8 +202,9 @@ pub(crate) fn prepare_timestamp<S: Store, V: Verify>(
     let Ok(old) = read_timestamp(alloc, verifier, root, &found) else {
         return Err(StepError::Memory);
     };
-    if let Err(error) = check_timestamp_late(&old, tip.timestamp, &new.signed, start, enforcement) {
-        return Err(error);
+    if let Err(refusal) = check_timestamp_late(&old, tip.timestamp, &new.signed, start, enforcement)
+    {
+        return Err(StepError::Refused(refusal));
     }
     let bytes = match new.compact(alloc) {
         Ok(bytes) => bytes,

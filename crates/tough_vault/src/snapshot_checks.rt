@@ -8,7 +8,7 @@ ghost use Rattle.tough_roles.specs.Snapshot.{snapshot_doc};
 ghost use Rattle.tough_vault.specs.Documents.{snapshot_verdict, metafile_in};
 ghost use Rattle.tough_vault.specs.Files.{targets_file};
 ghost use Rattle.tough_vault.specs.Journal.{roles_where, items_of, roles_of, version_in};
-ghost use Rattle.tough_vault.specs.Checks.{Checked, items_in, snapshot_form, snapshot_first, fallen_at, fallen, snapshot_older, snapshot_against, snapshot_tip, snapshot_after, snapshot_where, enforces};
+ghost use Rattle.tough_vault.specs.Checks.{Checked, RefusedBy, items_in, snapshot_form, snapshot_first, fallen_at, fallen, snapshot_older, snapshot_against, snapshot_tip, snapshot_after, snapshot_where, enforces};
 ghost use Rattle.tough_vault.specs.Steps.{roles_in};
 
 use crate::checks::{
@@ -21,13 +21,13 @@ use std::collections::BTreeMap;
 use tough_roles::{Metafile, RoleType, Root, Signed, Snapshot, Verify};
 
 // A snapshot lists `targets.json`.
-fn check_form(snapshot: &Snapshot) -> Result<(), StepError>
-    ensures { Checked (snapshot_form (snapshot_doc snapshot.now)) result }
+fn check_form(snapshot: &Snapshot) -> Result<(), Refusal>
+    ensures { RefusedBy (snapshot_form (snapshot_doc snapshot.now)) result }
 {
     if targets_meta(snapshot).is_none() {
-        return Err(StepError::Refused(Refusal::SnapshotTargetsMetaMissing {
+        return Err(Refusal::SnapshotTargetsMetaMissing {
             version: snapshot.version.get(),
-        }));
+        });
     }
     Ok(())
 }
@@ -54,7 +54,7 @@ pub(crate) fn check_snapshot<V: Verify>(
 {
     check_version(RoleType::Snapshot, new.signed.version.get(), listed)?;
     check_signed(RoleType::Snapshot, root.verify_role(alloc, new, verifier))?;
-    check_form(&new.signed)
+    Ok(check_form(&new.signed)?)
 }
 
 // The version that is listed for a name.
@@ -140,16 +140,16 @@ fn check_tip_roles(alloc: Global, tip: &SnapshotVersions, new: &Snapshot) -> Res
 }
 
 // The snapshot's version isn't lower than an older one's.
-fn check_not_older(old: u64, new: &Snapshot) -> Result<(), StepError>
-    ensures { Checked (snapshot_older old (snapshot_doc new.now)) result }
+fn check_not_older(old: u64, new: &Snapshot) -> Result<(), Refusal>
+    ensures { RefusedBy (snapshot_older old (snapshot_doc new.now)) result }
 {
     let new_version = new.version.get();
     if new_version < old {
-        return Err(StepError::Refused(Refusal::OlderMetadata {
+        return Err(Refusal::OlderMetadata {
             role: RoleType::Snapshot,
             current_version: old,
             new_version,
-        }));
+        });
     }
     Ok(())
 }
@@ -191,7 +191,7 @@ pub(crate) fn check_snapshot_late(
 {
     check_against(alloc, old, new)?;
     check_tip(alloc, tip, new)?;
-    check_expiry(RoleType::Snapshot, enforcement, start, new.expires)
+    Ok(check_expiry(RoleType::Snapshot, enforcement, start, new.expires)?)
 }
 
 /// What a snapshot lists, to be noted.

@@ -1,4 +1,4 @@
-use Rattle.tough_update.specs.Failure.{failure_of}
+use Rattle.tough_trust.specs.Failure.{failure_of}
 use Rattle.tough_update.specs.Machine.{stage_after}
 use Rattle.tough_update.specs.View.{stage_doc, answer_doc, setting_doc}
 use Rattle.tough_update.proofs.Settling.{went, failed}

@@ -3,10 +3,10 @@ use Rattle.tough_roles.specs.declared.role_type.RoleType.TheVariants as role
 use Rattle.tough_vault.specs.Checks.{Reason, Checked, enforces, refuse, expiry}
 use Rattle.tough_vault.specs.declared.checks.StepError.{StepError}
 use Rattle.tough_vault.specs.declared.checks.StepError.TheVariants as steps
-use Rattle.tough_update.specs.Failure as failure
-use Rattle.tough_update.specs.Failure.{Failure, IsRefused, step_failure}
+use Rattle.tough_trust.specs.Failure as failure
+use Rattle.tough_trust.specs.Failure.{Failure, IsRefused, step_failure}
 use Rattle.tough_update.specs.Machine.{walk_ended}
-use Rattle.tough_update.specs.Outcomes.{unless}
+use Rattle.tough_trust.specs.Outcomes.{unless}
 use Rattle.tough_update.specs.View.{walk_doc}
 use Rattle.tough_update.proofs.turns.end_walk.Goals as goal
 

@@ -9,9 +9,9 @@ use Rattle.tough_vault.proofs.Preparing.{prepared, refused_after, checked_more, 
 use Rattle.tough_vault.proofs.prepare.prepare_time.Goals as goal
 
 pub returns-in-Err-check_time-clause-step : goal.returns-in-Err-check_time-clause-step
-returns-in-Err-check_time-clause-step g c = refused_after _ _ _ _ _ _ (content c.in-Ok.found) _ c.in-Ok.ensures.found refl
-    (checked_more (time_after (stored_time (content c.in-Ok.found)) (time_where c.args.tip.now.time) c.args.now.nanosecond) _ _
-    (checked_at (λ o. time_after o (time_where c.args.tip.now.time) c.args.now.nanosecond) _ _ _ c.in-Ok-read_time.ensures c.in-Err-check_time.ensures)) c.in-Ok.ensures.same
+returns-in-Err-check_time-clause-step g c = refused_after _ _ _ _ _ _ (content c.in-Ok.found) (Refused c.in-Err-check_time.refusal) c.in-Ok.ensures.found refl
+    (checked_more (time_after (stored_time (content c.in-Ok.found)) (time_where c.args.tip.now.time) c.args.now.nanosecond) _ (Refused c.in-Err-check_time.refusal)
+    (checked_at (λ o. time_after o (time_where c.args.tip.now.time) c.args.now.nanosecond) _ _ (Refused c.in-Err-check_time.refusal) c.in-Ok-read_time.ensures c.in-Err-check_time.ensures)) c.in-Ok.ensures.same
 
 pub returns-in-Err-Unwritable-clause-step : goal.returns-in-Err-Unwritable-clause-step
 returns-in-Err-Unwritable-clause-step g c = refused_after _ _ _ _ _ _ (content c.in-Ok.found) (Refused DatastoreSerialize) c.in-Ok.ensures.found refl

@@ -5,6 +5,7 @@ use Rattle.tough_roles.specs.Timestamp.{timestamp_at, timestamp_doc, timestamp_j
 use Rattle.tough_vault.specs.Stored.{content}
 use Rattle.tough_vault.specs.Journal.{pair_where}
 use Rattle.tough_vault.specs.Checks.{timestamp_after, enforces}
+use Rattle.tough_vault.specs.declared.checks.StepError.TheVariants.{Refused}
 use Rattle.tough_vault.proofs.Backs.{reads-back}
 use Rattle.tough_vault.proofs.Preparing.{prepared, refused_after, checked_at, same_pair, had_old}
 use Rattle.tough_vault.proofs.Verified.{timestamp-unwritten}
@@ -16,8 +17,8 @@ unreachable-requires g c =
     (c.in-Err-Unwritable.ensures.unwritable (ap Err c.in-Err-Unwritable.field-0-is))
 
 pub returns-in-Err-check_timestamp_late-clause-step : goal.returns-in-Err-check_timestamp_late-clause-step
-returns-in-Err-check_timestamp_late-clause-step g c = refused_after _ _ _ _ _ _ (content c.in-Ok.found) _ c.in-Ok.ensures.found c.in_default.ensures
-    (checked_at (λ o. timestamp_after o (pair_where c.args.tip.now.timestamp) (timestamp_doc c.args.new.now.signed) c.args.start.nanosecond (enforces c.args.enforcement)) _ _ _ (c.in-Ok-read_timestamp.ensures) (c.in-Err-check_timestamp_late.ensures)) c.in-Ok.ensures.same
+returns-in-Err-check_timestamp_late-clause-step g c = refused_after _ _ _ _ _ _ (content c.in-Ok.found) (Refused c.in-Err-check_timestamp_late.refusal) c.in-Ok.ensures.found c.in_default.ensures
+    (checked_at (λ o. timestamp_after o (pair_where c.args.tip.now.timestamp) (timestamp_doc c.args.new.now.signed) c.args.start.nanosecond (enforces c.args.enforcement)) _ _ (Refused c.in-Err-check_timestamp_late.refusal) (c.in-Ok-read_timestamp.ensures) (c.in-Err-check_timestamp_late.ensures)) c.in-Ok.ensures.same
 
 pub returns-clause-step : goal.returns-clause-step
 returns-clause-step g c =

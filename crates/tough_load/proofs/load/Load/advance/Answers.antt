@@ -3,7 +3,8 @@ use Rattle.tough_update.specs.Questions as ask
 use Rattle.tough_update.specs.Machine.{question}
 use Rattle.tough_update.specs.Counts.{with_fetch, with_tree}
 use Rattle.tough_update.specs.Promises.{Goes}
-use Rattle.tough_update.specs.View.{core_doc, request_doc, outcome_doc, answer_doc, act_of, counts_of}
+use Rattle.tough_update.specs.View.{core_doc, outcome_doc, answer_doc, act_of, counts_of}
+use Rattle.tough_trust.specs.View.{request_doc}
 use Rattle.tough_load.specs.Words.{transport_of, base_of, verifier_of, settings_of, fetch_of, core_of, keeper_of}
 use Rattle.tough_load.specs.Fetching.{Fetches}
 use Rattle.tough_load.specs.Loading.{Steps}

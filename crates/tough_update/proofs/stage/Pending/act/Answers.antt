@@ -4,7 +4,7 @@ use Rattle.tough_vault.specs.Checks.{enforces}
 use Rattle.tough_vault.specs.DocumentName.{name_of}
 use Rattle.tough_vault.specs.Files.{targets_file}
 use Rattle.tough_delegated.proofs.lemmas.Bare.{page-tells}
-use Rattle.tough_update.specs.Listed.{targets_text}
+use Rattle.tough_trust.specs.Listed.{targets_text}
 use Rattle.tough_update.specs.Machine.{act_at}
 use Rattle.tough_update.specs.View.{pending_doc}
 use Rattle.tough_update.proofs.stage.Pending.act.Goals as goal

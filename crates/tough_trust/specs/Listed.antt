@@ -1,0 +1,79 @@
+-- Targets as an update takes them: those of a repository, and the documents of delegated roles (TUF specification 1.0, section 5.6).
+use Rattle.std.specs.Prelude.{ℕ, ℤ, ◌==◌, List, [], ◌∷◌, Option, Some, None, Bool, not, option_and_then, Result, Ok, Err}
+use Rattle.tough_json.specs.Results.{json_of}
+use Rattle.tough_keys.specs.Same.{Verifies}
+use Rattle.tough_roles.specs.Signature.{SignedDoc, signed_at, signed_json}
+use Rattle.tough_roles.specs.Root.{RootDoc}
+use Rattle.tough_roles.specs.Policy.{Policy, policy}
+use Rattle.tough_roles.specs.Verdict.{Refused, verdict}
+use Rattle.tough_roles.specs.Chain.{text_by}
+use Rattle.tough_roles.specs.declared.role_type.RoleType.TheVariants as role
+use Rattle.tough_schema.specs.Delegations.{DelegationsDoc}
+use Rattle.tough_schema.specs.Targets.{TargetsDoc, targets_at, targets_json}
+use Rattle.tough_schema.specs.Verify.{delegated_policy}
+use Rattle.tough_schema.specs.Whole.{TreeDoc}
+use Rattle.tough_delegated.specs.Bare.{bare}
+use Rattle.tough_delegated.specs.Growing.{WorkDoc, holder_of}
+use Rattle.tough_names.specs.Named.{Named}
+use Rattle.tough_schema.specs.Tree.{Entry}
+use Rattle.tough_vault.specs.Checks.{Reason, VersionMismatch, first_of, refuse, verified, expiry}
+use Rattle.tough_vault.specs.Documents.{stored_text}
+use Rattle.tough_trust.specs.Failure.{Failure, ParseMetadata, InvalidPath}
+use Rattle.tough_trust.specs.Outcomes.{if_read, holds_json, unrefused}
+
+-- the signed targets that bytes are
+abbrev pub targets_in : List ℕ → Option (SignedDoc TargetsDoc)
+targets_in bytes = option_and_then (signed_at targets_at) (json_of bytes)
+
+-- the text of signed targets in a store, where they can be written
+abbrev pub targets_text : SignedDoc TargetsDoc → Option (List ℕ)
+targets_text d = option_and_then stored_text (signed_json targets_json d)
+
+-- who vouches for targets: a root, or the delegations, if there are any, that the first role of this name stands in
+pub data HolderDoc : Type 0 where
+  by_root : RootDoc → HolderDoc
+  by_delegations : Option DelegationsDoc → List ℕ → HolderDoc
+
+-- what they ask of the signatures
+abbrev pub policy_in : HolderDoc → Option Policy
+policy_in (by_root root) = policy root role.Targets
+policy_in (by_delegations g name) = option_and_then (λ d. delegated_policy d name) g
+
+-- the role whose document is wanted
+abbrev pub first_name : List Entry → List ℕ
+first_name [] = []
+first_name (e ∷ rest) = e.name
+
+abbrev pub wanted_name : WorkDoc → List ℕ
+wanted_name w = first_name w.waiting
+
+-- who vouches for the document that is wanted: the delegations that its role stands in
+abbrev pub role_holder : WorkDoc → HolderDoc
+role_holder w = by_delegations (holder_of w) (wanted_name w)
+
+-- for the targets it is the root
+abbrev pub holder_in : RootDoc → Option WorkDoc → HolderDoc
+holder_in root None = by_root root
+holder_in root (Some w) = role_holder w
+
+abbrev pub targets_verdict : Verifies → HolderDoc → SignedDoc TargetsDoc → Result Unit Refused
+targets_verdict verifies holder d = verdict verifies (policy_in holder) (text_by targets_json d.role) d.signatures
+
+-- The check that refuses them, if one does: they must reach the threshold, have the listed version, and not be expired when the update
+-- began.
+abbrev pub targets_refusal : Verifies → Bool → ℤ → HolderDoc → ℕ → SignedDoc TargetsDoc → Option Reason
+targets_refusal verifies enforced start holder listed d = first_of
+    (verified role.Targets (targets_verdict verifies holder d)
+    ∷ refuse (not (d.role.head.version == listed)) (VersionMismatch role.Targets d.role.head.version listed)
+    ∷ expiry role.Targets enforced start d.role.head.expires
+    ∷ [])
+
+-- targets that were read and checked; none of their roles has a document
+abbrev pub judged : Verifies → Bool → ℤ → HolderDoc → ℕ → List ℕ → Result (SignedDoc TreeDoc) Failure
+judged verifies enforced start holder listed bytes = if_read (ParseMetadata role.Targets (holds_json bytes)) (targets_in bytes) (λ d.
+    unrefused (targets_refusal verifies enforced start holder listed d) (bare d))
+
+-- each name that a complete tree lists must be found by the permissive search; else this one isn't
+abbrev pub all_found : Option Named → Result Unit Failure
+all_found None = Ok (tt {0})
+all_found (Some name) = Err (InvalidPath (Some name))

@@ -1,0 +1,141 @@
+//! Whether targets are taken: those of a repository, and those of a delegated role (TUF specification 5.6).
+
+ghost use Rattle.std.specs.Prelude.{◌≡◌, option_map};
+ghost use Rattle.tough_roles.specs.Signature.{signed_doc};
+ghost use Rattle.tough_roles.specs.Root.{root_doc};
+ghost use Rattle.tough_roles.specs.Verdict.{Answers};
+ghost use Rattle.tough_vault.specs.Checks.{Checked, enforces};
+ghost use Rattle.tough_schema.specs.Targets.{targets_doc};
+ghost use Rattle.tough_schema.specs.Whole.{tree_doc};
+ghost use Rattle.tough_schema.specs.Entries.{first_missing};
+ghost use Rattle.tough_delegated.specs.View.{work_doc};
+ghost use Rattle.tough_trust.specs.Failure.{Gives};
+ghost use Rattle.tough_trust.specs.Listed.{wanted_name, holder_in, targets_verdict, targets_refusal, judged, all_found};
+ghost use Rattle.tough_trust.specs.View.{holder_doc};
+
+use crate::error::UpdateError;
+use jiff::Timestamp as Instant;
+use std::alloc::Global;
+use tough_delegated::Growth;
+use tough_roles::{self as schema, ReadError, RoleType, Root, Signed, Verify};
+use tough_schema::{Delegations, Targets};
+use tough_vault::{
+    ExpirationEnforcement, StepError, check_expiry, check_signed, check_version,
+};
+
+/// Who vouches for targets: a root, or the delegations that a role of this name stands in.
+#[derive(Drop)]
+pub enum Holder<'a> {
+    /// A root.
+    Root(&'a Root),
+    /// The delegations, if there are any, and the role's name.
+    Delegations(Option<&'a Delegations>, &'a str),
+}
+
+/// The name of the role whose document is wanted.
+pub fn wanted_name(growth: &Growth) -> &str
+    ensures { result.now ≡ wanted_name (work_doc growth.now) }
+{
+    match growth.role() {
+        Some(role) => role.name.as_str(),
+        None => "",
+    }
+}
+
+/// Who vouches for the targets that are wanted: the root, or, where the document of a delegated role is wanted, the delegations that the
+/// role stands in.
+pub fn holder_of<'a>(root: &'a Root, growth: Option<&'a Growth>) -> Holder<'a>
+    ensures { holder_doc result
+        ≡ holder_in (root_doc root.now) (option_map (λ g. work_doc g.now) growth) }
+{
+    match growth {
+        None => Holder::Root(root),
+        Some(growth) => Holder::Delegations(growth.holder(), wanted_name(growth)),
+    }
+}
+
+impl Holder<'_> {
+    // Whether the targets reach the threshold.
+    fn verify<V: Verify>(
+        &self,
+        alloc: Global,
+        targets: &Signed<Targets>,
+        verifier: &V,
+    ) -> Result<(), schema::Error>
+        ensures { Answers result (targets_verdict (V.verifies verifier.now) (holder_doc self.now)
+            (signed_doc targets_doc targets.now)) }
+    {
+        match self {
+            Holder::Root(root) => root.verify_role(alloc, targets, verifier),
+            Holder::Delegations(Some(delegations), name) => {
+                delegations.verify_role(alloc, targets, name, verifier)
+            }
+            Holder::Delegations(None, name) => Err(schema::Error::RoleNotFound {
+                name: String::from_str(alloc, name)?,
+            }),
+        }
+    }
+}
+
+// Targets reach the holder's threshold, have the listed version and aren't expired.
+fn check<V: Verify>(
+    alloc: Global,
+    enforcement: ExpirationEnforcement,
+    start: Instant,
+    holder: &Holder<'_>,
+    listed: u64,
+    targets: &Signed<Targets>,
+    verifier: &V,
+) -> Result<(), StepError>
+    ensures { Checked (targets_refusal (V.verifies verifier.now) (enforces enforcement)
+        start.nanosecond (holder_doc holder.now) listed
+        (signed_doc targets_doc targets.now)) result }
+{
+    let role = RoleType::Targets;
+    check_signed(role, holder.verify(alloc, targets, verifier))?;
+    check_version(role, targets.signed.version.get(), listed)?;
+    Ok(check_expiry(role, enforcement, start, targets.signed.expires)?)
+}
+
+/// Reads targets, and checks them in this order: `ParseMetadata` where the bytes are no signed targets, `VerifyMetadata` where they don't
+/// reach the holder's threshold, `VersionMismatch` where they haven't the listed version, `ExpiredMetadata` where the update began after
+/// they expired (TUF specification 5.6).
+pub fn judge<V: Verify>(
+    alloc: Global,
+    enforcement: ExpirationEnforcement,
+    start: Instant,
+    holder: &Holder<'_>,
+    listed: u64,
+    bytes: &[u8],
+    verifier: &V,
+) -> Result<Signed<Targets>, UpdateError>
+    ensures { Gives (signed_doc tree_doc)
+        (judged (V.verifies verifier.now) (enforces enforcement) start.nanosecond
+        (holder_doc holder.now) listed bytes.now) result }
+{
+    let targets = match Signed::<Targets>::read(alloc, bytes) {
+        Ok(targets) => targets,
+        Err(ReadError::Memory) => return Err(UpdateError::Memory),
+        Err(source) => {
+            return Err(UpdateError::ParseMetadata {
+                role: RoleType::Targets,
+                source,
+            });
+        }
+    };
+    match check(alloc, enforcement, start, holder, listed, &targets, verifier) {
+        Ok(()) => Ok(targets),
+        Err(error) => Err(UpdateError::from(error)),
+    }
+}
+
+/// Each name that a document of the tree lists is found by the permissive search for it, or else `InvalidPath` tells the first that isn't.
+pub fn check_tree(alloc: Global, targets: &Targets) -> Result<(), UpdateError>
+    ensures { Gives (λ _. tt {0}) (all_found (first_missing (tree_doc targets.now))) result }
+{
+    match targets.validate(alloc) {
+        Ok(()) => Ok(()),
+        Err(schema::Error::Memory) => Err(UpdateError::Memory),
+        Err(source) => Err(UpdateError::InvalidPath { source }),
+    }
+}

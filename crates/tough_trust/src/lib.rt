@@ -1,0 +1,21 @@
+//! What an update asks for, and what it trusts (TUF specification 5): which file is fetched, under which bound and digest, and whether what
+//! came is taken.
+#![tactic(auto)]
+
+mod error;
+mod fault;
+mod holder;
+mod limits;
+mod request;
+mod rotation;
+mod walk;
+
+pub use error::UpdateError;
+pub use fault::Fault;
+pub use holder::{Holder, check_tree, holder_of, judge, wanted_name};
+pub use limits::Limits;
+pub use request::{
+    Request, role_request, root_request, snapshot_request, targets_request, timestamp_request,
+};
+pub use rotation::is_rotated;
+pub use walk::{first_root, next_root, next_version};
