@@ -1,5 +1,5 @@
 -- The walk from root to root (TUF specification 1.0, section 5.3).
-use Rattle.std.specs.Prelude.{ℕ, ◌+◌, ◌-◌, ◌^◌, ◌==◌, List, [], ◌∷◌, Option, Some, None, not, nat_lt, Result, Ok, Err, if◌then◌else◌}
+use Rattle.std.specs.Prelude.{ℕ, ◌+◌, ◌-◌, ◌^◌, ◌==◌, List, [], ◌∷◌, Option, Some, None, option_map, not, nat_lt, Result, Ok, Err, if◌then◌else◌}
 use Rattle.tough_keys.specs.Same.{Verifies}
 use Rattle.tough_roles.specs.Signature.{SignedDoc}
 use Rattle.tough_roles.specs.Root.{RootDoc, root_json}
@@ -11,7 +11,8 @@ use Rattle.tough_vault.specs.Checks.{Reason, OlderMetadata, first_of, refuse, ve
 use Rattle.tough_vault.specs.Documents.{root_in}
 use Rattle.tough_trust.specs.declared.limits.Limits.{Limits}
 use Rattle.tough_trust.specs.Failure.{Failure, ParseTrustedMetadata, VerifyTrustedMetadata, ParseMetadata, MaxUpdatesExceeded}
-use Rattle.tough_trust.specs.Outcomes.{unless, unrefused, if_read, holds_json}
+use Rattle.tough_trust.specs.Outcomes.{unless, unrefused, if_read, holds_json, and_then}
+use Rattle.tough_trust.specs.Requests.{RequestDoc, root_request}
 
 -- what a root's verification of a signed root answers
 abbrev pub root_verdict : Verifies → RootDoc → SignedDoc RootDoc → Result Unit Refused
@@ -42,3 +43,7 @@ next_root verifies old bytes = if_read (ParseMetadata role.Root (holds_json byte
 abbrev pub next_version : Limits → ℕ → ℕ → Result (Option ℕ) Failure
 next_version l first last = unless (MaxUpdatesExceeded l.max_root_updates) (nat_lt (last - first) l.max_root_updates)
     (if last == 2 ^ 64 - 1 then Ok None else Ok (Some (last + 1)))
+
+-- that root is asked for
+abbrev pub next_request : Limits → ℕ → ℕ → Result (Option RequestDoc) Failure
+next_request l first last = and_then (next_version l first last) (λ version. Ok (option_map (root_request l) version))

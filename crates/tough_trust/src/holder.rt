@@ -19,9 +19,7 @@ use std::alloc::Global;
 use tough_delegated::Growth;
 use tough_roles::{self as schema, ReadError, RoleType, Root, Signed, Verify};
 use tough_schema::{Delegations, Targets};
-use tough_vault::{
-    ExpirationEnforcement, StepError, check_expiry, check_signed, check_version,
-};
+use tough_vault::{ExpirationEnforcement, StepError, check_expiry, check_signed, check_version};
 
 /// Who vouches for targets: a root, or the delegations that a role of this name stands in.
 #[derive(Drop)]
@@ -46,7 +44,7 @@ pub fn wanted_name(growth: &Growth) -> &str
 /// role stands in.
 pub fn holder_of<'a>(root: &'a Root, growth: Option<&'a Growth>) -> Holder<'a>
     ensures { holder_doc result
-        ≡ holder_in (root_doc root.now) (option_map (λ g. work_doc g.now) growth) }
+        ≡ holder_in (root_doc root.now) (option_map (λ g. work_doc g.now) growth.entry) }
 {
     match growth {
         None => Holder::Root(root),
@@ -123,7 +121,15 @@ pub fn judge<V: Verify>(
             });
         }
     };
-    match check(alloc, enforcement, start, holder, listed, &targets, verifier) {
+    match check(
+        alloc,
+        enforcement,
+        start,
+        holder,
+        listed,
+        &targets,
+        verifier,
+    ) {
         Ok(()) => Ok(targets),
         Err(error) => Err(UpdateError::from(error)),
     }

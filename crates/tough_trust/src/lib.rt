@@ -18,4 +18,4 @@ pub use request::{
     Request, role_request, root_request, snapshot_request, targets_request, timestamp_request,
 };
 pub use rotation::is_rotated;
-pub use walk::{first_root, next_root, next_version};
+pub use walk::{first_root, next_request, next_root, next_version};

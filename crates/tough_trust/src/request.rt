@@ -52,11 +52,7 @@ fn stated_digest(alloc: Global, hashes: &Option<Hashes>) -> Result<Option<Vec<u8
 }
 
 /// The root of a version.
-pub fn root_request(
-    alloc: Global,
-    limits: &Limits,
-    version: u64,
-) -> Result<Request, AllocError>
+pub fn root_request(alloc: Global, limits: &Limits, version: u64) -> Result<Request, AllocError>
     ensures { IfOk result (λ r. request_doc r ≡ root_request limits.now version) }
 {
     Ok(Request {

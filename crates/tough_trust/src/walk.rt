@@ -1,16 +1,18 @@
 //! The walk from root to root (TUF specification 5.3).
 
-ghost use Rattle.std.specs.Prelude.{◌≡◌, ◌+◌, ◌==◌, not, IfOk};
+ghost use Rattle.std.specs.Prelude.{◌≡◌, ◌+◌, ◌==◌, not, IfOk, option_map};
 ghost use Rattle.tough_roles.specs.Signature.{SignedDoc, signed_doc};
 ghost use Rattle.tough_roles.specs.Root.{RootDoc, root_doc, root_json};
 ghost use Rattle.tough_roles.specs.Chain.{ReachesUnder, IsNext};
 ghost use Rattle.tough_roles.specs.declared.role_type.RoleType.TheVariants as types;
 ghost use Rattle.tough_vault.specs.Checks.{Checked, RefusedBy, OlderMetadata, refuse};
 ghost use Rattle.tough_trust.specs.Failure.{Gives};
-ghost use Rattle.tough_trust.specs.Walk.{first_root, next_root, root_refusal, next_version};
+ghost use Rattle.tough_trust.specs.Walk.{first_root, next_root, root_refusal, next_version, next_request};
+ghost use Rattle.tough_trust.specs.View.{request_doc};
 
 use crate::error::UpdateError;
 use crate::limits::Limits;
+use crate::request::{Request, root_request};
 use std::alloc::Global;
 use tough_roles::{self as schema, ReadError, RoleType, Root, Signed, Verify};
 use tough_vault::{Refusal, StepError, check_signed};
@@ -113,4 +115,20 @@ pub fn next_version(limits: &Limits, first: u64, last: u64) -> Result<Option<u64
         });
     }
     Ok(last.checked_add(1))
+}
+
+/// The request for that root, where there is one.
+pub fn next_request(
+    alloc: Global,
+    limits: &Limits,
+    first: u64,
+    last: u64,
+) -> Result<Option<Request>, UpdateError>
+    ensures { Gives (option_map request_doc) (next_request limits.now first last) result }
+{
+    match next_version(limits, first, last) {
+        Ok(Some(version)) => Ok(Some(root_request(alloc, limits, version)?)),
+        Ok(None) => Ok(None),
+        Err(error) => Err(error),
+    }
 }

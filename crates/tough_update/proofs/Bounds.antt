@@ -35,7 +35,7 @@ use Rattle.tough_update.specs.Promises.{Goes}
 use Rattle.tough_update.specs.Counts.{none_yet, one_more, ends_fetch, with_fetch, with_tree}
 use Rattle.tough_update.specs.Counted.{Counted, Passes, HadAsMany, roles_listed, FetchesFew, KeepsAll}
 use Rattle.tough_update.specs.Counted as counted
-use Rattle.tough_update.proofs.Turning.{Fine, and_then-fine, walking, ending, reading, waits, keeps-answer}
+use Rattle.tough_update.proofs.Turning.{Fine, if-fine, and_then-fine, walking, ending, reading, waits, keeps-answer}
 use Rattle.tough_trust.proofs.lemmas.Walking.{next-fine}
 use Rattle.tough_trust.proofs.lemmas.Judging.{judged-ok}
 use Rattle.tough_update.proofs.Keeping.{kept_listed}

@@ -33,7 +33,7 @@ use Rattle.tough_update.specs.Answered as got
 use Rattle.tough_update.specs.Machine.{question, answered, walked, base_of, walk_ended, want_snapshot, known_of, want_targets, read_wanted, after, settled, stage_after}
 use Rattle.tough_update.specs.Runs.{run, IsFresh}
 use Rattle.tough_update.specs.Asking.{fetched, requests, roots_after, first_version, IsOfRole, AsksFew}
-use Rattle.tough_update.proofs.Turning.{Fine, and_then-fine, walking, ending, reading, waits, keeps-answer}
+use Rattle.tough_update.proofs.Turning.{Fine, if-fine, and_then-fine, walking, ending, reading, waits, keeps-answer}
 use Rattle.tough_trust.proofs.lemmas.Walking.{next-fine}
 use Rattle.tough_update.proofs.Prefixes.{in_stage, whole}
 use Rattle.tough_update.proofs.History.{first-read}

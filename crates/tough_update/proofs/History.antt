@@ -40,7 +40,7 @@ use Rattle.tough_update.specs.Machine.{question, walked, base_of, walk_ended, wa
 use Rattle.tough_update.specs.Trusted.{Chain, followed}
 use Rattle.tough_update.specs.Runs.{run, EndsWalk, IsLast, IsFresh, WasTold, EndsWalking, WasRotated}
 use Rattle.tough_update.specs.Asking.{HasTaken, AsksSnapshot, AsksTargets, AsksRole}
-use Rattle.tough_update.proofs.Turning.{Fine, and_then-fine, walking, ending, reading, keeps-answer}
+use Rattle.tough_update.proofs.Turning.{Fine, if-fine, and_then-fine, walking, ending, reading, keeps-answer}
 use Rattle.tough_trust.proofs.lemmas.Walking.{first-passed, next-fine}
 use Rattle.tough_update.proofs.Sound.{first-fine}
 use Rattle.tough_update.proofs.Prefixes.{in_stage, longer, run-same, whole, whole-at}

@@ -34,7 +34,7 @@ use Rattle.tough_update.specs.Promises.{Goes}
 use Rattle.tough_update.specs.Counts.{none_yet, one_more, ends_fetch, with_fetch, with_tree}
 use Rattle.tough_update.specs.Counted.{Counted, HadAsMany, names_listed, KeepsFew}
 use Rattle.tough_update.specs.Counted as counted
-use Rattle.tough_update.proofs.Turning.{Fine, and_then-fine, walking, ending, reading, keeps-answer}
+use Rattle.tough_update.proofs.Turning.{Fine, if-fine, and_then-fine, walking, ending, reading, keeps-answer}
 use Rattle.tough_trust.proofs.lemmas.Judging.{judged-ok}
 
 -- a fetch leaves what is kept

@@ -1,5 +1,5 @@
 -- Documents that are served are loaded.
-use Rattle.std.specs.Prelude.{◌≡◌, ◌≢◌, ℕ, suc, ℤ, ◌+◌, ◌-◌, ◌^◌, ◌<◌, ◌≤◌, ◌==◌, List, [], ◌∷◌, ◌++◌, length, map, sum_by, Option, Some, None, option_and_then, Bool, true, false, not, nat_lt, is_some, Result, Ok, Err, if◌then◌else◌}
+use Rattle.std.specs.Prelude.{◌≡◌, ◌≢◌, ℕ, suc, ℤ, ◌+◌, ◌-◌, ◌^◌, ◌<◌, ◌≤◌, ◌==◌, List, [], ◌∷◌, ◌++◌, length, map, sum_by, Option, Some, None, option_map, option_and_then, Bool, true, false, not, nat_lt, is_some, Result, Ok, Err, if◌then◌else◌}
 use Rattle.std.proofs.Common.{refl, sym, ◌∙◌, ap, subst, arith, add-zero, zero-add}
 use Rattle.std.proofs.lemmas.Bool.{eq-eqb, lt-ltb}
 use Rattle.std.proofs.Math.Nat.{sub_self}
@@ -368,7 +368,7 @@ module _ (v : Verifies) (files : Files) (s : SettingDoc) (l : LoadedDoc) (able :
 
   begins : walked s.limits walk ≡ Ok root_wanted
   begins =
-      let next : Bool → Bool → Result StageDoc Failure = λ more end. and_then (unless (MaxUpdatesExceeded s.limits.max_root_updates) more (if end then Ok None else Ok (Some (l.known.root.role.head.version + 1)))) (λ version. Ok (ask_root s.limits walk version)) in
+      let next : Bool → Bool → Result StageDoc Failure = λ more end. and_then (and_then (unless (MaxUpdatesExceeded s.limits.max_root_updates) more (if end then Ok None else Ok (Some (l.known.root.role.head.version + 1)))) (λ version. Ok (option_map (root_request s.limits) version))) (λ r. Ok (ask_root walk r)) in
       ap (λ b. next b (l.known.root.role.head.version == 2 ^ 64 - 1)) (none-first l.known.root.role.head.version s.limits.max_root_updates able.one_update)
       ∙ ap (next true) (not-equal l.known.root.role.head.version (2 ^ 64 - 1) able.root_low)
 

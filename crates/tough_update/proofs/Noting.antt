@@ -29,7 +29,7 @@ use Rattle.tough_update.specs.Answered.{AnswerDoc}
 use Rattle.tough_update.specs.Answered as got
 use Rattle.tough_update.specs.Machine.{question, question_at, answered, walked, base_of, walk_ended, want_snapshot, known_of, want_targets, read_wanted, after, settled, stage_after}
 use Rattle.tough_update.specs.Runs.{run}
-use Rattle.tough_update.proofs.Turning.{Fine, and_then-fine, walking, ending, reading, keeps-answer}
+use Rattle.tough_update.proofs.Turning.{Fine, if-fine, and_then-fine, walking, ending, reading, keeps-answer}
 use Rattle.tough_update.proofs.Prefixes.{run-on, Parts, parts}
 
 -- the moment was noted before

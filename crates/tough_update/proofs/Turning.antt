@@ -1,5 +1,5 @@
 -- A fact of stages is kept by each answer where it is kept by each file that is read, by a root's fetch that ends the walk, and by each step.
-use Rattle.std.specs.Prelude.{◌≡◌, ◌≢◌, ◌+◌, ◌-◌, ◌^◌, ◌==◌, nat_lt, not, ℤ, List, Bool, true, false, IsTrue, Option, Some, None, Result, Ok, Err, ℕ, if◌then◌else◌}
+use Rattle.std.specs.Prelude.{◌≡◌, ◌≢◌, ◌+◌, ◌-◌, ◌^◌, ◌==◌, nat_lt, not, ℤ, List, Bool, true, false, IsTrue, Option, Some, None, option_map, Result, Ok, Err, ℕ, if◌then◌else◌}
 use Rattle.std.proofs.Common.{refl, ap}
 use Rattle.std.proofs.lemmas.Bool.{eqb-true}
 use Rattle.tough_net.specs.declared.error.TransportErrorKind.{TransportErrorKind}
@@ -41,7 +41,7 @@ module _ (P : StageDoc → Type 0) (bad : (f : Failure) → P (at.Done (Err f)))
 
   -- where the limit allows another root, the walk is at its end or the root of the next version is asked for
   walks-on : (l : Limits) (w : WalkDoc) (n : ℕ) (fault : Failure) (more end : Bool) → (IsTrue more → IsTrue end → P (at.Step (at.PutLast w))) → (IsTrue more → P (at.Fetch (at.Root w) (root_request l n)))
-      → Fine (and_then (unless fault more (if end then Ok None else Ok (Some n))) (λ version. Ok (ask_root l w version)))
+      → Fine (and_then (and_then (unless fault more (if end then Ok None else Ok (Some n))) (λ version. Ok (option_map (root_request l) version))) (λ r. Ok (ask_root w r)))
   walks-on l w n fault true true ends goes = ends refl refl
   walks-on l w n fault true false ends goes = goes refl
   walks-on l w n fault false end ends goes = bad fault

@@ -14,7 +14,7 @@ use Rattle.tough_vault.specs.Act as act
 use Rattle.tough_trust.specs.declared.limits.Limits.{Limits}
 use Rattle.tough_trust.specs.declared.fault.Fault.{Fault}
 use Rattle.tough_trust.specs.Failure.{Failure, ParseMetadata, MaxUpdatesExceeded, JoinUrl, Transport, Checked, Memory}
-use Rattle.tough_trust.specs.Walk.{first_root, next_root, next_version}
+use Rattle.tough_trust.specs.Walk.{first_root, next_root, next_request}
 use Rattle.tough_trust.specs.Faults.{fault_failure, ends_start, ends_stream}
 use Rattle.tough_trust.specs.Outcomes.{unless, if_read, holds_json, and_then}
 use Rattle.tough_trust.specs.Requests.{RequestDoc, root_request, timestamp_request, snapshot_request, targets_request}
@@ -31,14 +31,14 @@ use Rattle.tough_update.specs.Answered as got
 
 -- ---- roots (TUF specification 5.2 and 5.3)
 
--- the root of this version is to be fetched; where there is none, the walk is at its end
-abbrev pub ask_root : Limits → WalkDoc → Option ℕ → StageDoc
-ask_root l w None = at.Step (at.PutLast w)
-ask_root l w (Some version) = at.Fetch (at.Root w) (root_request l version)
+-- this root is to be fetched; where there is none, the walk is at its end
+abbrev pub ask_root : WalkDoc → Option RequestDoc → StageDoc
+ask_root w None = at.Step (at.PutLast w)
+ask_root w (Some r) = at.Fetch (at.Root w) r
 
 -- the walk goes on from a root
 abbrev pub walked : Limits → WalkDoc → Result StageDoc Failure
-walked l w = and_then (next_version l w.first.role.head.version w.last.role.head.version) (λ version. Ok (ask_root l w version))
+walked l w = and_then (next_request l w.first.role.head.version w.last.role.head.version) (λ r. Ok (ask_root w r))
 
 -- the walk begins with the root that was handed in
 abbrev pub began : Verifies → Limits → List ℕ → ℤ → Result StageDoc Failure

@@ -11,7 +11,6 @@ use Rattle.tough_roles.specs.Timestamp.{timestamp_doc}
 use Rattle.tough_roles.specs.Snapshot.{snapshot_doc}
 use Rattle.tough_schema.specs.Targets.{targets_doc}
 use Rattle.tough_schema.specs.Whole.{tree_doc}
-use Rattle.tough_schema.specs.Delegations.{delegations_doc}
 use Rattle.tough_delegated.specs.View.{work_doc}
 use Rattle.tough_vault.specs.Checks.{enforces}
 use Rattle.tough_vault.specs.declared.checks.StepError.{StepError}
@@ -19,7 +18,7 @@ use Rattle.tough_vault.specs.Act.{Act as ActDoc}
 use Rattle.tough_vault.specs.Act as act
 use Rattle.tough_vault.specs.Files.{targets_file}
 use Rattle.tough_vault.specs.DocumentName.{name_of}
-use Rattle.tough_trust.specs.Listed.{targets_text, HolderDoc, by_root, by_delegations}
+use Rattle.tough_trust.specs.Listed.{targets_text}
 use Rattle.tough_trust.specs.Failure.{Failure, failure_of, step_failure}
 use Rattle.tough_trust.specs.declared.error.UpdateError.{UpdateError}
 use Rattle.tough_trust.specs.declared.request.Request.{Request}
@@ -35,8 +34,6 @@ use Rattle.tough_update.specs.declared.stage.Known.{Known}
 use Rattle.tough_update.specs.declared.stage.Loaded.{Loaded}
 use Rattle.tough_update.specs.declared.stage.Received.{Received}
 use Rattle.tough_update.specs.declared.stage.Roles.{Roles}
-use Rattle.tough_trust.specs.declared.holder.Holder.{Holder}
-use Rattle.tough_trust.specs.declared.holder.Holder.TheVariants as holds
 use Rattle.tough_update.specs.declared.stage.Wanted.{Wanted}
 use Rattle.tough_update.specs.declared.stage.Wanted.TheVariants as wanted
 use Rattle.tough_update.specs.declared.stage.Pending.{Pending}
@@ -46,7 +43,7 @@ use Rattle.tough_update.specs.declared.stage.Stage.TheVariants as in_stage
 use Rattle.tough_update.specs.declared.turns.Setting.{Setting}
 use Rattle.tough_update.specs.declared.counts.Counts.{Counts}
 use Rattle.tough_update.specs.declared.machine.Core.{Core}
-use Rattle.tough_trust.specs.Requests.{RequestDoc}
+use Rattle.tough_trust.specs.View.{request_doc}
 use Rattle.tough_update.specs.Stages.{WalkDoc, BaseDoc, KnownDoc, ReceivedDoc, RolesDoc, LoadedDoc, WantedDoc, PendingDoc, StageDoc, SettingDoc, CoreDoc}
 use Rattle.tough_update.specs.Stages as at
 use Rattle.tough_update.specs.Questions.{Question}

@@ -9,8 +9,8 @@ ghost use Rattle.tough_trust.specs.Failure.{Gives};
 ghost use Rattle.tough_update.specs.View.{core_doc, counts_of, stage_doc, answer_doc, question_of, setting_doc, outcome_doc};
 ghost use Rattle.tough_update.specs.Promises.{Settles, Goes, fits, ended};
 
-use crate::counts::{Counts, count_tree};
 use crate::ask::{Answer, Ask};
+use crate::counts::{Counts, count_tree};
 use crate::stage::{Loaded, Pending, Stage};
 use crate::turns::{Setting, end_cut, end_unstarted, read_wanted, take_step};
 use std::alloc::Global;

@@ -1,6 +1,6 @@
 //! The documents of delegated roles (TUF specification 5.6.7).
 
-ghost use Rattle.std.specs.Prelude.{◌≡◌, ◌++◌, ◌∷◌, [], IfOk, string_bytes};
+ghost use Rattle.std.specs.Prelude.{◌≡◌, ◌++◌, ◌∷◌, [], OnOk, string_bytes};
 ghost use Rattle.tough_roles.specs.Signature.{signed_doc};
 ghost use Rattle.tough_vault.specs.Checks.{enforces};
 ghost use Rattle.tough_vault.specs.DocumentName.{name_of};
@@ -18,9 +18,7 @@ use std::alloc::{AllocError, Global};
 use tough_delegated::{Growth, Progress};
 use tough_roles::{Signed, Verify};
 use tough_schema::Targets;
-use tough_trust::{
-    Limits, UpdateError, check_tree, holder_of, judge, role_request, wanted_name,
-};
+use tough_trust::{Limits, UpdateError, check_tree, holder_of, judge, role_request, wanted_name};
 use tough_vault::DocumentName;
 
 // The tree is complete: each name that it lists must be found.
@@ -34,13 +32,17 @@ fn finish(
         (finished (known_doc known) (received_docs received.items)
         (signed_doc tree_doc targets)) result }
 {
-    match check_tree(alloc, &targets.signed) {
-        Ok(()) => Ok(Stage::Done(Ok(Loaded {
-            known,
-            targets,
-            received,
-        }))),
-        Err(error) => Err(error),
+    let loaded = Loaded {
+        known,
+        targets,
+        received,
+    };
+    match check_tree(alloc, &loaded.targets.signed) {
+        Ok(()) => Ok(Stage::Done(Ok(loaded))),
+        Err(error) => {
+            drop(loaded);
+            Err(error)
+        }
     }
 }
 
@@ -124,16 +126,12 @@ fn store_role(
 }
 
 // The bytes are kept, under the role's name.
-fn keep_bytes(alloc: Global, roles: Roles, bytes: Vec<u8>) -> Result<Roles, AllocError>
-    ensures { IfOk result (λ r. roles_doc r ≡ with_received (roles_doc roles) bytes.items) }
+fn keep_bytes(alloc: Global, roles: &mut Roles, bytes: Vec<u8>) -> Result<(), AllocError>
+    ensures { OnOk result (roles_doc roles.new ≡ with_received (roles_doc roles.old) bytes.items) }
 {
-    let Roles {
-        growth,
-        mut received,
-    } = roles;
-    let role = String::from_str(alloc, wanted_name(&growth))?;
-    received.push(Received { role, bytes })?;
-    Ok(Roles { growth, received })
+    let role = String::from_str(alloc, wanted_name(&roles.growth))?;
+    roles.received.push(Received { role, bytes })?;
+    Ok(())
 }
 
 /// The bytes of a role's document.
@@ -163,6 +161,7 @@ pub(crate) fn take_role<V: Verify>(
         Ok(targets) => targets,
         Err(error) => return Err(error),
     };
-    let roles = keep_bytes(setting.alloc, roles, bytes)?;
+    let mut roles = roles;
+    keep_bytes(setting.alloc, &mut roles, bytes)?;
     store_role(setting, known, roles, file, targets)
 }

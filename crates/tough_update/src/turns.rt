@@ -25,8 +25,8 @@ use std::alloc::Global;
 use std::collections::BTreeMap;
 use tough_roles::{Metafile, ReadError, RoleType, Signed, Snapshot, Timestamp, Verify};
 use tough_trust::{
-    Fault, Limits, Request, UpdateError, first_root, holder_of, is_rotated, judge, next_root,
-    next_version, root_request, snapshot_request, targets_request, timestamp_request,
+    Fault, Limits, Request, UpdateError, first_root, holder_of, is_rotated, judge, next_request,
+    next_root, snapshot_request, targets_request, timestamp_request,
 };
 use tough_vault::{ExpirationEnforcement, Refusal, StepError, check_expiry};
 
@@ -45,13 +45,13 @@ fn go_on(alloc: Global, limits: &Limits, walk: Walk) -> Result<Stage, UpdateErro
 {
     let first = walk.first.signed.version.get();
     let last = walk.last().signed.version.get();
-    match next_version(limits, first, last) {
+    match next_request(alloc, limits, first, last) {
+        Ok(Some(request)) => Ok(Stage::Fetch(Wanted::Root(walk), request)),
         Ok(None) => Ok(Stage::Step(Pending::PutLast(walk))),
-        Ok(Some(version)) => {
-            let request = root_request(alloc, limits, version)?;
-            Ok(Stage::Fetch(Wanted::Root(walk), request))
+        Err(error) => {
+            drop(walk);
+            Err(error)
         }
-        Err(error) => Err(error),
     }
 }
 

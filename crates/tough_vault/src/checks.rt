@@ -9,7 +9,6 @@ ghost use Rattle.tough_vault.specs.Documents.{timestamp_verdict, metafile_in};
 ghost use Rattle.tough_vault.specs.Files.{snapshot_file};
 ghost use Rattle.tough_vault.specs.Journal.{pair_of, pair_where, time_where};
 ghost use Rattle.tough_vault.specs.Checks.{Checked, RefusedBy, VersionMismatch, refuse, verified, expiry, later, time_after, snapshot_version, timestamp_form, timestamp_first, timestamp_older, timestamp_below, timestamp_against, timestamp_tip, timestamp_after, timestamp_where, enforces};
-
 ghost use Rattle.tough_roles.specs.declared.error.Error.TheVariants as error;
 ghost use Rattle.tough_vault.specs.declared.checks.StepError.TheVariants as step;
 ghost use Rattle.tough_vault.specs.declared.checks.StepError.TheVariants.{Refused};
@@ -316,7 +315,8 @@ fn check_not_below(old: TimestampVersions, new: &Timestamp) -> Result<(), Refusa
 
 // Against the stored timestamp.
 fn check_against(old: &Option<Timestamp>, new: &Timestamp) -> Result<(), Refusal>
-    ensures { RefusedBy (timestamp_against (timestamp_where old.now) (timestamp_doc new.now)) result }
+    ensures { RefusedBy (timestamp_against (timestamp_where old.now)
+        (timestamp_doc new.now)) result }
 {
     let Some(old) = old else {
         return Ok(());

@@ -202,8 +202,13 @@ pub(crate) fn prepare_timestamp<S: Store, V: Verify>(
     let Ok(old) = read_timestamp(alloc, verifier, root, &found) else {
         return Err(StepError::Memory);
     };
-    if let Err(refusal) = check_timestamp_late(&old, tip.timestamp, &new.signed, start, enforcement)
-    {
+    if let Err(refusal) = check_timestamp_late(
+        &old,
+        tip.timestamp,
+        &new.signed,
+        start,
+        enforcement,
+    ) {
         return Err(StepError::Refused(refusal));
     }
     let bytes = match new.compact(alloc) {
