@@ -1,7 +1,7 @@
 //! The texts of errors.
 
 use crate::error::Error;
-use std::fmt::{self, Display, Formatter, Write};
+use std::fmt::{self, Debug, Display, Formatter, Write};
 
 // Each of these functions writes the text of the errors of one kind, and answers nothing for others: one function of all is too large for
 // the checker.
@@ -501,6 +501,13 @@ impl Display for Error {
             return told;
         }
         f.write_str("out of memory")
+    }
+}
+
+// The same text: it names the variant's fields already, and a program that ends with its error shows that form.
+impl Debug for Error {
+    fn fmt<W: Write>(&self, f: &mut Formatter<W>) -> fmt::Result {
+        Display::fmt(self, f)
     }
 }
 

@@ -12,7 +12,7 @@ pub type Result<T> = std::result::Result<T, Error>;
 
 /// Why a call on a repository, or on an editor of one, failed. Of some variants it is said that no call answers them: they stand for
 /// callers who match on the original's.
-#[derive(Debug, Drop)]
+#[derive(Drop)]
 pub enum Error {
     // Reading and updating.
     /// The bytes that were handed in are no signed root.

@@ -75,8 +75,8 @@ module _ {T K : Type 0} (refuses : T → Parts → TransportError → Type 0) (s
   pub allows-walks : (v : Verifies) (base : Parts) (t : T) (q : Question) (k : K) (a : AnswerDoc) (next : K) → Allows refuses serves keeps yields v base t q k a next → Walks keeps v k next
   allows-walks v base t ask.Moment k a next h = Walks_same keeps v k next h.1
   allows-walks v base t (ask.Fetch r) k a next h = Walks_same keeps v k next h.1
-  allows-walks v base t (ask.Step act) k a next (inl h) = Walks_step keeps v k next act h.0 h.2
-  allows-walks v base t (ask.Step act) k a next (inr h) = Walks_same keeps v k next h.1
+  allows-walks v base t (ask.Step act) k a next (s, e, inl h) = Walks_step keeps v k next act h.0 h.2
+  allows-walks v base t (ask.Step act) k a next (s, e, inr h) = Walks_same keeps v k next h.1
   allows-walks v base t ask.Ready k a next h = absurd h
 
 module _ {T K C V S : Type 0} (refuses : T → Parts → TransportError → Type 0) (serves : T → Parts → Runs Item) (keeps : Verifies → K → Act → Result Receipt StepError → K → Type 0) (yields : S → Runs Item)

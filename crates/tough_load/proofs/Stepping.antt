@@ -32,9 +32,9 @@ module _ {T S K : Type 0} (refuses : T → Parts → TransportError → Type 0) 
 
   -- the step that the answer of success tells of
   stepped : (act : Act) (k next k' : K) → Allows refuses serves keeps yields v base t (ask.Step act) k (got.Step (Ok (tt {0}))) next → Walks keeps v next k' → HasStepped keeps v k act k'
-  stepped act k next k' (inl (Ok r, e, h)) more = record { before = k; after = next; receipt = r; earlier = Walks_same keeps v k k refl; stepped = h; later = more }
-  stepped act k next k' (inl (Err r, e, h)) more = absurd (cc (e))
-  stepped act k next k' (inr h) more = absurd (cc (h.0))
+  stepped act k next k' (s, e, inl (Ok r, d, h)) more = record { before = k; after = next; receipt = r; earlier = Walks_same keeps v k k refl; stepped = h; later = more }
+  stepped act k next k' (s, e, inl (Err r, d, h)) more = absurd (cc (e, d))
+  stepped act k next k' (s, e, inr h) more = absurd (cc (e, h.0))
 
   after-steps : (k mid k' : K) (act : Act) → Walks keeps v k mid → HasStepped keeps v mid act k' → HasStepped keeps v k act k'
   after-steps k mid k' act w h = record { before = h.before; after = h.after; receipt = h.receipt; earlier = Walks-trans keeps v k mid h.before w h.earlier; stepped = h.stepped; later = h.later }

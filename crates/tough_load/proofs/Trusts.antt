@@ -67,9 +67,9 @@ module _ {T S K : Type 0} (refuses : T → Parts → TransportError → Type 0) 
 
   allowed-keeps : (q : Question) (k : K) (a : AnswerDoc) (next : K) → Allows refuses serves keeps yields verifies base t q k a next → Keeps verifies q a
   allowed-keeps (ask.Fetch r) k (got.Bytes bytes) next h = fetched-fits r bytes h.0
-  allowed-keeps (ask.Step act) k (got.Step (Ok u)) next (inl (Ok r, e, h)) = checks k act (Ok r) next h
-  allowed-keeps (ask.Step act) k (got.Step (Ok u)) next (inl (Err r, e, h)) = absurd (cc (e))
-  allowed-keeps (ask.Step act) k (got.Step (Ok u)) next (inr h) = absurd (cc (h.0))
+  allowed-keeps (ask.Step act) k (got.Step (Ok u)) next (s, e, inl (Ok r, d, h)) = checks k act (Ok r) next h
+  allowed-keeps (ask.Step act) k (got.Step (Ok u)) next (s, e, inl (Err r, d, h)) = absurd (cc (e, d))
+  allowed-keeps (ask.Step act) k (got.Step (Ok u)) next (s, e, inr h) = absurd (cc (e, h.0))
   allowed-keeps q k a next h = tt
 
   pub leads-run : (answers : List AnswerDoc) (c : CoreDoc) (k : K) (c' : CoreDoc) (k' : K) (l : LoadedDoc) → c'.stage ≡ at.Done (Ok l)

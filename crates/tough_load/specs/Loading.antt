@@ -1,5 +1,5 @@
 -- A load is a run of the machine, on answers that the transport and the keeper allow.
-use Rattle.std.specs.Prelude.{◌≡◌, ◌⊎◌, ℕ, ℤ, List, [], ◌∷◌, Option, Some, None, Result, Ok, Err, Vec}
+use Rattle.std.specs.Prelude.{◌≡◌, ℕ, ℤ, List, [], ◌∷◌, Option, Some, None, Result, Ok, Err, Vec}
 use Rattle.std.specs.declared.alloc.Global.{Global}
 use Rattle.url.specs.Parts.{Parts}
 use Rattle.futures.specs.Runs.{Runs}
@@ -9,7 +9,8 @@ use Rattle.tough_vault.specs.declared.checks.StepError.{StepError}
 use Rattle.tough_net.specs.declared.error.TransportError.{TransportError}
 use Rattle.tough_net.specs.declared.collect.Collect.{Collect}
 use Rattle.tough_net.specs.Items.{Item}
-use Rattle.tough_trust.specs.Failure.{Failure, Memory, step_failure}
+use Rattle.tough_trust.specs.Failure.{Failure}
+use Rattle.tough_trust.specs.Steps.{Steps}
 use Rattle.tough_update.specs.Stages.{LoadedDoc, CoreDoc, handed_out}
 use Rattle.tough_update.specs.Questions.{Question}
 use Rattle.tough_update.specs.Questions as ask
@@ -20,24 +21,13 @@ use Rattle.tough_update.specs.Promises.{Goes, ended}
 use Rattle.tough_vault.specs.Act.{Act}
 use Rattle.tough_load.specs.Fetching.{Fetches, Comes, answer_of}
 
--- what a step answers, its receipt apart
-abbrev pub taken : Result Receipt StepError → Result Unit Failure
-taken (Ok r) = Ok (tt {0})
-taken (Err e) = Err (step_failure e)
-
-module _ {K : Type 0} (keeps : Verifies → K → Act → Result Receipt StepError → K → Type 0) (verifies : Verifies) where
-  -- the keeper took the step, or there was no memory to ask it
-  abbrev pub Steps : Act → K → AnswerDoc → K → Type 0
-  Steps act k a next = ((r : Result Receipt StepError) × (a ≡ got.Step (taken r)) × keeps verifies k act r next)
-      ⊎ ((a ≡ got.Step (Err Memory)) × (next ≡ k))
-
 module _ {T S K : Type 0} (refuses : T → Parts → TransportError → Type 0) (serves : T → Parts → Runs Item) (keeps : Verifies → K → Act → Result Receipt StepError → K → Type 0) (yields : S → Runs Item)
     (verifies : Verifies) (base : Parts) (t : T) where
   -- an answer that what was asked allows, and what it leaves of the keeper
   abbrev pub Allows : Question → K → AnswerDoc → K → Type 0
   Allows ask.Moment k a next = ((now : ℤ) × (a ≡ got.Moment now)) × (next ≡ k)
   Allows (ask.Fetch r) k a next = Fetches refuses serves t base r a × (next ≡ k)
-  Allows (ask.Step act) k a next = Steps keeps verifies act k a next
+  Allows (ask.Step act) k a next = (s : Result Unit Failure) × (a ≡ got.Step s) × Steps keeps verifies act k s next
   Allows ask.Ready k a next = ⊥
 
   -- the machine and the keeper after these answers, each allowed for what was asked; want of memory may end the machine in place of

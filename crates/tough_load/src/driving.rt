@@ -8,7 +8,6 @@ ghost use Rattle.tough_load.specs.Running.{CanPoll};
 ghost use Rattle.tough_load.specs.Vouching.{Vouches};
 ghost use Rattle.tough_load.specs.Words as part;
 
-use crate::keeper::Keeper;
 use crate::load::Load;
 use futures::Future;
 use futures::task::{Doorbell, Poll, Solo};
@@ -17,6 +16,7 @@ use std::io;
 use std::random::RandomSource;
 use tough_net::Transport;
 use tough_roles::Verify;
+use tough_trust::Keeper;
 use tough_update::{Loaded, UpdateError};
 use tough_vault::Clock;
 

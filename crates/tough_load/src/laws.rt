@@ -15,9 +15,9 @@ ghost use Rattle.tough_load.specs.Advancing.{Finishes};
 ghost use Rattle.tough_load.specs.Counting.{CountsFew};
 ghost use Rattle.tough_load.specs.Words as part;
 
-use crate::keeper::Keeper;
 use tough_net::Transport;
 use tough_roles::Verify;
+use tough_trust::Keeper;
 use tough_update::laws;
 use tough_vault::Clock;
 

@@ -2,18 +2,16 @@
 #![tactic(auto)]
 
 mod driving;
-mod keeper;
 pub mod laws;
 mod load;
 mod loader;
 mod run;
-mod steps;
 
 pub use driving::drive;
-pub use keeper::Keeper;
 pub use load::{Load, LoadParts};
 pub use loader::{RepositoryLoader, Unset};
 pub use run::LoadRun;
+pub use tough_trust::Keeper;
 pub use tough_update::{
     Act, Answer, Ask, Core, Counts, Fault, Limits, Loaded, Received, Request, UpdateError,
 };

@@ -10,13 +10,12 @@ ghost use Rattle.tough_trust.specs.View.{request_doc};
 ghost use Rattle.tough_load.specs.Fetching.{Fetches, IsStarted, answer_of};
 ghost use Rattle.tough_load.specs.Running.{CanPoll};
 
-use crate::keeper::Keeper;
-use crate::steps::take_step;
 use futures::task::{Context, Poll};
 use futures::{Future, ready};
 use std::alloc::{AllocError, Global};
 use tough_net::{Collect, Transport, TransportError, fetch_whole};
 use tough_roles::Verify;
+use tough_trust::{Keeper, take_step};
 use tough_update::{Answer, Ask, Core, Fault, Limits, Loaded, Request, UpdateError};
 use tough_vault::{Clock, ExpirationEnforcement, Receipt};
 use url::Url;
@@ -197,13 +196,13 @@ impl<T: Transport, K: Keeper, C: Clock + Drop, V: Verify + Drop> Load<T, K, C, V
                     Err(fault) => Answer::NotStarted(fault),
                 }
             }
-            Ask::Step(act) => take_step(
+            Ask::Step(act) => Answer::Step(take_step(
                 self.alloc,
                 &mut self.keeper,
                 &self.verifier,
                 &mut self.receipts,
                 &act,
-            ),
+            )),
         };
         self.core.answer(self.alloc, &self.verifier, answer);
         None

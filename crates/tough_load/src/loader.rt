@@ -4,11 +4,11 @@ ghost use Rattle.std.specs.Prelude.{◌≡◌, ◌⊎◌, true, Ok, IfOk, IfErr}
 ghost use Rattle.tough_vault.specs.Checks.{enforces};
 ghost use Rattle.tough_load.specs.Base.{with_slash, IsUnbegun};
 
-use crate::keeper::Keeper;
 use crate::load::Load;
 use std::alloc::Global;
 use tough_net::Transport;
 use tough_roles::Verify;
+use tough_trust::Keeper;
 use tough_update::{Core, Limits, UpdateError};
 use tough_vault::{Clock, ExpirationEnforcement};
 use url::{ParseError, Url};

@@ -7,12 +7,12 @@ ghost use Rattle.tough_load.specs.Advancing.{Finishes};
 ghost use Rattle.tough_load.specs.Running.{CanPoll};
 ghost use Rattle.tough_load.specs.Words.{fetch_of, running_in};
 
-use crate::keeper::Keeper;
 use crate::load::Load;
 use futures::Future;
 use futures::task::{Context, Poll};
 use tough_net::Transport;
 use tough_roles::Verify;
+use tough_trust::Keeper;
 use tough_update::{Loaded, UpdateError};
 use tough_vault::Clock;
 

@@ -5,4 +5,5 @@ pub mod Requests
 pub mod Walk
 pub mod Rotation
 pub mod Listed
+pub mod Steps
 pub mod View

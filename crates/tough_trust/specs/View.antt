@@ -1,12 +1,25 @@
--- Requests, and who vouches for targets, seen as plain data.
-use Rattle.std.specs.Prelude.{option_map, string_bytes}
+-- Requests, steps, and who vouches for targets, seen as plain data.
+use Rattle.std.specs.Prelude.{option_map, string_bytes, Result, Ok, Err, ⊤}
+use Rattle.tough_roles.specs.Signature.{signed_doc}
+use Rattle.tough_roles.specs.Timestamp.{timestamp_doc}
+use Rattle.tough_roles.specs.Snapshot.{snapshot_doc}
+use Rattle.tough_schema.specs.Targets.{targets_doc}
+use Rattle.tough_vault.specs.Act.{Act as ActDoc}
+use Rattle.tough_vault.specs.Act as act
+use Rattle.tough_vault.specs.Checks.{enforces}
+use Rattle.tough_vault.specs.DocumentName.{name_of}
+use Rattle.tough_vault.specs.Files.{targets_file}
+use Rattle.tough_vault.specs.declared.checks.StepError.{StepError}
 use Rattle.tough_roles.specs.Root.{root_doc}
 use Rattle.tough_schema.specs.Delegations.{delegations_doc}
 use Rattle.tough_trust.specs.declared.request.Request.{Request}
 use Rattle.tough_trust.specs.declared.holder.Holder.{Holder}
 use Rattle.tough_trust.specs.declared.holder.Holder.TheVariants as holds
+use Rattle.tough_trust.specs.declared.act.Act.{Act}
+use Rattle.tough_trust.specs.declared.act.Act.TheVariants as to
+use Rattle.tough_trust.specs.Failure.{Failure, step_failure}
 use Rattle.tough_trust.specs.Requests.{RequestDoc}
-use Rattle.tough_trust.specs.Listed.{HolderDoc, by_root, by_delegations}
+use Rattle.tough_trust.specs.Listed.{HolderDoc, by_root, by_delegations, targets_text}
 
 abbrev pub request_doc : Request → RequestDoc
 request_doc r = record { name = string_bytes r.name; max_size = r.max_size; specifier = r.specifier.now; sha256 = option_map (λ d. d.items) r.sha256 }
@@ -14,3 +27,18 @@ request_doc r = record { name = string_bytes r.name; max_size = r.max_size; spec
 abbrev pub holder_doc : Holder → HolderDoc
 holder_doc (holds.Root root) = by_root (root_doc root.now)
 holder_doc (holds.Delegations g name) = by_delegations (option_map (λ d. delegations_doc d.now) g) name.now
+
+-- ---- steps on a store
+
+abbrev pub act_of : Act → ActDoc
+act_of (to.NoteTime now) = act.NoteTime now.nanosecond
+act_of (to.PutRoot r) = act.PutRoot (signed_doc root_doc r.now)
+act_of to.ClearRotated = act.ClearRotated
+act_of (to.AdvanceTimestamp root new start enforcement) = act.AdvanceTimestamp (root_doc root.now) (signed_doc timestamp_doc new.now) start.nanosecond (enforces enforcement)
+act_of (to.AdvanceSnapshot root listed new start enforcement) = act.AdvanceSnapshot (root_doc root.now) listed (signed_doc snapshot_doc new.now) start.nanosecond (enforces enforcement)
+act_of (to.PutDelegated name d) = act.PutDocument (name_of name.now) (targets_text (signed_doc targets_doc d.now))
+act_of (to.PutTargets d) = act.PutDocument targets_file (targets_text (signed_doc targets_doc d.now))
+
+abbrev pub step_doc : Result ⊤ StepError → Result Unit Failure
+step_doc (Ok u) = Ok (tt {0})
+step_doc (Err e) = Err (step_failure e)

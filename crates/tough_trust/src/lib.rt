@@ -1,18 +1,22 @@
-//! What an update asks for, and what it trusts (TUF specification 5): which file is fetched, under which bound and digest, and whether what
-//! came is taken.
+//! What an update asks for, and what it trusts (TUF specification 5): which file is fetched, under which bound and digest, whether what
+//! came is taken, and who takes the steps on a store.
 #![tactic(auto)]
 
+mod act;
 mod error;
 mod fault;
 mod holder;
+mod keeper;
 mod limits;
 mod request;
 mod rotation;
 mod walk;
 
+pub use act::Act;
 pub use error::UpdateError;
 pub use fault::Fault;
 pub use holder::{Holder, check_tree, holder_of, judge, wanted_name};
+pub use keeper::{Keeper, take_step};
 pub use limits::Limits;
 pub use request::{
     Request, role_request, root_request, snapshot_request, targets_request, timestamp_request,

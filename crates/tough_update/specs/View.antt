@@ -22,8 +22,6 @@ use Rattle.tough_trust.specs.Listed.{targets_text}
 use Rattle.tough_trust.specs.Failure.{Failure, failure_of, step_failure}
 use Rattle.tough_trust.specs.declared.error.UpdateError.{UpdateError}
 use Rattle.tough_trust.specs.declared.request.Request.{Request}
-use Rattle.tough_update.specs.declared.ask.Act.{Act}
-use Rattle.tough_update.specs.declared.ask.Act.TheVariants as to
 use Rattle.tough_update.specs.declared.ask.Ask.{Ask}
 use Rattle.tough_update.specs.declared.ask.Ask.TheVariants as wants
 use Rattle.tough_update.specs.declared.ask.Answer.{Answer}
@@ -43,7 +41,7 @@ use Rattle.tough_update.specs.declared.stage.Stage.TheVariants as in_stage
 use Rattle.tough_update.specs.declared.turns.Setting.{Setting}
 use Rattle.tough_update.specs.declared.counts.Counts.{Counts}
 use Rattle.tough_update.specs.declared.machine.Core.{Core}
-use Rattle.tough_trust.specs.View.{request_doc}
+use Rattle.tough_trust.specs.View.{request_doc, act_of, step_doc}
 use Rattle.tough_update.specs.Stages.{WalkDoc, BaseDoc, KnownDoc, ReceivedDoc, RolesDoc, LoadedDoc, WantedDoc, PendingDoc, StageDoc, SettingDoc, CoreDoc}
 use Rattle.tough_update.specs.Stages as at
 use Rattle.tough_update.specs.Questions.{Question}
@@ -53,24 +51,11 @@ use Rattle.tough_update.specs.Answered as got
 
 -- ---- questions and answers
 
-abbrev pub act_of : Act → ActDoc
-act_of (to.NoteTime now) = act.NoteTime now.nanosecond
-act_of (to.PutRoot r) = act.PutRoot (signed_doc root_doc r.now)
-act_of to.ClearRotated = act.ClearRotated
-act_of (to.AdvanceTimestamp root new start enforcement) = act.AdvanceTimestamp (root_doc root.now) (signed_doc timestamp_doc new.now) start.nanosecond (enforces enforcement)
-act_of (to.AdvanceSnapshot root listed new start enforcement) = act.AdvanceSnapshot (root_doc root.now) listed (signed_doc snapshot_doc new.now) start.nanosecond (enforces enforcement)
-act_of (to.PutDelegated name d) = act.PutDocument (name_of name.now) (targets_text (signed_doc targets_doc d.now))
-act_of (to.PutTargets d) = act.PutDocument targets_file (targets_text (signed_doc targets_doc d.now))
-
 abbrev pub question_of : Ask → Question
 question_of wants.Moment = ask.Moment
 question_of (wants.Fetch r) = ask.Fetch (request_doc r.now)
 question_of (wants.Step a) = ask.Step (act_of a)
 question_of wants.Ready = ask.Ready
-
-abbrev pub step_doc : Result ⊤ StepError → Result Unit Failure
-step_doc (Ok u) = Ok (tt {0})
-step_doc (Err e) = Err (step_failure e)
 
 abbrev pub answer_doc : Answer → AnswerDoc
 answer_doc (by.Moment now) = got.Moment now.nanosecond

@@ -9,11 +9,11 @@ mod roles;
 mod stage;
 mod turns;
 
-pub use ask::{Act, Answer, Ask};
+pub use ask::{Answer, Ask};
 pub use counts::Counts;
 pub use machine::Core;
 pub use stage::{Loaded, Received};
-pub use tough_trust::{Fault, Limits, Request, UpdateError};
+pub use tough_trust::{Act, Fault, Limits, Request, UpdateError};
 pub use tough_vault::{
     Entry, ExpirationEnforcement, ListedVersion, MemoryStore, Receipt, Refusal, SnapshotVersions,
     StepError, Store, StoreError, TimestampVersions, Tip, Vault,

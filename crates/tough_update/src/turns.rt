@@ -11,12 +11,12 @@ ghost use Rattle.tough_vault.specs.Documents.{metafile_in, timestamp_in, snapsho
 ghost use Rattle.tough_vault.specs.Files.{snapshot_file, targets_file};
 ghost use Rattle.tough_trust.specs.Failure.{Gives};
 ghost use Rattle.tough_trust.specs.Faults.{ends_start, ends_stream};
-ghost use Rattle.tough_trust.specs.View.{request_doc};
+ghost use Rattle.tough_trust.specs.View.{request_doc, step_doc};
 ghost use Rattle.tough_update.specs.Machine.{walked, began, new_root, walk_ended, new_timestamp, want_snapshot, new_snapshot, want_targets, new_targets, unfetched, read_wanted, after, stage_after};
 ghost use Rattle.tough_update.specs.Stages.{Step};
 ghost use Rattle.tough_update.specs.Answered as got;
 ghost use Rattle.tough_roles.specs.declared.role_type.RoleType.TheVariants as types;
-ghost use Rattle.tough_update.specs.View.{walk_doc, base_doc, known_doc, wanted_doc, pending_doc, stage_doc, setting_doc, step_doc};
+ghost use Rattle.tough_update.specs.View.{walk_doc, base_doc, known_doc, wanted_doc, pending_doc, stage_doc, setting_doc};
 
 use crate::roles::{begin_roles, give_role, take_role};
 use crate::stage::{Base, Known, Pending, Stage, Walk, Wanted};

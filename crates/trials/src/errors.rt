@@ -183,7 +183,7 @@ pub(crate) fn told_of_schema(alloc: Global, case: &Value) -> Result<String> {
 }
 
 /// What a target of a file of the system is: its length, or why there is none.
-pub fn measured(rt: &HostRuntime, case: &Value) -> Result<String> {
+pub(crate) fn measured(rt: &HostRuntime, case: &Value) -> Result<String> {
     let alloc = rt.alloc();
     let mut files = OsFiles::new(rt.clone()?);
     let told = match Target::from_path(alloc, &mut files, text(case, "path")) {

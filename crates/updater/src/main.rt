@@ -1,11 +1,7 @@
 //! An updater: loads a repository into a store, finds one of its targets, and saves it in a folder.
 #![tactic(auto)]
 
-use std::alloc::AllocGlobal;
-use std::net::Net;
-use std::random::RandomSource;
-use std::sync::Wait;
-use std::{env, fs, rt};
+use std::{env, fs};
 use tough::schema::DemoVerify;
 use tough::{
     Clock, DefaultTransport, DirStore, Keeper, LocalRuntime, OsFiles, Prefix, Repository,
@@ -40,18 +36,15 @@ fn main(rt: HostRuntime) -> anyhow::Result<()> {
 }
 
 // Loads the repository, whose metadata and targets lie below two URLs, into the store, and saves the target.
-fn update<R>(
-    rt: &R,
+fn update(
+    rt: &HostRuntime,
     trusted: &[u8],
     metadata: Url,
     targets: Url,
     store: &str,
     name: &TargetName,
     outdir: &str,
-) -> anyhow::Result<()>
-where
-    R: rt::Files + Net + Wait + rt::Clock + RandomSource + AllocGlobal + Clone + Drop,
-{
+) -> anyhow::Result<()> {
     let alloc = rt.alloc();
     let mut runtime = LocalRuntime::new(rt)?;
     let transport = DefaultTransport::new(rt.clone()?, runtime.handle().clone()?)?;
@@ -74,15 +67,14 @@ where
 }
 
 // Saves a target of the repository.
-fn save<R, T, K, C>(
-    rt: &R,
+fn save<T, K, C>(
+    rt: &HostRuntime,
     runtime: &mut LocalRuntime,
     mut repository: Repository<T, K, C>,
     name: &TargetName,
     outdir: &str,
 ) -> anyhow::Result<()>
 where
-    R: rt::Files + Wait + rt::Clock + RandomSource + AllocGlobal + Clone + Drop,
     T: Transport,
     K: Keeper,
     C: Clock + Drop,

@@ -3,11 +3,11 @@ use Rattle.tough_update.specs.Questions as ask
 use Rattle.tough_update.specs.Machine.{question}
 use Rattle.tough_update.specs.Counts.{with_fetch, with_tree}
 use Rattle.tough_update.specs.Promises.{Goes}
-use Rattle.tough_update.specs.View.{core_doc, outcome_doc, answer_doc, act_of, counts_of}
-use Rattle.tough_trust.specs.View.{request_doc}
+use Rattle.tough_update.specs.View.{core_doc, outcome_doc, answer_doc, counts_of}
+use Rattle.tough_trust.specs.View.{request_doc, act_of, step_doc}
 use Rattle.tough_load.specs.Words.{transport_of, base_of, verifier_of, settings_of, fetch_of, core_of, keeper_of}
 use Rattle.tough_load.specs.Fetching.{Fetches}
-use Rattle.tough_load.specs.Loading.{Steps}
+use Rattle.tough_trust.specs.Steps.{Steps}
 use Rattle.tough_load.proofs.Loads.{by-answer, by-start, by-outcome}
 use Rattle.tough_load.proofs.load.Load.advance.Goals as goal
 use Rattle.tough_load.proofs.load.Load.advance.Goals.{in-Moment, in-Fetch+in-Err, in-Step}
@@ -45,8 +45,11 @@ returns-clause-goes g c = λ _.
           let asked : question (core_doc c.args.self.now.core) ≡ ask.Step (act_of w.in-Step.act) = search rules in
           by-answer g.T.Transport.refuses g.T.Transport.serves g.K.Keeper.keeps g.T.Stream.Stream.yields g.V.Verify.verifies c.args.self.now new (ap transport_of w.self-is) (ap base_of w.self-is) (ap verifier_of w.self-is) (ap settings_of w.self-is)
           (answer_doc c.match-ask.answer) c.requires.idle (ap fetch_of w.self-is ∙ c.requires.idle)
-          (rw asked (subst (λ k. Steps g.K.Keeper.keeps (g.V.Verify.verifies c.args.self.now.verifier) (act_of w.in-Step.act) c.args.self.now.keeper (answer_doc c.match-ask.answer) k) (sym (ap keeper_of w.self-is))
-          (subst (λ a. Steps g.K.Keeper.keeps (g.V.Verify.verifies c.args.self.now.verifier) (act_of w.in-Step.act) c.args.self.now.keeper a w.take_step-answer.new.keeper) (sym (ap answer_doc w.answer-is)) w.take_step-answer.ensures)))
+          (rw asked (
+            step_doc w.take_step.result,
+            ap answer_doc w.answer-is,
+            subst (λ k. Steps g.K.Keeper.keeps (g.V.Verify.verifies c.args.self.now.verifier) (act_of w.in-Step.act) c.args.self.now.keeper (step_doc w.take_step.result) k) (sym (ap keeper_of w.self-is)) w.take_step.ensures,
+          ))
           (subst (λ l. Goes (g.V.Verify.verifies (verifier_of l)) (core_doc (core_of l)) (answer_doc c.match-ask.answer) (core_doc c.answer.new.self)) w.self-is c.answer.ensures.goes)
           (subst (λ l. counts_of c.answer.new.self ≡ with_tree (core_doc c.answer.new.self).stage (with_fetch (core_doc (core_of l)).stage (answer_doc c.match-ask.answer) (counts_of (core_of l)))) w.self-is c.answer.ensures.counted)
     ]

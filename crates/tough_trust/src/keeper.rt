@@ -7,11 +7,12 @@ ghost use Rattle.tough_vault.specs.declared.entry.Receipt.{Receipt as Told};
 ghost use Rattle.tough_vault.specs.declared.checks.StepError.{StepError as Refused};
 ghost use Rattle.tough_vault.specs.Act.{Act as ActDoc, CheckedIfOk, Acts};
 ghost use Rattle.tough_vault.specs.Checking.{checked};
-ghost use Rattle.tough_update.specs.View.{act_of};
+ghost use Rattle.tough_trust.specs.Steps.{Steps};
+ghost use Rattle.tough_trust.specs.View.{act_of, step_doc};
 
+use crate::act::Act;
 use std::alloc::Global;
 use tough_roles::Verify;
-use tough_update::Act;
 use tough_vault::{DocumentName, Receipt, StepError, Store, Vault};
 
 /// Takes the steps of an update on a store (TUF specification 5). A lent vault is one.
@@ -80,5 +81,29 @@ impl<S: Store> Keeper for &mut Vault<S> {
                 Vault::put_document(self, &name, *targets)
             }
         }
+    }
+}
+
+/// Has the keeper take a step, and puts its receipt by. There is room for the receipt before the step is taken: without it nothing is done,
+/// and the answer is `Memory`.
+pub fn take_step<K: Keeper, V: Verify>(
+    alloc: Global,
+    keeper: &mut K,
+    verifier: &V,
+    receipts: &mut Vec<Receipt>,
+    act: &Act<'_>,
+) -> Result<(), StepError>
+    ensures { Steps K.keeps (V.verifies verifier.now) (act_of act.now) keeper.old (step_doc result)
+        keeper.new }
+{
+    if receipts.reserve(1).is_err() {
+        return Err(StepError::Memory);
+    }
+    match keeper.take(alloc, act, verifier) {
+        Ok(receipt) => {
+            receipts.push_reserved(receipt);
+            Ok(())
+        }
+        Err(error) => Err(error),
     }
 }
