@@ -1,7 +1,11 @@
 //! An updater: loads a repository into a store, finds one of its targets, and saves it in a folder.
 #![tactic(auto)]
 
-use std::{env, fs};
+use std::alloc::AllocGlobal;
+use std::net::Net;
+use std::random::RandomSource;
+use std::sync::Wait;
+use std::{env, fs, rt};
 use tough::schema::DemoVerify;
 use tough::{
     Clock, DefaultTransport, DirStore, Keeper, LocalRuntime, OsFiles, Prefix, Repository,
@@ -36,15 +40,18 @@ fn main(rt: HostRuntime) -> anyhow::Result<()> {
 }
 
 // Loads the repository, whose metadata and targets lie below two URLs, into the store, and saves the target.
-fn update(
-    rt: &HostRuntime,
+fn update<R>(
+    rt: &R,
     trusted: &[u8],
     metadata: Url,
     targets: Url,
     store: &str,
     name: &TargetName,
     outdir: &str,
-) -> anyhow::Result<()> {
+) -> anyhow::Result<()>
+where
+    R: rt::Files + Net + Wait + rt::Clock + RandomSource + AllocGlobal + Clone + Drop,
+{
     let alloc = rt.alloc();
     let mut runtime = LocalRuntime::new(rt)?;
     let transport = DefaultTransport::new(rt.clone()?, runtime.handle().clone()?)?;
@@ -67,14 +74,15 @@ fn update(
 }
 
 // Saves a target of the repository.
-fn save<T, K, C>(
-    rt: &HostRuntime,
+fn save<R, T, K, C>(
+    rt: &R,
     runtime: &mut LocalRuntime,
     mut repository: Repository<T, K, C>,
     name: &TargetName,
     outdir: &str,
 ) -> anyhow::Result<()>
 where
+    R: rt::Files + Wait + rt::Clock + RandomSource + AllocGlobal + Clone + Drop,
     T: Transport,
     K: Keeper,
     C: Clock + Drop,
