@@ -10,6 +10,7 @@ use tokio::time::Sleep;
 pub struct Deadline(Option<Sleep>);
 
 impl Deadline {
+    /// The end of this sleep.
     pub fn new(sleep: Sleep) -> Deadline {
         Deadline(Some(sleep))
     }

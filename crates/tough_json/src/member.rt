@@ -29,7 +29,7 @@ fn trim(members: &mut Map<String, Value>)
     }
 }
 
-// Takes a member out.
+/// Takes a member out.
 pub fn take(members: &mut Map<String, Value>, name: &str) -> Option<Value>
     ensures value { option_map view result
         ≡ get_member name.now (members_view members.old.entries) }
@@ -41,7 +41,7 @@ pub fn take(members: &mut Map<String, Value>, name: &str) -> Option<Value>
     found
 }
 
-// A text that must be there.
+/// A text that must be there.
 pub fn text(
     alloc: Global,
     members: &mut Map<String, Value>,
@@ -56,7 +56,7 @@ pub fn text(
     }
 }
 
-// A number from 1 on that must be there.
+/// A number from 1 on that must be there.
 pub fn positive(
     alloc: Global,
     members: &mut Map<String, Value>,
@@ -74,7 +74,7 @@ pub fn positive(
     }
 }
 
-// A member that is there and not null.
+/// A member that is there and not null.
 pub fn present(members: &mut Map<String, Value>, name: &str) -> Option<Value>
     ensures value { option_map view result ≡ present name.now (members_view members.old.entries) }
     ensures left { members_view members.new.entries
@@ -86,7 +86,7 @@ pub fn present(members: &mut Map<String, Value>, name: &str) -> Option<Value>
     }
 }
 
-// A number that may be absent.
+/// A number that may be absent.
 pub fn length(
     alloc: Global,
     members: &mut Map<String, Value>,
@@ -104,7 +104,7 @@ pub fn length(
     }
 }
 
-// A text that stands for bytes and must be there.
+/// A text that stands for bytes and must be there.
 pub fn decoded<T: Decode>(
     alloc: Global,
     members: &mut Map<String, Value>,
@@ -123,7 +123,7 @@ pub fn decoded<T: Decode>(
     }
 }
 
-// Hexadecimal digits that must be there.
+/// Hexadecimal digits that must be there.
 pub fn hexadecimal(
     alloc: Global,
     members: &mut Map<String, Value>,
@@ -135,7 +135,7 @@ pub fn hexadecimal(
     decoded(alloc, members, name)
 }
 
-// An instant that must be there.
+/// An instant that must be there.
 pub fn instant(
     alloc: Global,
     members: &mut Map<String, Value>,
@@ -153,7 +153,7 @@ pub fn instant(
     }
 }
 
-// A member that must be there.
+/// A member that must be there.
 pub fn value(
     alloc: Global,
     members: &mut Map<String, Value>,
@@ -168,7 +168,7 @@ pub fn value(
     }
 }
 
-// An object that must be there.
+/// An object that must be there.
 pub fn object(
     alloc: Global,
     members: &mut Map<String, Value>,
@@ -183,7 +183,7 @@ pub fn object(
     }
 }
 
-// A list that must be there.
+/// A list that must be there.
 pub fn list(
     alloc: Global,
     members: &mut Map<String, Value>,
@@ -198,7 +198,7 @@ pub fn list(
     }
 }
 
-// A truth value that must be there.
+/// A truth value that must be there.
 pub fn truth(alloc: Global, members: &mut Map<String, Value>, name: &str) -> Result<bool, ReadError>
     ensures { Takes (λ b. b) result (members_view members.new.entries)
         (required name.now truth (members_view members.old.entries)) }

@@ -12,14 +12,14 @@ use std::alloc::{AllocError, Global};
 use std::num::NonZeroU64;
 use tough_base::{Decode, Decoded};
 
-// Whether no member has the name.
+/// Whether no member has the name.
 pub fn is_free(members: &Map<String, Value>, name: &str) -> bool
     ensures { result ≡ is_none (get_member name.now (members_view members.now.entries)) }
 {
     !members.contains_key(name)
 }
 
-// The members with one more, whose name is free.
+/// The members with one more, whose name is free.
 pub fn with(
     alloc: Global,
     mut members: Map<String, Value>,
@@ -36,7 +36,7 @@ pub fn with(
     Ok(members)
 }
 
-// The same where the member may be absent.
+/// The same where the member may be absent.
 pub fn with_optional(
     alloc: Global,
     members: Map<String, Value>,
@@ -53,7 +53,7 @@ pub fn with_optional(
     }
 }
 
-// The unknown members again.
+/// The unknown members again.
 pub fn copy_members(
     alloc: Global,
     members: &Map<String, Value>,
@@ -68,14 +68,14 @@ pub fn copy_members(
     Ok(copies)
 }
 
-// The JSON of a number from 1 on.
+/// The JSON of a number from 1 on.
 pub fn positive_value(number: NonZeroU64) -> Value
     ensures { positive_json (non_zero_u64_get number) ≡ Some (view result) }
 {
     Value::from(number.get())
 }
 
-// One more member that is a text.
+/// One more member that is a text.
 pub fn with_text(
     alloc: Global,
     members: Map<String, Value>,
@@ -89,7 +89,7 @@ pub fn with_text(
     with(alloc, members, name, value)
 }
 
-// The members with one more, in the place of one of the name.
+/// The members with one more, in the place of one of the name.
 pub fn put(
     alloc: Global,
     members: &mut Map<String, Value>,
@@ -103,7 +103,7 @@ pub fn put(
     Ok(())
 }
 
-// The spelling that was read.
+/// The spelling that was read.
 pub fn digits<T: Decode>(alloc: Global, bytes: &Decoded<T>) -> Result<Value, AllocError>
     ensures { IfOk result (λ v. decoded_json T.decodes bytes.now ≡ Some (view v)) }
 {

@@ -11,7 +11,7 @@ pub enum Kind {
 }
 
 impl Kind {
-    // The kind of the name.
+    /// The kind whose `keytype` this is.
     pub fn of(name: &str) -> Option<Kind>
         ensures { result ≡ kind_of name.now }
     {
@@ -28,6 +28,7 @@ impl Kind {
         }
     }
 
+    /// The `keytype` of the kind (TUF specification 4.2).
     pub fn name(self) -> &'static str
         ensures { result.now ≡ kind_name self }
     {
@@ -39,6 +40,7 @@ impl Kind {
         }
     }
 
+    /// The `scheme` of the kind.
     pub fn scheme(self) -> &'static str
         ensures { result.now ≡ scheme_name self }
     {

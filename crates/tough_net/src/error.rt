@@ -158,6 +158,7 @@ impl TransportError {
         TransportError::new_with_cause(alloc, TransportErrorKind::Other, url, cause)
     }
 
+    /// What kind of error it is: a missing file, a scheme that isn't served, want of memory, or another one.
     pub fn kind(&self) -> TransportErrorKind
         ensures { result ≡ error_kind self.now }
     {
@@ -174,6 +175,7 @@ impl TransportError {
         }
     }
 
+    /// What caused it, where more is known than its kind.
     pub fn cause(&self) -> Option<&Cause>
         ensures { option_copied result ≡ error_cause self.now }
     {

@@ -42,6 +42,7 @@ impl Model for RetryCore {
 }
 
 impl RetryCore {
+    /// The rule at its beginning: no request was made yet.
     pub fn new(settings: RetrySettings) -> RetryCore
         ensures settings { result.settings ≡ settings }
         ensures progress { result.progress ≡ started settings }

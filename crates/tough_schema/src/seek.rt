@@ -10,11 +10,14 @@ use crate::targets::{DelegatedTargets, Targets};
 use std::alloc::Global;
 use tough_roles::{Error, Signed};
 
-// What seeking a name comes to.
+/// What seeking a name comes to.
 #[derive(Drop)]
 pub enum Seen<'a> {
+    /// The role.
     Found(&'a DelegatedRole),
+    /// No role has the name, or there are no delegations.
     Missing,
+    /// A role before it has no document, in which it would have to be sought.
     Undocumented,
 }
 
@@ -36,7 +39,7 @@ fn if_found<'a>(seen: Seen<'a>) -> Option<Seen<'a>>
     }
 }
 
-// What seeking the name comes to in a document.
+/// What seeking the name comes to in a document.
 #[cycle(seek)]
 pub fn seek_in<'a>(document: &'a Targets, name: &str) -> Seen<'a>
     ensures { seen_of result ≡ seek_in name.now (tree_doc document.now) }
@@ -60,6 +63,7 @@ fn seek_among<'a>(roles: &'a [DelegatedRole], name: &str) -> Seen<'a>
     Seen::Missing
 }
 
+/// What seeking the name comes to at a role; none where the roles after it are to be looked at.
 #[cycle(seek)]
 pub fn seek_at<'a>(role: &'a DelegatedRole, name: &str) -> Option<Seen<'a>>
     ensures { option_map seen_of result ≡ step_at name.now (role_tree role.now) }

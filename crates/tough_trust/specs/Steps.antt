@@ -1,5 +1,5 @@
 -- Steps that a keeper takes.
-use Rattle.std.specs.Prelude.{◌≡◌, ◌⊎◌, Result, Ok, Err}
+use Rattle.std.specs.Prelude.{◌≡◌, ◌⊎◌, ◌++◌, ◌∷◌, [], List, Result, Ok, Err}
 use Rattle.tough_keys.specs.Same.{Verifies}
 use Rattle.tough_vault.specs.Act.{Act}
 use Rattle.tough_vault.specs.declared.entry.Receipt.{Receipt}
@@ -16,3 +16,7 @@ module _ {K : Type 0} (keeps : Verifies → K → Act → Result Receipt StepErr
   abbrev pub Steps : Act → K → Result Unit Failure → K → Type 0
   Steps act k answer next = ((r : Result Receipt StepError) × (answer ≡ taken r) × keeps verifies k act r next)
       ⊎ ((answer ≡ Err Memory) × (next ≡ k))
+
+  -- the receipt that the keeper gave was put by, after those before it
+  abbrev pub PutsBy : Act → K → K → List Receipt → List Receipt → Type 0
+  PutsBy act k next old new = (r : Receipt) × (new ≡ old ++ r ∷ []) × keeps verifies k act (Ok r) next

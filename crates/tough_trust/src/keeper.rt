@@ -1,13 +1,13 @@
 //! What keeps what an update accepts.
 
-ghost use Rattle.std.specs.Prelude.{◌≡◌, Result};
+ghost use Rattle.std.specs.Prelude.{◌≡◌, OnOk, OnErr, Result};
 ghost use Rattle.tough_keys.specs.Same.{Verifies};
 ghost use Rattle.tough_vault.specs.Vault.{parts_of};
 ghost use Rattle.tough_vault.specs.declared.entry.Receipt.{Receipt as Told};
 ghost use Rattle.tough_vault.specs.declared.checks.StepError.{StepError as Refused};
 ghost use Rattle.tough_vault.specs.Act.{Act as ActDoc, CheckedIfOk, Acts};
 ghost use Rattle.tough_vault.specs.Checking.{checked};
-ghost use Rattle.tough_trust.specs.Steps.{Steps};
+ghost use Rattle.tough_trust.specs.Steps.{Steps, PutsBy};
 ghost use Rattle.tough_trust.specs.View.{act_of, step_doc};
 
 use crate::act::Act;
@@ -84,8 +84,8 @@ impl<S: Store> Keeper for &mut Vault<S> {
     }
 }
 
-/// Has the keeper take a step, and puts its receipt by. There is room for the receipt before the step is taken: without it nothing is done,
-/// and the answer is `Memory`.
+/// Has the keeper take a step, and puts its receipt by, after those before it. There is room for the receipt before the step is taken:
+/// without it nothing is done, and the answer is `Memory`.
 pub fn take_step<K: Keeper, V: Verify>(
     alloc: Global,
     keeper: &mut K,
@@ -93,8 +93,11 @@ pub fn take_step<K: Keeper, V: Verify>(
     receipts: &mut Vec<Receipt>,
     act: &Act<'_>,
 ) -> Result<(), StepError>
-    ensures { Steps K.keeps (V.verifies verifier.now) (act_of act.now) keeper.old (step_doc result)
-        keeper.new }
+    ensures steps { Steps K.keeps (V.verifies verifier.now) (act_of act.now) keeper.old
+        (step_doc result) keeper.new }
+    ensures receipt { OnOk result (PutsBy K.keeps (V.verifies verifier.now) (act_of act.now)
+        keeper.old keeper.new receipts.old.items receipts.new.items) }
+    ensures none { OnErr result (receipts.new.items ≡ receipts.old.items) }
 {
     if receipts.reserve(1).is_err() {
         return Err(StepError::Memory);

@@ -1,12 +1,12 @@
 //! The walk from root to root (TUF specification 5.3).
 
-ghost use Rattle.std.specs.Prelude.{◌≡◌, ◌+◌, ◌==◌, not, IfOk, option_map};
+ghost use Rattle.std.specs.Prelude.{◌≡◌, ◌+◌, ◌==◌, not, IfOk, IfErr, option_map};
 ghost use Rattle.tough_roles.specs.Signature.{SignedDoc, signed_doc};
 ghost use Rattle.tough_roles.specs.Root.{RootDoc, root_doc, root_json};
 ghost use Rattle.tough_roles.specs.Chain.{ReachesUnder, IsNext};
 ghost use Rattle.tough_roles.specs.declared.role_type.RoleType.TheVariants as types;
 ghost use Rattle.tough_vault.specs.Checks.{Checked, RefusedBy, OlderMetadata, refuse};
-ghost use Rattle.tough_trust.specs.Failure.{Gives};
+ghost use Rattle.tough_trust.specs.Failure.{Gives, MaxUpdatesExceeded, failure_of};
 ghost use Rattle.tough_trust.specs.Walk.{first_root, next_root, root_refusal, next_version, next_request};
 ghost use Rattle.tough_trust.specs.View.{request_doc};
 
@@ -107,7 +107,9 @@ pub fn next_root<V: Verify>(
 /// The version of the root that is fetched after the last one, of a walk that began with the first: `MaxUpdatesExceeded` where as many
 /// roots as the limit allows came after the first, and none where no version is later.
 pub fn next_version(limits: &Limits, first: u64, last: u64) -> Result<Option<u64>, UpdateError>
-    ensures { Gives (λ version. version) (next_version limits.now first last) result }
+    ensures version { Gives (λ version. version) (next_version limits.now first last) result }
+    ensures told { IfErr result
+        (λ e. failure_of e ≡ MaxUpdatesExceeded limits.now.max_root_updates) }
 {
     if last.saturating_sub(first) >= limits.max_root_updates {
         return Err(UpdateError::MaxUpdatesExceeded {

@@ -48,7 +48,7 @@ returns-clause-goes g c = λ _.
           (rw asked (
             step_doc w.take_step.result,
             ap answer_doc w.answer-is,
-            subst (λ k. Steps g.K.Keeper.keeps (g.V.Verify.verifies c.args.self.now.verifier) (act_of w.in-Step.act) c.args.self.now.keeper (step_doc w.take_step.result) k) (sym (ap keeper_of w.self-is)) w.take_step.ensures,
+            subst (λ k. Steps g.K.Keeper.keeps (g.V.Verify.verifies c.args.self.now.verifier) (act_of w.in-Step.act) c.args.self.now.keeper (step_doc w.take_step.result) k) (sym (ap keeper_of w.self-is)) w.take_step.ensures.steps,
           ))
           (subst (λ l. Goes (g.V.Verify.verifies (verifier_of l)) (core_doc (core_of l)) (answer_doc c.match-ask.answer) (core_doc c.answer.new.self)) w.self-is c.answer.ensures.goes)
           (subst (λ l. counts_of c.answer.new.self ≡ with_tree (core_doc c.answer.new.self).stage (with_fetch (core_doc (core_of l)).stage (answer_doc c.match-ask.answer) (counts_of (core_of l)))) w.self-is c.answer.ensures.counted)
