@@ -5,7 +5,7 @@ ghost use Rattle.tough_update.specs.Stages.{LoadedDoc};
 ghost use Rattle.tough_client.specs.Repositories.{documents_of};
 ghost use Rattle.tough.specs.Program.{IsVouchedFor, report_text};
 
-use crate::opening::{Fault, Wanted, open_by, vault_in, with_cause};
+use crate::opening::{Fault, Wanted, not_run, open_by, refused, vault_in, with_cause};
 use crate::progress::Watched;
 use crate::report::report;
 use std::alloc::AllocGlobal;
@@ -38,8 +38,8 @@ where
     let saving = repository.save_target(files, name, outdir, Prefix::None);
     match runtime.block_on(rt, saving) {
         Ok(Ok(())) => Ok(()),
-        Ok(Err(error)) => Err(Fault::Load(error)),
-        Err(error) => Err(Fault::Run(error)),
+        Ok(Err(error)) => Err(refused(rt.alloc(), error)),
+        Err(error) => Err(not_run(rt.alloc(), error)),
     }
 }
 

@@ -17,31 +17,46 @@ use tough_net::Transport;
 use tough_schema::{DemoVerify, Verify};
 use url::Url;
 
-/// Why a run failed.
+/// Why a run failed, as it is told.
 #[derive(Drop)]
 pub(crate) enum Fault {
-    /// The file of the root couldn't be read.
-    FileRead {
-        path: String,
-        error: io::Error,
-    },
-    /// The load couldn't be begun, or refused.
-    Load(Error),
-    /// The load refused, and this is what the system last said of the folder of the store.
-    Store {
-        error: Error,
-        folder: String,
-        cause: io::Error,
-    },
-    /// The load couldn't be run.
-    Run(io::Error),
+    /// The load couldn't be begun, or it refused, or the saving did.
+    Refused(String),
+    /// Something else failed.
+    Failed(String),
+    /// Memory was wanting.
+    Memory,
 }
 
 impl From<AllocError> for Fault {
     ghost from_gives = { λ _ _. ⊤ };
 
     fn from(_: AllocError) -> Fault {
-        Fault::Load(Error::Memory)
+        Fault::Memory
+    }
+}
+
+// What an error says.
+fn said(alloc: Global, error: &Error) -> Result<String, AllocError> {
+    let text = format!(in alloc; "{error}")?;
+    Ok(text)
+}
+
+/// A refusal.
+pub(crate) fn refused(alloc: Global, error: Error) -> Fault {
+    let told = said(alloc, &error);
+    drop(error);
+    match told {
+        Ok(text) => Fault::Refused(text),
+        Err(_) => Fault::Memory,
+    }
+}
+
+/// The event loop failed.
+pub(crate) fn not_run(alloc: Global, error: io::Error) -> Fault {
+    match format!(in alloc; "Failed to run the load: {error}") {
+        Ok(text) => Fault::Failed(text),
+        Err(_) => Fault::Memory,
     }
 }
 
@@ -102,37 +117,29 @@ where
         .keeper(keeper);
     let load = match loader.load() {
         Ok(load) => load,
-        Err(error) => return Err(Fault::Load(Error::from(error))),
+        Err(error) => return Err(refused(rt.alloc(), Error::from(error))),
     };
     let (outcome, load) = match drive_on(rt, runtime, load) {
         Ok(both) => both,
-        Err(error) => return Err(Fault::Run(error)),
+        Err(error) => return Err(not_run(rt.alloc(), error)),
     };
     match outcome {
         Ok(loaded) => Ok(opened(load, loaded)),
         Err(error) => {
             drop(load);
-            Err(Fault::Load(Error::from(error)))
+            Err(refused(rt.alloc(), Error::from(error)))
         }
     }
 }
 
-// The fault of a load over a store in this folder, of which the system last said so.
-fn over_store(alloc: Global, error: Error, cause: Option<io::Error>, folder: &str) -> Fault {
+// The refusal of a load over a store in this folder, of which the system last said so.
+fn over_store(alloc: Global, text: String, cause: Option<io::Error>, folder: &str) -> Fault {
     let Some(cause) = cause else {
-        return Fault::Load(error);
+        return Fault::Refused(text);
     };
-    match String::from_str(alloc, folder) {
-        Ok(folder) => Fault::Store {
-            error,
-            folder,
-            cause,
-        },
-        Err(_) => {
-            drop(error);
-            drop(cause);
-            Fault::Load(Error::Memory)
-        }
+    match format!(in alloc; "{text} {folder}: {cause}") {
+        Ok(text) => Fault::Refused(text),
+        Err(_) => Fault::Memory,
     }
 }
 
@@ -147,7 +154,7 @@ where
     R: rt::Files + AllocGlobal + Clone + Drop,
 {
     match fault {
-        Fault::Load(error) => over_store(alloc, error, vault.into_store().into_fault(), folder),
+        Fault::Refused(text) => over_store(alloc, text, vault.into_store().into_fault(), folder),
         fault => fault,
     }
 }

@@ -7,7 +7,7 @@ ghost use Rattle.tough.specs.Program.{IsReport, IsVersions, Prints};
 
 use crate::Error;
 use crate::get::get_by;
-use crate::opening::{Fault, Wanted, open_by, vault_in, with_cause};
+use crate::opening::{Fault, Wanted, not_run, open_by, refused, vault_in, with_cause};
 use crate::report::versions;
 use std::alloc::{AllocGlobal, Global};
 use std::io::{self, Write};
@@ -31,10 +31,10 @@ const GET: &str = "usage: tough get ROOT METADATA TARGETS STORE NAME OUTDIR";
 fn url(alloc: Global, word: &str) -> Result<Url, Fault> {
     match Url::parse(alloc, word) {
         Ok(url) => Ok(url),
-        Err(ParseError::OutOfMemory) => Err(Fault::Load(Error::Memory)),
+        Err(ParseError::OutOfMemory) => Err(Fault::Memory),
         Err(source) => {
             let url = String::from_str(alloc, word)?;
-            Err(Fault::Load(Error::ParseUrl { url, source }))
+            Err(refused(alloc, Error::ParseUrl { url, source }))
         }
     }
 }
@@ -45,7 +45,7 @@ fn target_name(alloc: Global, word: &str) -> Result<TargetName, Fault>
 {
     match TargetName::from_str(alloc, word) {
         Ok(name) => Ok(name),
-        Err(error) => Err(Fault::Load(Error::from(error))),
+        Err(error) => Err(refused(alloc, Error::from(error))),
     }
 }
 
@@ -54,8 +54,8 @@ fn read<R: rt::Files + AllocGlobal>(rt: &R, path: &str) -> Result<Vec<u8>, Fault
     match fs::read(rt, path) {
         Ok(bytes) => Ok(bytes),
         Err(error) => {
-            let path = String::from_str(rt.alloc(), path)?;
-            Err(Fault::FileRead { path, error })
+            let text = format!(in rt.alloc(); "Failed to read {path}: {error}")?;
+            Err(Fault::Failed(text))
         }
     }
 }
@@ -67,7 +67,7 @@ where
 {
     let runtime = match LocalRuntime::new(rt) {
         Ok(runtime) => runtime,
-        Err(error) => return Err(Fault::Run(error)),
+        Err(error) => return Err(not_run(rt.alloc(), error)),
     };
     let transport = DefaultTransport::new(rt.clone()?, runtime.handle().clone()?)?;
     Ok((runtime, transport))
@@ -183,14 +183,8 @@ where
 // Tells why a run failed.
 fn tell<E: Write>(err: &mut E, fault: &Fault) -> io::Result<()> {
     match fault {
-        Fault::FileRead { path, error } => writeln!(err, "tough: Failed to read {path}: {error}"),
-        Fault::Load(error) => writeln!(err, "tough: {error}"),
-        Fault::Store {
-            error,
-            folder,
-            cause,
-        } => writeln!(err, "tough: {error} {folder}: {cause}"),
-        Fault::Run(error) => writeln!(err, "tough: Failed to run the load: {error}"),
+        Fault::Refused(text) | Fault::Failed(text) => writeln!(err, "tough: {text}"),
+        Fault::Memory => writeln!(err, "tough: {}", Error::Memory),
     }
 }
 
