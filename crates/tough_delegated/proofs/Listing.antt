@@ -1,6 +1,6 @@
 -- The roles of a document, and what a snapshot lists for them.
-use Rattle.std.proofs.Common.{◌≡◌, ℕ, ◌+◌, ◌<◌, ◌≤◌, List, [], ◌∷◌, ◌++◌, map, drop, length, Bor, Bool, true, false, cond, if◌then◌else◌, Option, Some, None, option_map, String, string_bytes, nat_cmp, refl, ap, sym, ◌∙◌, append_assoc}
-use Rattle.std.proofs.lemmas.List.{drop_more, drop_all, drop-map, map-append}
+use Rattle.std.proofs.Common.{◌≡◌, ℕ, ◌+◌, List, [], ◌∷◌, map, drop, Bor, Bool, true, false, cond, if◌then◌else◌, Option, Some, None, option_map, String, string_bytes, nat_cmp, refl, ap, sym, ◌∙◌}
+use Rattle.std.proofs.lemmas.List.{drop_more, drop_all, drop-map}
 use Rattle.std.proofs.lemmas.Map.Text.{is_eq-slice_cmp}
 use Rattle.std.specs.declared.alloc.Global.{Global}
 use Rattle.std.specs.Option.{option_copied}
@@ -12,18 +12,18 @@ use Rattle.std.specs.Map.{lookup, remove_entry}
 use Rattle.tough_roles.specs.Timestamp.{MetafileDoc, metafile_doc, metafiles_doc}
 use Rattle.tough_roles.specs.declared.signed.Signed.{Signed}
 use Rattle.tough_roles.specs.declared.timestamp.Metafile.{Metafile}
-use Rattle.tough_schema.specs.Delegations.{DelegationsDoc, delegations_doc}
+use Rattle.tough_schema.specs.Delegations.{delegations_doc}
 use Rattle.tough_schema.specs.Targets.{TargetsDoc}
 use Rattle.tough_schema.specs.declared.delegations.DelegatedRole.{DelegatedRole, out-DelegatedRole}
-use Rattle.tough_schema.specs.declared.delegations.Delegations.{Delegations, out-Delegations}
+use Rattle.tough_schema.specs.declared.delegations.Delegations.{Delegations}
 use Rattle.tough_schema.specs.declared.targets.DelegatedTargets.{DelegatedTargets, out-DelegatedTargets}
 use Rattle.tough_schema.specs.declared.targets.Targets.{Targets, out-Targets}
 use Rattle.tough_schema.specs.Tree.{Entry}
 use Rattle.tough_schema.specs.Update.{listed_roles, roles_at, roles_within}
 use Rattle.tough_schema.specs.Search.{Names}
-use Rattle.tough_schema.specs.Whole.{TreeDoc, tree, Branches, HeldDoc, RoleTree, NamedTree, DelegationsTree, put_branch, branches_from, branches_of, tree_doc, delegations_tree, role_tree, held_doc, entries_in, top_doc}
-use Rattle.tough_schema.proofs.lemmas.Wholes.{own, tree-out, delegations-out, role-out, named-out, top-tells}
-use Rattle.tough_delegated.specs.Growing.{Metas, Look, through, unlisted, wanted, look, looked, listed_as, at_name, first_of, with_fetched}
+use Rattle.tough_schema.specs.Whole.{Branches, RoleTree, NamedTree, DelegationsTree, put_branch, branches_from, branches_of, tree_doc, delegations_tree, role_tree, held_doc, entries_in, top_doc}
+use Rattle.tough_schema.proofs.lemmas.Wholes.{tree-out, delegations-out, role-out, named-out, top-tells}
+use Rattle.tough_delegated.specs.Growing.{Metas, unlisted, wanted, look, looked, listed_as, at_name, first_of}
 use Rattle.tough_delegated.specs.View.{entries_of, listed_in, fetched_doc}
 
 -- ---- the roles of a document
@@ -32,7 +32,7 @@ entries-put : (r : RoleTree) (bs : Branches) → entries_in (put_branch r bs) �
 entries-put (e, None) bs = refl
 entries-put (e, Some h) bs = refl
 
-entries-from : (rs : List DelegatedRole) → entries_in (branches_from (map role_tree rs)) ≡ entries_of rs
+pub entries-from : (rs : List DelegatedRole) → entries_in (branches_from (map role_tree rs)) ≡ entries_of rs
 entries-from [] = refl
 entries-from (r ∷ rs) = entries-put (role_tree r) (branches_from (map role_tree rs)) ∙ ap (λ l. (role_tree r).0 ∷ l) (entries-from rs)
 
@@ -119,10 +119,6 @@ module _ (metas : Metas) (loaded : Names) (rs : List DelegatedRole) (i : ℕ) (r
   pub look-unlisted : (name : List ℕ) → loaded named ≡ false → None ≡ listed_as metas named → name ≡ named → unlisted name ≡ look metas loaded (drop i (entries_of rs))
   look-unlisted name h k same = ap unlisted (same ∙ sym (role-name r.now)) ∙ looked-as None k ∙ sym (seen false h)
 
--- the end of the list
-pub look-end : (metas : Metas) (loaded : Names) (rs : List DelegatedRole) (i : ℕ) → IsItemAt rs i None → look metas loaded (drop i (entries_of rs)) ≡ through
-look-end metas loaded rs i h = ap (look metas loaded) (drop-past rs i h)
-
 -- ---- what was fetched
 
 pick : {A B : Type 0} (f : A → B) (b : Bool) (x : A) (o : Option A) (p : Option B) → p ≡ option_map f o → cond b (Some (f x)) p ≡ option_map f (cond b (Some x) o)
@@ -147,19 +143,3 @@ pub fetched-removed : (name : List ℕ) (es : List Held) → remove_entry (at_na
 fetched-removed name [] = refl
 fetched-removed name (e ∷ es) =
     skip (λ (x : Held). (string_bytes x.0, held_doc x.1)) (query name e.0) e es (remove_entry (query name) es) (remove_entry (at_name name) (fetched_doc es)) (fetched-removed name es)
-
--- a role with what was fetched for it, and those after it
-pub given-next : (given rest : List DelegatedRole) (es : List Held) (r w : DelegatedRole) (o : Option (Signed DelegatedTargets))
-    → role_tree w ≡ ((role_tree r).0, option_map held_doc o) → o ≡ lookup (query (string_bytes (out-DelegatedRole r).name)) es
-    → map role_tree (given ++ w ∷ []) ++ with_fetched (fetched_doc (remove_entry (query (string_bytes (out-DelegatedRole r).name)) es)) (entries_of rest)
-    ≡ map role_tree given ++ with_fetched (fetched_doc es) (entries_of (r ∷ rest))
-given-next given rest es r w o is found =
-    let name = string_bytes (out-DelegatedRole r).name in
-    let e = (role_tree r).0 in
-    let more : List Held → List RoleTree = λ fs. with_fetched (fetched_doc fs) (entries_of rest) in
-    let here : role_tree w ≡ (e, lookup (at_name e.name) (fetched_doc es)) =
-    is ∙ ap (λ (x : Option HeldDoc). let p : RoleTree = (e, x) in p) (ap (option_map held_doc) found ∙ sym (fetched-lookup name es) ∙ ap (λ n. lookup (at_name n) (fetched_doc es)) (sym (role-name r))) in
-    let later : more (remove_entry (query name) es) ≡ with_fetched (remove_entry (at_name e.name) (fetched_doc es)) (entries_of rest) =
-    ap (λ fs. with_fetched fs (entries_of rest)) (sym (fetched-removed name es) ∙ ap (λ n. remove_entry (at_name n) (fetched_doc es)) (sym (role-name r))) in
-    ap (λ l. l ++ more (remove_entry (query name) es)) (map-append role_tree given (w ∷ [])) ∙ append_assoc (map role_tree given) (role_tree w ∷ []) (more (remove_entry (query name) es))
-    ∙ ap (λ l. map role_tree given ++ l) (ap (λ x. x ∷ more (remove_entry (query name) es)) here ∙ ap (λ l. (e, lookup (at_name e.name) (fetched_doc es)) ∷ l) later)

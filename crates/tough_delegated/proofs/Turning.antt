@@ -1,98 +1,163 @@
 -- The turns of roles, a step at a time.
-use Rattle.std.proofs.Common.{◌≡◌, ℕ, List, [], ◌∷◌, ◌++◌, map, Bool, true, false, if◌then◌else◌, Option, Some, None, Ordering, Less, Equal, Greater, nat_cmp, Result, Ok, Err, IfOk, String, string_bytes, refl, ap, ◌∙◌, sym}
+use Rattle.std.proofs.Common.{◌≡◌, ℕ, zero, suc, ◌+◌, ◌<◌, List, [], ◌∷◌, map, drop, length, Bool, true, false, if◌then◌else◌, Option, Some, None, option_map, Ordering, Less, Equal, Greater, nat_cmp, Result, Ok, Err, IfOk, String, string_bytes, refl, ap, ◌∙◌, sym, arith}
+use Rattle.std.proofs.lemmas.List.{drop-drop}
+use Rattle.std.proofs.Math.Seq.{drop-nil}
 use Rattle.std.specs.declared.alloc.Global.{Global}
-use Rattle.std.specs.BTreeMap.{is_at, insert_entry}
-use Rattle.std.specs.BTreeSet.{BTreeSet, IsEmpty}
+use Rattle.std.specs.BTreeMap.{insert_entry}
 use Rattle.std.specs.Cmp.Lexicographic.{slice_cmp}
-use Rattle.std.specs.List.{list_any}
+use Rattle.std.specs.Map.{lookup, remove_entry}
 use Rattle.std.specs.Ordering.{match_ordering}
 use Rattle.std.specs.String.{string_cmp}
 use Rattle.tough_roles.specs.Timestamp.{MetafileDoc}
 use Rattle.tough_roles.specs.declared.signed.Signed.{Signed}
 use Rattle.tough_schema.specs.Tree.{Entry}
 use Rattle.tough_schema.specs.Update.{listed_roles}
-use Rattle.tough_schema.specs.Search.{Names, no_names, add}
-use Rattle.tough_schema.specs.Walk.{names_in}
-use Rattle.tough_schema.specs.Whole.{HeldDoc, RoleTree, held_doc}
+use Rattle.tough_schema.specs.Search.{Names, add}
+use Rattle.tough_schema.specs.Whole.{HeldDoc, role_tree, held_doc}
+use Rattle.tough_schema.specs.declared.delegations.DelegatedRole.{DelegatedRole, out-DelegatedRole}
 use Rattle.tough_schema.specs.declared.targets.DelegatedTargets.{DelegatedTargets}
-use Rattle.tough_delegated.specs.declared.turns.Open.{Open}
-use Rattle.tough_delegated.specs.Growing.{Metas, Look, look, past, entered, turn, by_turn, turns, Fetched, with_fetched, with_roles, OpenDoc, WorkDoc, all_past, stopped_at, taken_up, by_turns, settle, give, wants, first_work, with_taken}
-use Rattle.tough_delegated.specs.View.{entries_of, listed_in, opens_doc, fetched_doc}
-use Rattle.tough_delegated.proofs.Listing.{Held, listed-held}
-
-module _ (metas : Metas) (names : Names) (t : RoleTree) where
-  -- a role without a document
-  pub turn-bare : (r : RoleTree) → r ≡ (t.0, None) → None ≡ t.1 → past r names ≡ turn metas names t
-  turn-bare r is h = ap (λ x. past x names) is ∙ ap (λ (o : Option HeldDoc). turn metas names (t.0, o)) h
-
-  chosen : (b : Bool) (h : HeldDoc) → names t.0.name ≡ b → Some h ≡ t.1
-      → (if b then past (t.0, None) names else entered t.0 h (add t.0.name names) (look metas (add t.0.name names) (listed_roles h.below))) ≡ turn metas names t
-  chosen b h e is =
-      ap (λ x. if x then past (t.0, None) names else entered t.0 h (add t.0.name names) (look metas (add t.0.name names) (listed_roles h.below))) (sym e)
-      ∙ ap (λ (o : Option HeldDoc). turn metas names (t.0, o)) is
-
-  -- one whose name was loaded
-  pub turn-known : (r : RoleTree) (h : HeldDoc) → r ≡ (t.0, None) → Some h ≡ t.1 → names t.0.name ≡ true → past r names ≡ turn metas names t
-  turn-known r h is there known = ap (λ x. past x names) is ∙ chosen true h known there
-
-  -- one that is new
-  pub turn-new : (h : HeldDoc) → Some h ≡ t.1 → names t.0.name ≡ false
-      → entered t.0 h (add t.0.name names) (look metas (add t.0.name names) (listed_roles h.below)) ≡ turn metas names t
-  turn-new h there new = chosen false h new there
-
--- what a look at the whole list of a document comes to
-pub looked-whole : (metas : Metas) (names : Names) (s : Signed DelegatedTargets) (l : Look) → l ≡ look metas names (entries_of (listed_in s)) → l ≡ look metas names (listed_roles (held_doc s).below)
-looked-whole metas names s l h = h ∙ ap (look metas names) (listed-held s)
+use Rattle.tough_delegated.specs.Numbered.{NodeDoc, Nodes, also, last_document, roles_at}
+use Rattle.tough_delegated.specs.Growing.{Metas, Look, through, unlisted, wanted, look, Turn, past, stopped, entered, offered, turn, by_turn, Turns, turns, Fetched, at_name, fetched_for, fetched_after, TaskDoc, WorkDoc, all_past, stopped_at, resumed, by_turns, settle, wants, first_of, with_taken}
+use Rattle.tough_delegated.specs.View.{entries_of, listed_in, fetched_doc}
+use Rattle.tough_delegated.proofs.Listing.{Held, query, role-name, listed-held, fetched-lookup, fetched-removed}
+use Rattle.tough_delegated.proofs.Noding.{roles-kept}
 
 pub if_ok-to : {A E : Type 0} (r : Result A E) (P Q : A → Type 0) → ((a : A) → P a → Q a) → IfOk r P → IfOk r Q
 if_ok-to (Ok a) P Q f h = f a h
 if_ok-to (Err e) P Q f h = tt
 
+-- ---- the document that a role gets
+
+module _ (role : DelegatedRole) (es : List Held) where
+  abbrev named : List ℕ
+  named = string_bytes (out-DelegatedRole role).name
+
+  found : (o : Option (Signed DelegatedTargets)) → o ≡ lookup (query named) es → fetched_for (role_tree role).0 (fetched_doc es) ≡ option_map held_doc o
+  found o is = ap (λ n. lookup (at_name n) (fetched_doc es)) (role-name role) ∙ fetched-lookup named es ∙ ap (option_map held_doc) (sym is)
+
+  pub left-after : (fs : List Held) → fs ≡ remove_entry (query named) es → fetched_doc fs ≡ fetched_after (role_tree role).0 (fetched_doc es)
+  left-after fs is = ap fetched_doc is ∙ sym (fetched-removed named es) ∙ ap (λ n. remove_entry (at_name n) (fetched_doc es)) (sym (role-name role))
+
+  module _ (names : Names) (number place : ℕ) where
+    pub offered-none : None ≡ lookup (query named) es → None ≡ offered names number place (role_tree role).0 (fetched_for (role_tree role).0 (fetched_doc es))
+    offered-none is = sym (ap (offered names number place (role_tree role).0) (found None is))
+
+    offered-by : (s : Signed DelegatedTargets) (b : Bool) → Some s ≡ lookup (query named) es → names named ≡ b
+        → (if b then None else Some (record { parent = number; at = place; document = held_doc s })) ≡ offered names number place (role_tree role).0 (fetched_for (role_tree role).0 (fetched_doc es))
+    offered-by s b is seen =
+        let node : Option NodeDoc = Some (record { parent = number; at = place; document = held_doc s }) in
+        sym (ap (offered names number place (role_tree role).0) (found (Some s) is) ∙ ap (λ n. if names n then None else node) (role-name role) ∙ ap (λ c. if c then None else node) seen)
+
+    pub offered-known : (s : Signed DelegatedTargets) → Some s ≡ lookup (query named) es → names named ≡ true → None ≡ offered names number place (role_tree role).0 (fetched_for (role_tree role).0 (fetched_doc es))
+    offered-known s is seen = offered-by s true is seen
+
+    pub offered-new : (s : Signed DelegatedTargets) → Some s ≡ lookup (query named) es → names named ≡ false
+        → Some (record { parent = number; at = place; document = held_doc s }) ≡ offered names number place (role_tree role).0 (fetched_for (role_tree role).0 (fetched_doc es))
+    offered-new s is seen = offered-by s false is seen
+
+-- ---- the role whose turn it is
+
+pub first-some : (es : List Entry) (e : Entry) → Some e ≡ first_of es → es ≡ e ∷ drop 1 es
+first-some [] e h = absurd (cc (h))
+first-some (x ∷ es) e h = let same : x ≡ e = cc in ap (λ y. y ∷ es) same
+
+pub some-within : (es : List Entry) (at : ℕ) (e : Entry) → Some e ≡ first_of (drop at es) → at < length es
+some-within [] at e h = let none : None ≡ Some e = sym (h ∙ ap first_of (drop-nil at)) in absurd (cc (none))
+some-within (x ∷ es) zero e h = omega arith
+some-within (x ∷ es) (suc at) e h = let below : at < length es = some-within es at e h in omega arith
+
+some-there : (es : List Entry) (at : ℕ) (e : Entry) → Some e ≡ first_of (drop at es) → es ≡ [] → ⊥
+some-there es at e h none = let lt : at < length es = some-within es at e h in let nil : length es ≡ 0 = ap length none in omega arith
+
+pub drop-next : (es : List Entry) (at : ℕ) → drop (at + 1) es ≡ drop 1 (drop at es)
+drop-next es at = sym (drop-drop 1 at es)
+
+pub entered-nodes : (ms ns : Nodes) (more names : Names) (l : Look) → past ms more ≡ entered ns names l → ms ≡ ns
+entered-nodes ms ns more names through h = cc
+entered-nodes ms ns more names (unlisted name) h = cc
+entered-nodes ms ns more names (wanted waiting m) h = absurd (cc (h))
+
+-- ---- a document gets its place
+
+-- the roles of the last document
+pub listed-last : (ns : Nodes) (s : Signed DelegatedTargets) (rs : List DelegatedRole) → held_doc s ≡ last_document ns → rs ≡ listed_in s → entries_of rs ≡ listed_roles (last_document ns).below
+listed-last ns s rs is own = ap entries_of own ∙ listed-held s ∙ ap (λ (x : HeldDoc). listed_roles x.below) is
+
+module _ (metas : Metas) (names more : Names) (ns ms : Nodes) (n : NodeDoc) (s : Signed DelegatedTargets) (rs : List DelegatedRole) (name : List ℕ)
+    (marked : more ≡ add name names) (pushed : ms ≡ also ns n) (last : held_doc s ≡ last_document ms) (own : rs ≡ listed_in s) where
+  abbrev pub entry : Turn
+  entry = entered (also ns n) (add name names) (look metas (add name names) (listed_roles n.document.below))
+
+  pub enters : (l : Look) → l ≡ look metas more (entries_of rs) → entered ms more l ≡ entry
+  enters l seen =
+      let listed : entries_of rs ≡ listed_roles n.document.below = listed-last ms s rs last own ∙ ap (λ (x : Nodes). listed_roles (last_document x).below) pushed in
+      ap (entered ms more) (seen ∙ ap (look metas more) listed) ∙ ap (λ (x : Nodes). entered x more (look metas more (listed_roles n.document.below))) pushed
+      ∙ ap (λ (x : Names). entered (also ns n) x (look metas x (listed_roles n.document.below))) marked
+
+  pub enters-wanted : (at : ℕ) (m : MetafileDoc) → wanted (drop at (entries_of rs)) m ≡ look metas more (entries_of rs) → stopped ms (drop at (listed_roles (last_document ms).below)) m more ≡ entry
+  enters-wanted at m seen = ap (λ (es : List Entry). stopped ms (drop at es) m more) (sym (listed-last ms s rs last own)) ∙ enters (wanted (drop at (entries_of rs)) m) seen
+
 -- ---- the turns of a list
 
-pub turns-past : (metas : Metas) (names more : Names) (d : HeldDoc) (done left : List RoleTree) (r s : RoleTree) → past s more ≡ turn metas names r
-    → turns metas more d (done ++ s ∷ []) left ≡ turns metas names d done (r ∷ left)
-turns-past metas names more d done left r s h = ap (λ t. by_turn d done left t (λ x l. turns metas l d (done ++ x ∷ []) left)) h
+-- what is left after this role
+abbrev pub next_task : TaskDoc → Entry → TaskDoc
+next_task t e = record { node = t.node; at = t.at + 1; fetched = fetched_after e t.fetched }
+
+pub next-is : (t : TaskDoc) (e : Entry) (number place : ℕ) (fetched : Fetched) → number ≡ t.node → place ≡ t.at → fetched ≡ fetched_after e t.fetched
+    → ◌≡◌ {A = TaskDoc} (record { node = number; at = place + 1; fetched = fetched }) (next_task t e)
+next-is t e number place fetched a b c =
+    let f : ℕ → ℕ → Fetched → TaskDoc = λ n p g. record { node = n; at = p + 1; fetched = g } in
+    ap (λ n. f n place fetched) a ∙ ap (λ p. f t.node p fetched) b ∙ ap (f t.node t.at) c
+
+module _ (metas : Metas) (names : Names) (ns : Nodes) (t : TaskDoc) where
+  abbrev pub now : List Entry
+  now = drop t.at (roles_at t.node ns)
+
+  module _ (e : Entry) (there : Some e ≡ first_of now) where
+    abbrev pub turned : Turn
+    turned = turn metas names ns e (offered names t.node t.at e (fetched_for e t.fetched))
+
+    pub turn-none : None ≡ offered names t.node t.at e (fetched_for e t.fetched) → past ns names ≡ turned
+    turn-none h = ap (turn metas names ns e) h
+
+    pub turn-some : (n : NodeDoc) (name : List ℕ) (r : Turn) → Some n ≡ offered names t.node t.at e (fetched_for e t.fetched) → name ≡ e.name
+        → r ≡ entered (also ns n) (add name names) (look metas (add name names) (listed_roles n.document.below)) → r ≡ turned
+    turn-some n name r offer same h =
+        h ∙ ap (λ (x : List ℕ). entered (also ns n) (add x names) (look metas (add x names) (listed_roles n.document.below))) same ∙ ap (turn metas names ns e) offer
+
+    step : (r : Turn) → r ≡ turned
+        → by_turn (record { node = t.node; at = suc t.at; fetched = fetched_after e t.fetched }) r (λ ms l. turns metas l ms t.node (suc t.at) (fetched_after e t.fetched) (drop 1 now)) ≡ resumed metas names ns t
+    step r h =
+        ap (λ (x : Turn). by_turn (record { node = t.node; at = suc t.at; fetched = fetched_after e t.fetched }) x (λ ms l. turns metas l ms t.node (suc t.at) (fetched_after e t.fetched) (drop 1 now))) h
+        ∙ sym (ap (turns metas names ns t.node t.at t.fetched) (first-some now e there))
+
+    pub resumed-past : (ms : Nodes) (more : Names) → past ms more ≡ turned → roles_at t.node ms ≡ roles_at t.node ns → resumed metas more ms (next_task t e) ≡ resumed metas names ns t
+    resumed-past ms more h same =
+        let next : t.at + 1 ≡ suc t.at = omega arith in
+        ap (λ rs. turns metas more ms t.node (t.at + 1) (fetched_after e t.fetched) (drop (t.at + 1) rs)) same
+        ∙ ap (λ rs. turns metas more ms t.node (t.at + 1) (fetched_after e t.fetched) rs) (drop-next (roles_at t.node ns) t.at)
+        ∙ ap (λ (k : ℕ). turns metas more ms t.node k (fetched_after e t.fetched) (drop 1 now)) next ∙ step (past ms more) h
+
+    pub resumed-stopped : (ms : Nodes) (more : Names) (waiting : List Entry) (m : MetafileDoc) → stopped ms waiting m more ≡ turned → stopped_at ms (next_task t e) waiting m more ≡ resumed metas names ns t
+    resumed-stopped ms more waiting m h =
+        let next : t.at + 1 ≡ suc t.at = omega arith in
+        ap (λ (k : ℕ). stopped_at ms (record { node = t.node; at = k; fetched = fetched_after e t.fetched }) waiting m more) next ∙ step (stopped ms waiting m more) h
+
+    pub still-there : (n : NodeDoc) → roles_at t.node (also ns n) ≡ roles_at t.node ns
+    still-there n = roles-kept ns n t.node (some-there (roles_at t.node ns) t.at e there)
 
 -- ---- outwards
 
-pub settle-past : (metas : Metas) (names more : Names) (h d : HeldDoc) (o : OpenDoc) (outer : List OpenDoc) → all_past d more ≡ taken_up metas names h o
-    → settle metas more d outer ≡ settle metas names h (o ∷ outer)
-settle-past metas names more h d o outer e = ap (λ t. by_turns outer t (λ x l. settle metas l x outer)) e
+pub settle-past : (metas : Metas) (names more : Names) (ns ms : Nodes) (t : TaskDoc) (outer : List TaskDoc) → all_past ms more ≡ resumed metas names ns t
+    → settle metas more ms outer ≡ settle metas names ns (t ∷ outer)
+settle-past metas names more ns ms t outer h = ap (λ (r : Turns). by_turns outer r (λ xs l. settle metas l xs outer)) h
 
-pub settle-stopped : (metas : Metas) (names more : Names) (h here : HeldDoc) (o inner : OpenDoc) (outer : List OpenDoc) (waiting : List Entry) (m : MetafileDoc)
-    → stopped_at inner here waiting m more ≡ taken_up metas names h o
-    → wants (record { outer = inner ∷ outer; loaded = more; here = here; fetched = []; waiting = waiting }) m ≡ settle metas names h (o ∷ outer)
-settle-stopped metas names more h here o inner outer waiting m e = ap (λ t. by_turns outer t (λ x l. settle metas l x outer)) e
+pub settle-stopped : (metas : Metas) (names more : Names) (ns ms : Nodes) (t inner : TaskDoc) (outer : List TaskDoc) (waiting : List Entry) (m : MetafileDoc)
+    → stopped_at ms inner waiting m more ≡ resumed metas names ns t
+    → wants (record { nodes = ms; outer = inner ∷ outer; loaded = more; fetched = []; waiting = waiting }) m ≡ settle metas names ns (t ∷ outer)
+settle-stopped metas names more ns ms t inner outer waiting m h = ap (λ (r : Turns). by_turns outer r (λ xs l. settle metas l xs outer)) h
 
--- ---- a list that was fetched
-
-pub give-past : (metas : Metas) (w : WorkDoc) (more : Names) (d : HeldDoc) → all_past d more ≡ turns metas w.loaded (with_roles [] w.here) [] (with_fetched w.fetched (listed_roles w.here.below))
-    → settle metas more d w.outer ≡ give metas w
-give-past metas w more d h = ap (λ t. by_turns w.outer t (λ x l. settle metas l x w.outer)) h
-
-pub give-stopped : (metas : Metas) (w : WorkDoc) (more : Names) (here : HeldDoc) (inner : OpenDoc) (waiting : List Entry) (m : MetafileDoc)
-    → stopped_at inner here waiting m more ≡ turns metas w.loaded (with_roles [] w.here) [] (with_fetched w.fetched (listed_roles w.here.below))
-    → wants (record { outer = inner ∷ w.outer; loaded = more; here = here; fetched = []; waiting = waiting }) m ≡ give metas w
-give-stopped metas w more here inner waiting m h = ap (λ t. by_turns w.outer t (λ x l. settle metas l x w.outer)) h
-
--- ---- the beginning, and a document that is taken
-
-names-none : (set : BTreeSet (String Global)) → IsEmpty set → names_in set ≡ no_names
-names-none set empty = λ i q. list_any (is_at (λ k. slice_cmp nat_cmp q (string_bytes k))) (empty i)
-
-pub begun-work : (os : List Open) (set : BTreeSet (String Global)) (s : Signed DelegatedTargets) (es : List Held) (top : HeldDoc) → os ≡ [] → IsEmpty set → es ≡ [] → held_doc s ≡ top
-    → ◌≡◌ {A = WorkDoc} (record { outer = opens_doc os; loaded = names_in set; here = held_doc s; fetched = fetched_doc es; waiting = entries_of (listed_in s) })
-    (first_work top)
-begun-work os set s es top a b c d =
-    let f : List OpenDoc → Names → HeldDoc → Fetched → List Entry → WorkDoc = λ o n h g w. record { outer = o; loaded = n; here = h; fetched = g; waiting = w } in
-    let shown = entries_of (listed_in s) in
-    ap (λ o. f (opens_doc o) (names_in set) (held_doc s) (fetched_doc es) shown) a ∙ ap (λ n. f [] n (held_doc s) (fetched_doc es) shown) (names-none set b)
-    ∙ ap (λ g. f [] no_names (held_doc s) (fetched_doc g) shown) c ∙ ap (λ w. f [] no_names (held_doc s) [] w) (listed-held s)
-    ∙ ap (λ (h : HeldDoc). f [] no_names h [] (listed_roles h.below)) d
-
-pub taken-none : (w : WorkDoc) (h : HeldDoc) → w.waiting ≡ [] → w ≡ with_taken w w.waiting h
-taken-none w h e = sym (ap (λ ws. with_taken w ws h) e)
+-- ---- a document that is taken
 
 chosen-map : (f : Held → List ℕ × HeldDoc) (o : Ordering) (a b c : List Held) (d : Fetched) → map f c ≡ d → map f (match_ordering o a b c) ≡ match_ordering o (map f a) (map f b) d
 chosen-map f Less a b c d h = refl

@@ -1,6 +1,7 @@
 -- Which documents of delegated roles are fetched, and the tree that they make (TUF specification 1.0, section 5.6.7). A document's list
--- of roles is fetched as a whole; then its roles get their documents in order, each with its own list before the next role.
-use Rattle.std.specs.Prelude.{ℕ, List, [], ◌∷◌, ◌++◌, Option, Some, None, Bool, is_some, codes, if◌then◌else◌}
+-- of roles is fetched as a whole; then its roles get their documents in order, each with its own list before the next role. A document
+-- that gets its place gets the next number.
+use Rattle.std.specs.Prelude.{ℕ, suc, List, [], ◌∷◌, ◌++◌, drop, Option, Some, None, Bool, codes, if◌then◌else◌}
 use Rattle.std.specs.Ordering.{nat_cmp}
 use Rattle.std.specs.Str.{bytes_eq}
 use Rattle.std.specs.Cmp.Lexicographic.{slice_cmp}
@@ -10,9 +11,10 @@ use Rattle.tough_roles.specs.Signature.{SignedDoc}
 use Rattle.tough_roles.specs.Timestamp.{MetafileDoc}
 use Rattle.tough_schema.specs.Delegations.{DelegationsDoc}
 use Rattle.tough_schema.specs.Tree.{Entry}
-use Rattle.tough_schema.specs.Whole.{TreeDoc, tree, branches_from, HeldDoc, RoleTree, top_doc}
+use Rattle.tough_schema.specs.Whole.{TreeDoc, HeldDoc, top_doc}
 use Rattle.tough_schema.specs.Update.{listed_roles}
 use Rattle.tough_schema.specs.Search.{Names, no_names, add}
+use Rattle.tough_delegated.specs.Numbered.{NodeDoc, Nodes, targets, also, last_number, last_document, roles_at, tree_of, unnamed}
 
 -- what a snapshot lists
 abbrev pub Metas : Type 0
@@ -51,73 +53,71 @@ Fetched = List (List ℕ × HeldDoc)
 abbrev pub at_name : List ℕ → List ℕ → Bool
 at_name name = is_at (slice_cmp nat_cmp name)
 
--- each role with what was fetched for it; of two roles of one name the first gets it
-abbrev pub with_fetched : Fetched → List Entry → List RoleTree
-with_fetched fetched [] = []
-with_fetched fetched (e ∷ es) = (e, lookup (at_name e.name) fetched) ∷ with_fetched (remove_entry (at_name e.name) fetched) es
+abbrev pub fetched_for : Entry → Fetched → Option HeldDoc
+fetched_for e fetched = lookup (at_name e.name) fetched
 
--- the document with these roles, where it has delegations
-abbrev pub refilled : List RoleTree → TreeDoc → TreeDoc
-refilled rs (tree o bs) = tree o (if is_some o.keys then branches_from rs else bs)
-
-abbrev pub with_roles : List RoleTree → HeldDoc → HeldDoc
-with_roles rs h = record h { below = refilled rs h.below }
+-- of two roles of one name the first gets it
+abbrev pub fetched_after : Entry → Fetched → Fetched
+fetched_after e fetched = remove_entry (at_name e.name) fetched
 
 -- ---- the roles' turns
 
--- a document whose roles get their documents
-pub record OpenDoc : Type 0 where
-  -- the document, without its roles
-  pub document : HeldDoc
-  -- the roles that had their turn
-  pub done : List RoleTree
-  -- the role whose turn it is: the work goes on in the list of its document
-  pub role : Entry
-  -- the roles after it, each with what was fetched for it
-  pub left : List RoleTree
+-- a list whose roles get their documents
+pub record TaskDoc : Type 0 where
+  -- the number of the document that lists them
+  pub node : ℕ
+  -- the place of the role whose turn is next
+  pub at : ℕ
+  -- what was fetched for the roles from that one on
+  pub fetched : Fetched
+
+-- a role whose name was loaded by then gets no document
+abbrev pub offered : Names → ℕ → ℕ → Entry → Option HeldDoc → Option NodeDoc
+offered loaded number place e None = None
+offered loaded number place e (Some h) = if loaded e.name then None else Some (record { parent = number; at = place; document = h })
 
 -- what a role's turn comes to
 pub data Turn : Type 0 where
-  past : RoleTree → Names → Turn
-  -- the list of its document is to be fetched
-  stopped : Entry → HeldDoc → List Entry → MetafileDoc → Names → Turn
+  past : Nodes → Names → Turn
+  -- the list of its document is to be fetched, the last of these
+  stopped : Nodes → List Entry → MetafileDoc → Names → Turn
 
-abbrev pub entered : Entry → HeldDoc → Names → Look → Turn
-entered e h loaded through = past (e, Some h) loaded
-entered e h loaded (unlisted name) = past (e, Some h) (add name loaded)
-entered e h loaded (wanted waiting m) = stopped e h waiting m loaded
+abbrev pub entered : Nodes → Names → Look → Turn
+entered nodes loaded through = past nodes loaded
+entered nodes loaded (unlisted name) = past nodes (add name loaded)
+entered nodes loaded (wanted waiting m) = stopped nodes waiting m loaded
 
--- a role whose name was loaded by then gets no document
-abbrev pub turn : Metas → Names → RoleTree → Turn
-turn metas loaded (e, None) = past (e, None) loaded
-turn metas loaded (e, Some h) =
-    if loaded e.name then past (e, None) loaded
-    else entered e h (add e.name loaded) (look metas (add e.name loaded) (listed_roles h.below))
+abbrev pub turn : Metas → Names → Nodes → Entry → Option NodeDoc → Turn
+turn metas loaded nodes e None = past nodes loaded
+turn metas loaded nodes e (Some n) = entered (also nodes n) (add e.name loaded) (look metas (add e.name loaded) (listed_roles n.document.below))
 
 -- what the turns of the roles that are left come to
 pub data Turns : Type 0 where
-  all_past : HeldDoc → Names → Turns
-  stopped_at : OpenDoc → HeldDoc → List Entry → MetafileDoc → Names → Turns
+  all_past : Nodes → Names → Turns
+  stopped_at : Nodes → TaskDoc → List Entry → MetafileDoc → Names → Turns
 
-abbrev pub by_turn : HeldDoc → List RoleTree → List RoleTree → Turn → (RoleTree → Names → Turns) → Turns
-by_turn d done left (past r loaded) next = next r loaded
-by_turn d done left (stopped e h waiting m loaded) next = stopped_at (record { document = d; done = done; role = e; left = left }) h waiting m loaded
+abbrev pub by_turn : TaskDoc → Turn → (Nodes → Names → Turns) → Turns
+by_turn left (past nodes loaded) next = next nodes loaded
+by_turn left (stopped nodes waiting m loaded) next = stopped_at nodes left waiting m loaded
 
-abbrev pub turns : Metas → Names → HeldDoc → List RoleTree → List RoleTree → Turns
-turns metas loaded d done [] = all_past (with_roles done d) loaded
-turns metas loaded d done (r ∷ left) = by_turn d done left (turn metas loaded r) (λ s l. turns metas l d (done ++ s ∷ []) left)
+abbrev pub turns : Metas → Names → Nodes → ℕ → ℕ → Fetched → List Entry → Turns
+turns metas loaded nodes number place fetched [] = all_past nodes loaded
+turns metas loaded nodes number place fetched (e ∷ rest) =
+    by_turn (record { node = number; at = suc place; fetched = fetched_after e fetched })
+    (turn metas loaded nodes e (offered loaded number place e (fetched_for e fetched)))
+    (λ ns l. turns metas l ns number (suc place) (fetched_after e fetched) rest)
 
 -- ---- the whole
 
 pub record WorkDoc : Type 0 where
-  -- the documents whose roles get their documents, the innermost first
-  pub outer : List OpenDoc
+  -- the documents that have their place; the list of the last one is being fetched
+  pub nodes : Nodes
+  -- the lists whose roles get their documents, the innermost first
+  pub outer : List TaskDoc
   -- the names that were loaded, or aren't in the snapshot
   pub loaded : Names
-  -- the document whose list is being fetched
-  pub here : HeldDoc
   pub fetched : Fetched
-  -- the roles of that list from the one on whose document is wanted
+  -- the roles of the list from the one on whose document is wanted
   pub waiting : List Entry
 
 pub data Progress : Type 0 where
@@ -126,29 +126,27 @@ pub data Progress : Type 0 where
   -- the tree is complete
   grown : SignedDoc TreeDoc → Progress
 
-abbrev pub by_turns : List OpenDoc → Turns → (HeldDoc → Names → Progress) → Progress
-by_turns outer (all_past h loaded) next = next h loaded
-by_turns outer (stopped_at o here waiting m loaded) next = wants (record { outer = o ∷ outer; loaded = loaded; here = here; fetched = []; waiting = waiting }) m
+abbrev pub by_turns : List TaskDoc → Turns → (Nodes → Names → Progress) → Progress
+by_turns outer (all_past nodes loaded) next = next nodes loaded
+by_turns outer (stopped_at nodes t waiting m loaded) next = wants (record { nodes = nodes; outer = t ∷ outer; loaded = loaded; fetched = []; waiting = waiting }) m
 
--- the role whose turn it is has its document complete, and those after it get their turns
-abbrev pub taken_up : Metas → Names → HeldDoc → OpenDoc → Turns
-taken_up metas loaded h o = turns metas loaded o.document (o.done ++ (o.role, Some h) ∷ []) o.left
+-- the roles of a list that are left get their turns
+abbrev pub resumed : Metas → Names → Nodes → TaskDoc → Turns
+resumed metas loaded nodes t = turns metas loaded nodes t.node t.at t.fetched (drop t.at (roles_at t.node nodes))
 
--- a document is complete, and so on outwards
-abbrev pub settle : Metas → Names → HeldDoc → List OpenDoc → Progress
-settle metas loaded h [] = grown (record { role = h.below; signatures = h.signatures })
-settle metas loaded h (o ∷ outer) = by_turns outer (taken_up metas loaded h o) (λ d l. settle metas l d outer)
+-- a list is done, and so on outwards
+abbrev pub settle : Metas → Names → Nodes → List TaskDoc → Progress
+settle metas loaded nodes [] = grown (unnamed (tree_of nodes))
+settle metas loaded nodes (t ∷ outer) = by_turns outer (resumed metas loaded nodes t) (λ ns l. settle metas l ns outer)
 
 -- a list was fetched: its roles get their turns
 abbrev pub give : Metas → WorkDoc → Progress
-give metas w =
-    by_turns w.outer (turns metas w.loaded (with_roles [] w.here) [] (with_fetched w.fetched (listed_roles w.here.below)))
-    (λ d l. settle metas l d w.outer)
+give metas w = settle metas w.loaded w.nodes (record { node = last_number w.nodes; at = 0; fetched = w.fetched } ∷ w.outer)
 
 -- a list was looked at
 abbrev pub by_look : Metas → WorkDoc → Look → Progress
 by_look metas w through = give metas w
-by_look metas w (unlisted name) = settle metas (add name w.loaded) w.here w.outer
+by_look metas w (unlisted name) = settle metas (add name w.loaded) w.nodes w.outer
 by_look metas w (wanted waiting m) = wants (record w { waiting = waiting }) m
 
 abbrev pub go_on : Metas → WorkDoc → Progress
@@ -156,7 +154,7 @@ go_on metas w = by_look metas w (look metas w.loaded w.waiting)
 
 -- nothing was fetched yet
 abbrev pub first_work : HeldDoc → WorkDoc
-first_work top = record { outer = []; loaded = no_names; here = top; fetched = []; waiting = listed_roles top.below }
+first_work top = record { nodes = targets top; outer = []; loaded = no_names; fetched = []; waiting = listed_roles top.below }
 
 abbrev pub begun : Metas → HeldDoc → Progress
 begun metas top = go_on metas (first_work top)
@@ -166,9 +164,13 @@ abbrev pub first_of : List Entry → Option Entry
 first_of [] = None
 first_of (e ∷ rest) = Some e
 
--- the delegations that it stands in
+-- the document whose list is being fetched
+abbrev pub here : WorkDoc → HeldDoc
+here w = last_document w.nodes
+
+-- the delegations that the role stands in
 abbrev pub holder_of : WorkDoc → Option DelegationsDoc
-holder_of w = (top_doc w.here.below).delegations
+holder_of w = (top_doc (here w).below).delegations
 
 -- of two documents of one name the later one counts
 abbrev pub with_taken : WorkDoc → List Entry → HeldDoc → WorkDoc

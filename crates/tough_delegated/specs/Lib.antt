@@ -1,3 +1,4 @@
+pub mod Numbered
 pub mod Growing
 pub mod View
 pub mod Bare

@@ -4,7 +4,7 @@ use Rattle.std.specs.Prelude.{◌≡◌, List, ◌∷◌, ◌++◌, Some, ⊤}
 use Rattle.tough_roles.specs.Timestamp.{MetafileDoc}
 use Rattle.tough_schema.specs.Tree.{Entry}
 use Rattle.tough_schema.specs.Update.{listed_roles}
-use Rattle.tough_delegated.specs.Growing.{Metas, listed_as, WorkDoc, Progress, wants, grown}
+use Rattle.tough_delegated.specs.Growing.{Metas, listed_as, here, Progress, wants, grown}
 
 -- the first role that waits is one of those, and the snapshot lists its document so
 pub record IsListed (metas : Metas) (roles waiting : List Entry) (m : MetafileDoc) : Type 0 where
@@ -16,5 +16,5 @@ pub record IsListed (metas : Metas) (roles waiting : List Entry) (m : MetafileDo
   pub listed : listed_as metas role.name ≡ Some m
 
 abbrev pub WantsListed : Metas → Progress → Type 0
-WantsListed metas (wants w m) = IsListed metas (listed_roles w.here.below) w.waiting m
+WantsListed metas (wants w m) = IsListed metas (listed_roles (here w).below) w.waiting m
 WantsListed metas (grown t) = ⊤

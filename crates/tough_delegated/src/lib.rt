@@ -5,7 +5,7 @@ mod growth;
 pub mod laws;
 mod list;
 mod look;
-mod turn;
+mod nodes;
 mod turns;
 
 pub use growth::{Growth, Progress};

@@ -13,10 +13,13 @@ use Rattle.tough_vault.specs.Files.{snapshot_file, targets_file}
 use Rattle.tough_names.specs.Named.{Named}
 use Rattle.tough_schema.specs.Whole.{TreeDoc}
 use Rattle.tough_schema.specs.Entries.{entries, documents_below, first_missing}
+use Rattle.tough_schema.specs.Fresh.{IsUnloaded}
 use Rattle.tough_delegated.specs.Growing.{WorkDoc, Progress, wants, grown, go_on, begun}
 use Rattle.tough_delegated.specs.Bare.{held_as}
 use Rattle.tough_delegated.specs.Tallies.{tally_work}
-use Rattle.tough_delegated.proofs.lemmas.Tallied.{IsKeyed, bare-keyed, WorkKeyed, ProgressGrows, begun-grows, taken-grows}
+use Rattle.tough_delegated.proofs.lemmas.Bare.{bare-none}
+use Rattle.tough_delegated.proofs.lemmas.Tallied.{IsKeyed, bare-keyed}
+use Rattle.tough_delegated.proofs.lemmas.Laws.{WorkGrows, ProgressGrows, begun-grows, taken-grows, grows-more, grows-listed}
 use Rattle.tough_update.specs.declared.counts.Counts.{Counts}
 use Rattle.tough_trust.specs.Failure.{Failure, ParseMetadata, MaxUpdatesExceeded, Checked}
 use Rattle.tough_trust.specs.Walk.{first_root, next_root}
@@ -77,7 +80,7 @@ module _ (v : Verifies) (s : SettingDoc) where
 
   -- so many more roles are listed than documents were fetched
   abbrev Grows : ℕ → WorkDoc → Counts → Type 0
-  Grows k w n = (n.roots ≤ s.limits.max_root_updates) × WorkKeyed w × (1 ≤ length w.waiting) × (n.delegated + length w.waiting ≤ tally_work w + k)
+  Grows k w n = (n.roots ≤ s.limits.max_root_updates) × WorkGrows n.delegated k w
 
   abbrev Bounded : Counts → StageDoc → Type 0
   Bounded n at.Moment = First n
@@ -91,9 +94,9 @@ module _ (v : Verifies) (s : SettingDoc) where
   Bounded n (at.Fetch (at.Snapshot b t listed) r) = Early n
   Bounded n (at.Step (at.PutSnapshot k listed)) = Early n
   Bounded n (at.Fetch (at.Targets k listed) r) = Early n
-  Bounded n (at.Step (at.PutTargets k d)) = Early n × IsKeyed d.role
+  Bounded n (at.Step (at.PutTargets k d)) = Early n × IsKeyed d.role × IsUnloaded d.role
   Bounded n (at.Fetch (at.Role k roles listed) r) = Grows 0 roles.work n
-  Bounded n (at.Step (at.PutDelegated k roles name d)) = Grows 1 roles.work n × IsKeyed d.role
+  Bounded n (at.Step (at.PutDelegated k roles name d)) = Grows 1 roles.work n × IsKeyed d.role × IsUnloaded d.role
   Bounded n (at.Done (Ok l)) = Late n × (n.delegated ≤ length (entries l.targets.role)) × (n.kept ≡ length (documents_below l.targets.role)) × (n.entries ≡ length (entries l.targets.role))
   Bounded n (at.Done (Err f)) = Late n
   Bounded n at.Taken = Late n
@@ -177,12 +180,12 @@ module _ (v : Verifies) (s : SettingDoc) where
     found-bounded (Some name) l le = enough
 
     grown-bounded : (k : KnownDoc) (received : List ReceivedDoc) (p : Progress) → ProgressGrows m.delegated p → Well (grown_on s.limits k received p)
-    grown-bounded k received (wants w e) g = let le : m.delegated + length w.waiting ≤ tally_work w + 0 = omega (arith, g.0) in (enough, g.2, g.1, le)
+    grown-bounded k received (wants w e) g = (enough, g)
     grown-bounded k received (grown t) g = found-bounded (first_missing t.role) (record { known = k; targets = t; received = received }) g
 
-    given-bounded : (k : KnownDoc) (roles : RolesDoc) (d : SignedDoc TreeDoc) → Grows 1 roles.work m → IsKeyed d.role → Well (role_given s.limits k roles d)
-    given-bounded k roles d g keyed =
-        grown-bounded k roles.received (go_on (metas_in k) (given roles.work d)) (taken-grows (metas_in k) m.delegated roles.work (held_as (wanted_name roles.work) d) g.1 keyed g.2 g.3)
+    given-bounded : (k : KnownDoc) (roles : RolesDoc) (d : SignedDoc TreeDoc) → Grows 1 roles.work m → IsKeyed d.role → IsUnloaded d.role → Well (role_given s.limits k roles d)
+    given-bounded k roles d g keyed bare =
+        grown-bounded k roles.received (go_on (metas_in k) (given roles.work d)) (taken-grows (metas_in k) m.delegated roles.work (held_as (wanted_name roles.work) d) bare keyed g.1)
 
     read-bounded : (w : WantedDoc) (r : RequestDoc) (bytes : List ℕ) → Bounded n (at.Fetch w r) → Heard (at.Fetch w r) (got.Bytes bytes) → Well (read_wanted v s w r bytes)
     read-bounded (at.Root w) r bytes t l = and_then-fine Next bad (next_root v w.last.role bytes) (λ root. Ok (at.Step (at.PutRoot (record { start = w.start; first = w.first; last = root })))) (λ root is.
@@ -194,17 +197,21 @@ module _ (v : Verifies) (s : SettingDoc) where
     read-bounded (at.Snapshot b x listed) r bytes t l = reading Next bad (ParseMetadata role.Snapshot (holds_json bytes)) (snapshot_in bytes) (λ d. at.Step (at.PutSnapshot (known_of b x d) listed)) (λ d. early l t)
     read-bounded (at.Targets k listed) r bytes t l = and_then-fine Next bad (judged v s.enforced k.start (by_root k.root.role) listed bytes) (λ d. Ok (at.Step (at.PutTargets k d))) (λ d is.
         let p = judged-ok v s.enforced k.start (by_root k.root.role) listed bytes d is in
-        (early l t, subst (λ (x : SignedDoc TreeDoc). IsKeyed x.role) (sym p.is) (bare-keyed p.page.role)))
+        (
+            early l t,
+            subst (λ (x : SignedDoc TreeDoc). IsKeyed x.role) (sym p.is) (bare-keyed p.page.role),
+            subst (λ (x : SignedDoc TreeDoc). IsUnloaded x.role) (sym p.is) (bare-none p.page),
+        ))
     read-bounded (at.Role k roles listed) r bytes t l =
         let kept = with_received roles bytes in
         let delegated : m.delegated ≤ n.delegated + 1 = subst (λ x. x ≤ n.delegated + 1) (sym (ap (λ (x : Counts). x.delegated) l)) (one-more n.delegated) in
-        let le : m.delegated + length roles.work.waiting ≤ tally_work roles.work + 1 = omega (arith, delegated, t.3) in
-        let grows : Grows 1 roles.work m = (enough, t.1, t.2, le) in
+        let grows : Grows 1 roles.work m = (enough, grows-more n.delegated m.delegated roles.work delegated t.1) in
         and_then-fine Next bad (judged v s.enforced k.start (role_holder roles.work) listed bytes) (role_stored s.limits k kept r.name) (λ d is.
         let p = judged-ok v s.enforced k.start (role_holder roles.work) listed bytes d is in
         let keyed : IsKeyed d.role = subst (λ (x : SignedDoc TreeDoc). IsKeyed x.role) (sym p.is) (bare-keyed p.page.role) in
-        if-fine Next bad (is_reserved r.name) (role_given s.limits k kept d) (Ok (at.Step (at.PutDelegated k kept r.name d))) (λ _. given-bounded k kept d grows keyed)
-        (grows, keyed))
+        let bare : IsUnloaded d.role = subst (λ (x : SignedDoc TreeDoc). IsUnloaded x.role) (sym p.is) (bare-none p.page) in
+        if-fine Next bad (is_reserved r.name) (role_given s.limits k kept d) (Ok (at.Step (at.PutDelegated k kept r.name d))) (λ _. given-bounded k kept d grows keyed bare)
+        (grows, keyed, bare))
 
     step-bounded : (p : PendingDoc) → Bounded n (at.Step p) → Heard (at.Step p) (got.Step (Ok (tt {0}))) → Well (after v s p)
     step-bounded (at.NoteTime now) t l = and_then-fine Next bad (first_root v s.trusted) (λ root. walked s.limits (record { start = now; first = root; last = root })) (λ root is.
@@ -219,8 +226,8 @@ module _ (v : Verifies) (s : SettingDoc) where
     step-bounded (at.PutTargets k d) t l =
         let none : m.delegated ≡ 0 = (early l t.0).1 in
         let top = held_as [] d in
-        grown-bounded k [] (begun (metas_in k) top) (subst (λ x. ProgressGrows x (begun (metas_in k) top)) (sym none) (begun-grows (metas_in k) top t.1))
-    step-bounded (at.PutDelegated k roles name d) t l = given-bounded k roles d (subst (Grows 1 roles.work) (sym l) t.0) t.1
+        grown-bounded k [] (begun (metas_in k) top) (subst (λ x. ProgressGrows x (begun (metas_in k) top)) (sym none) (begun-grows (metas_in k) top t.1.1 t.1.0))
+    step-bounded (at.PutDelegated k roles name d) t l = given-bounded k roles d (subst (Grows 1 roles.work) (sym l) t.0) t.1.0 t.1.1
 
     -- an answer that isn't waited for
     kept-counts : (more : Counts) (b : Bool) → b ≡ false → m ≡ (if b then more else n) → m ≡ n
@@ -275,8 +282,8 @@ bounded v c n (counted.turned b d k a h g) = goes-bounded v b d k a (bounded v b
 
 -- a fetch of a delegated document is counted where one is asked for, and the tree lists more roles than were fetched before
 fetch-few : (v : Verifies) (s : SettingDoc) (k : Counts) (w : WorkDoc) (b : Bool) → Grows v s 0 w k → (if b then more_delegated k else k).delegated ≤ tally_work w
-fetch-few v s k w true g = omega (arith, one-more k.delegated, g.2, g.3)
-fetch-few v s k w false g = omega (arith, g.3)
+fetch-few v s k w true g = omega (arith, one-more k.delegated, grows-listed k.delegated w g.1)
+fetch-few v s k w false g = omega (arith, grows-listed k.delegated w g.1)
 
 -- the state that the update stands in
 stands : (v : Verifies) (c : CoreDoc) (n : Counts) (h : Counted v c n) → Passes h c

@@ -29,7 +29,7 @@ use Rattle.tough_delegated.specs.Bare.{held_as}
 use Rattle.tough_delegated.specs.Once.{runs}
 use Rattle.tough_delegated.specs.Listed.{WantsListed}
 use Rattle.tough_delegated.proofs.lemmas.Listed.{wanted-listed}
-use Rattle.tough_delegated.proofs.lemmas.Under.{runs-more}
+use Rattle.tough_delegated.proofs.lemmas.Laws.{runs-more}
 use Rattle.tough_update.specs.Stages.{WalkDoc, BaseDoc, KnownDoc, WantedDoc, PendingDoc, ReceivedDoc, RolesDoc, LoadedDoc, StageDoc, CoreDoc}
 use Rattle.tough_update.specs.Stages as at
 use Rattle.tough_update.specs.Questions.{Question}

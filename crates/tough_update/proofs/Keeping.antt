@@ -15,7 +15,8 @@ use Rattle.tough_schema.specs.Fresh.{IsUnloaded}
 use Rattle.tough_delegated.specs.Growing.{Progress, wants, grown, go_on, begun}
 use Rattle.tough_delegated.specs.Bare.{held_as}
 use Rattle.tough_delegated.proofs.lemmas.Bare.{bare-none}
-use Rattle.tough_delegated.proofs.lemmas.Kept.{WorkKeeps, ProgressKeeps, begun-keeps, taken-keeps, tree-few}
+use Rattle.tough_delegated.proofs.lemmas.Kept.{tree-few}
+use Rattle.tough_delegated.proofs.lemmas.Laws.{WorkKeeps, ProgressKeeps, begun-keeps, taken-keeps}
 use Rattle.tough_update.specs.declared.counts.Counts.{Counts}
 use Rattle.tough_trust.specs.Failure.{Failure, ParseMetadata, MaxUpdatesExceeded, Checked}
 use Rattle.tough_trust.specs.Walk.{first_root, next_root}

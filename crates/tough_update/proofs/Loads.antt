@@ -37,9 +37,10 @@ use Rattle.tough_update.specs.Delegated.{metas_in, is_reserved, if_found, grown_
 use Rattle.tough_trust.specs.Listed.{role_holder}
 use Rattle.tough_delegated.specs.Bare.{bare, top_page, held_as}
 use Rattle.tough_delegated.specs.Full.{fetch_order}
-use Rattle.tough_delegated.specs.Growing.{Metas, listed_as, Fetched, OpenDoc, Progress, wants, grown, begun, go_on}
+use Rattle.tough_delegated.specs.Numbered.{Nodes, last_document}
+use Rattle.tough_delegated.specs.Growing.{Metas, listed_as, Fetched, TaskDoc, Progress, wants, grown, begun, go_on}
 use Rattle.tough_delegated.proofs.lemmas.Bare.{top-bare}
-use Rattle.tough_delegated.proofs.lemmas.Full.{work, grows-whole}
+use Rattle.tough_delegated.proofs.lemmas.Laws.{work, grows-whole}
 use Rattle.tough_schema.specs.Delegations.{DelegationsDoc}
 use Rattle.tough_schema.specs.Tree.{Entry}
 use Rattle.tough_schema.specs.Search.{Names}
@@ -240,11 +241,11 @@ module _ (v : Verifies) (files : Files) (s : SettingDoc) (l : LoadedDoc) (able :
   count-turns n true = omega arith
   count-turns n false = omega arith
 
-  role-taken : (g : DelegationsDoc) (outer : List OpenDoc) (seen : Names) (here : HeldDoc) (f : Fetched) (e : Entry) (rest : List Entry) (page : SignedDoc TargetsDoc) (u : IsRoleServed v files s l.known g e.name page) → (top_doc here.below).delegations ≡ Some g
-      → Goes (e.name ∷ []) (wants (work outer seen here f (e ∷ rest)) u.entry) (go_on metas (work outer seen here (insert_entry (slice_cmp nat_cmp) f e.name (held_as e.name (bare page))) rest))
-  role-taken g outer seen here f e rest page u is n received h =
-      let w = work outer seen here f (e ∷ rest) in
-      let q = go_on metas (work outer seen here (insert_entry (slice_cmp nat_cmp) f e.name (held_as e.name (bare page))) rest) in
+  role-taken : (g : DelegationsDoc) (ns : Nodes) (outer : List TaskDoc) (seen : Names) (f : Fetched) (e : Entry) (rest : List Entry) (page : SignedDoc TargetsDoc) (u : IsRoleServed v files s l.known g e.name page) → (top_doc (last_document ns).below).delegations ≡ Some g
+      → Goes (e.name ∷ []) (wants (work ns outer seen f (e ∷ rest)) u.entry) (go_on metas (work ns outer seen (insert_entry (slice_cmp nat_cmp) f e.name (held_as e.name (bare page))) rest))
+  role-taken g ns outer seen f e rest page u is n received h =
+      let w = work ns outer seen f (e ∷ rest) in
+      let q = go_on metas (work ns outer seen (insert_entry (slice_cmp nat_cmp) f e.name (held_as e.name (bare page))) rest) in
       let r = role_request s.limits l.known.root.role.consistent_snapshot e.name u.entry in
       let bytes = u.document.bytes in
       let roles : RolesDoc = record { work = w; received = received } in
@@ -262,14 +263,14 @@ module _ (v : Verifies) (files : Files) (s : SettingDoc) (l : LoadedDoc) (able :
       subst (λ k. Leads k stage) turns
       (leads-turn (n + (if is_reserved r.name then 0 else 1)) stage (settled (role_stored s.limits l.known (with_received roles bytes) r.name (bare page))) (got.Bytes bytes) (λ x. cc) (gets-bytes r _ bytes u.document.served u.document.fits) moves stored)
 
-  taken-under : (g : Option DelegationsDoc) (outer : List OpenDoc) (seen : Names) (here : HeldDoc) (f : Fetched) (e : Entry) (rest : List Entry) (page : SignedDoc TargetsDoc) (u : U g e.name page) → (top_doc here.below).delegations ≡ g
-      → Goes (e.name ∷ []) (wants (work outer seen here f (e ∷ rest)) (served-entry g e.name page u).0) (go_on metas (work outer seen here (insert_entry (slice_cmp nat_cmp) f e.name (held_as e.name (bare page))) rest))
+  taken-under : (g : Option DelegationsDoc) (ns : Nodes) (outer : List TaskDoc) (seen : Names) (f : Fetched) (e : Entry) (rest : List Entry) (page : SignedDoc TargetsDoc) (u : U g e.name page) → (top_doc (last_document ns).below).delegations ≡ g
+      → Goes (e.name ∷ []) (wants (work ns outer seen f (e ∷ rest)) (served-entry g e.name page u).0) (go_on metas (work ns outer seen (insert_entry (slice_cmp nat_cmp) f e.name (held_as e.name (bare page))) rest))
   unfolding served-entry
-  taken-under None outer seen here f e rest page u is = absurd u
-  taken-under (Some g) outer seen here f e rest page u is = role-taken g outer seen here f e rest page u is
+  taken-under None ns outer seen f e rest page u is = absurd u
+  taken-under (Some g) ns outer seen f e rest page u is = role-taken g ns outer seen f e rest page u is
 
   goes-whole : Goes (fetch_order l.targets.role) (begun metas (held_as [] (bare (top_page l.targets)))) (grown l.targets)
-  goes-whole = grows-whole metas U Goes goes-nowhere goes-on served-entry served-keyed (λ outer seen here f e rest page u. taken-under (top_doc here.below).delegations outer seen here f e rest page u refl) l.targets able.full able.delegated able.once
+  goes-whole = grows-whole metas U Goes goes-nowhere goes-on served-entry served-keyed (λ ns outer seen f e rest page u. taken-under (top_doc (last_document ns).below).delegations ns outer seen f e rest page u refl) l.targets able.full able.delegated able.once
 
   -- the tree is complete
   leads-grown : Grows 0 ([] ++ bytes_of (fetch_order l.targets.role)) (grown l.targets)

@@ -43,9 +43,9 @@ use Rattle.tough_delegated.specs.Once.{AreBare, Distinct, runs}
 use Rattle.tough_delegated.specs.Under.{page_of, Relation, Below, AllTaken}
 use Rattle.tough_delegated.specs.Listed.{WantsListed}
 use Rattle.tough_delegated.proofs.lemmas.Bare.{top-bare, bare-none}
-use Rattle.tough_delegated.proofs.lemmas.Once.{grows-once}
 use Rattle.tough_delegated.proofs.lemmas.Listed.{wanted-listed}
-use Rattle.tough_delegated.proofs.lemmas.Under.{stands-under, runs-more, all-more, bare-more}
+use Rattle.tough_delegated.proofs.lemmas.Under.{bare-more}
+use Rattle.tough_delegated.proofs.lemmas.Laws.{grows-once, stands-under, runs-more, all-more}
 use Rattle.tough_update.specs.Stages.{WalkDoc, BaseDoc, KnownDoc, WantedDoc, PendingDoc, ReceivedDoc, RolesDoc, StageDoc, SettingDoc}
 use Rattle.tough_update.specs.Stages as at
 use Rattle.tough_update.specs.Answered.{AnswerDoc}

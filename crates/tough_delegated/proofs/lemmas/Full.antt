@@ -23,7 +23,8 @@ use Rattle.tough_schema.specs.Search.{Names, no_names, add}
 use Rattle.tough_schema.specs.Fresh.{carriers, carriers_below}
 use Rattle.tough_schema.specs.Whole.{OwnDoc, TreeDoc, tree, Branches, no_branches, unloaded, loaded, branches_from, HeldDoc, RoleTree, entries_in, top_doc}
 use Rattle.tough_delegated.specs.Bare.{all_unloaded, bare_tree, bare, held_as}
-use Rattle.tough_delegated.specs.Growing.{Metas, listed_as, Look, wanted, look, Fetched, at_name, with_fetched, refilled, with_roles, OpenDoc, past, entered, by_turn, turns, WorkDoc, Progress, wants, grown, by_turns, settle, give, by_look, go_on, begun}
+use Rattle.tough_delegated.specs.Growing.{Metas, listed_as, Look, wanted, look, Fetched, at_name}
+use Rattle.tough_delegated.proofs.lemmas.Levels.{with_fetched, refilled, with_roles, OpenDoc, past, entered, by_turn, turns, WorkDoc, Progress, wants, grown, by_turns, settle, give, by_look, go_on, begun}
 use Rattle.tough_delegated.specs.Once.{is_among, Distinct}
 use Rattle.tough_delegated.specs.Under.{Relation, Under, Below}
 use Rattle.tough_delegated.specs.Full.{AreFull, IsFull, names_of, fetch_order, inner_order}

@@ -1,12 +1,13 @@
 -- What is wanted is listed.
-use Rattle.std.proofs.Common.{◌≡◌, ℕ, List, [], ◌∷◌, ◌++◌, Bool, true, false, if◌then◌else◌, Option, Some, None, refl, ap, sym, ◌∙◌, subst, append_assoc}
+use Rattle.std.proofs.Common.{◌≡◌, ℕ, suc, drop, List, [], ◌∷◌, ◌++◌, Bool, true, false, if◌then◌else◌, Option, Some, None, refl, sym, ◌∙◌, subst, append_assoc}
 use Rattle.std.specs.Bool.{⊤}
 use Rattle.tough_roles.specs.Timestamp.{MetafileDoc}
 use Rattle.tough_schema.specs.Tree.{Entry}
 use Rattle.tough_schema.specs.Update.{listed_roles}
-use Rattle.tough_schema.specs.Search.{Names, no_names, add}
-use Rattle.tough_schema.specs.Whole.{HeldDoc, RoleTree}
-use Rattle.tough_delegated.specs.Growing.{Metas, Look, through, unlisted, wanted, look, looked, listed_as, with_fetched, with_roles, OpenDoc, Turn, past, stopped, entered, turn, Turns, all_past, stopped_at, by_turn, turns, WorkDoc, Progress, wants, grown, by_turns, taken_up, settle, give, by_look, go_on, first_work, begun, with_taken, taken}
+use Rattle.tough_schema.specs.Search.{Names, add}
+use Rattle.tough_schema.specs.Whole.{HeldDoc}
+use Rattle.tough_delegated.specs.Numbered.{NodeDoc, Nodes, also, last_number, last_document, roles_at}
+use Rattle.tough_delegated.specs.Growing.{Metas, Look, through, unlisted, wanted, look, looked, listed_as, offered, fetched_for, fetched_after, Fetched, TaskDoc, Turn, past, stopped, entered, turn, Turns, all_past, stopped_at, by_turn, turns, resumed, WorkDoc, here, Progress, wants, grown, by_turns, settle, by_look, go_on, first_work, begun, with_taken, taken}
 use Rattle.tough_delegated.specs.Listed.{IsListed, WantsListed}
 use Rattle.tough_delegated.specs.Once.{runs}
 
@@ -40,63 +41,56 @@ module _ (metas : Metas) where
   -- ---- the turns
 
   abbrev TurnListed : Turn → Type 0
-  TurnListed (past r l) = ⊤
-  TurnListed (stopped e h waiting m l) = IsListed metas (listed_roles h.below) waiting m
+  TurnListed (past ns l) = ⊤
+  TurnListed (stopped ns waiting m l) = IsListed metas (listed_roles (last_document ns).below) waiting m
 
   abbrev TurnsListed : Turns → Type 0
-  TurnsListed (all_past h l) = ⊤
-  TurnsListed (stopped_at o here waiting m l) = IsListed metas (listed_roles here.below) waiting m
+  TurnsListed (all_past ns l) = ⊤
+  TurnsListed (stopped_at ns t waiting m l) = IsListed metas (listed_roles (last_document ns).below) waiting m
 
-  entered-listed : (e : Entry) (h : HeldDoc) (l : Names) (k : Look) → LookListed (listed_roles h.below) k → TurnListed (entered e h l k)
-  entered-listed e h l through x = tt
-  entered-listed e h l (unlisted n) x = tt
-  entered-listed e h l (wanted waiting m) x = x
+  entered-listed : (ns : Nodes) (l : Names) (k : Look) → LookListed (listed_roles (last_document ns).below) k → TurnListed (entered ns l k)
+  entered-listed ns l through x = tt
+  entered-listed ns l (unlisted n) x = tt
+  entered-listed ns l (wanted waiting m) x = x
 
-  turn-on : (b : Bool) (s t : Turn) → TurnListed s → TurnListed t → TurnListed (if b then s else t)
-  turn-on true s t x y = x
-  turn-on false s t x y = y
+  turn-listed : (l : Names) (ns : Nodes) (e : Entry) (o : Option NodeDoc) → TurnListed (turn metas l ns e o)
+  turn-listed l ns e None = tt
+  turn-listed l ns e (Some n) =
+      let all = listed_roles n.document.below in entered-listed (also ns n) (add e.name l) (look metas (add e.name l) all) (look-listed all all (add e.name l) ([], refl))
 
-  turn-listed : (l : Names) (r : RoleTree) → TurnListed (turn metas l r)
-  turn-listed l (e, None) = tt
-  turn-listed l (e, Some h) =
-      let k = look metas (add e.name l) (listed_roles h.below) in
-      turn-on (l e.name) (past (e, None) l) (entered e h (add e.name l) k) tt (entered-listed e h (add e.name l) k (look-listed (listed_roles h.below) (listed_roles h.below) (add e.name l) ([], refl)))
+  by_turn-listed : (left : TaskDoc) (t : Turn) (next : Nodes → Names → Turns) → TurnListed t → ((ns : Nodes) (l : Names) → TurnsListed (next ns l)) → TurnsListed (by_turn left t next)
+  by_turn-listed left (past ns l) next h k = k ns l
+  by_turn-listed left (stopped ns waiting m l) next h k = h
 
-  by_turn-listed : (d : HeldDoc) (done left : List RoleTree) (t : Turn) (next : RoleTree → Names → Turns) → TurnListed t → ((r : RoleTree) (l : Names) → TurnsListed (next r l)) → TurnsListed (by_turn d done left t next)
-  by_turn-listed d done left (past r l) next h k = k r l
-  by_turn-listed d done left (stopped e here waiting m l) next h k = h
-
-  turns-listed : (d : HeldDoc) (left done : List RoleTree) (l : Names) → TurnsListed (turns metas l d done left)
-  turns-listed d [] done l = tt
-  turns-listed d (r ∷ left) done l = by_turn-listed d done left (turn metas l r) (λ s k. turns metas k d (done ++ s ∷ []) left) (turn-listed l r) (λ s k. turns-listed d left (done ++ s ∷ []) k)
+  turns-listed : (ns : Nodes) (p k : ℕ) (f : Fetched) (es : List Entry) (l : Names) → TurnsListed (turns metas l ns p k f es)
+  turns-listed ns p k f [] l = tt
+  turns-listed ns p k f (e ∷ es) l =
+      by_turn-listed (record { node = p; at = suc k; fetched = fetched_after e f }) (turn metas l ns e (offered l p k e (fetched_for e f)))
+      (λ ms j. turns metas j ms p (suc k) (fetched_after e f) es) (turn-listed l ns e (offered l p k e (fetched_for e f)))
+      (λ ms j. turns-listed ms p (suc k) (fetched_after e f) es j)
 
   -- ---- outwards
 
-  by_turns-listed : (outer : List OpenDoc) (t : Turns) (next : HeldDoc → Names → Progress) → TurnsListed t → ((d : HeldDoc) (l : Names) → WantsListed metas (next d l)) → WantsListed metas (by_turns outer t next)
-  by_turns-listed outer (all_past d l) next h k = k d l
-  by_turns-listed outer (stopped_at o here waiting m l) next h k = h
+  by_turns-listed : (outer : List TaskDoc) (t : Turns) (next : Nodes → Names → Progress) → TurnsListed t → ((ns : Nodes) (l : Names) → WantsListed metas (next ns l)) → WantsListed metas (by_turns outer t next)
+  by_turns-listed outer (all_past ns l) next h k = k ns l
+  by_turns-listed outer (stopped_at ns t waiting m l) next h k = h
 
-  settle-listed : (outer : List OpenDoc) (h : HeldDoc) (l : Names) → WantsListed metas (settle metas l h outer)
-  settle-listed [] h l = tt
-  settle-listed (o ∷ outer) h l =
-      by_turns-listed outer (taken_up metas l h o) (λ d n. settle metas n d outer) (turns-listed o.document o.left (o.done ++ (o.role, Some h) ∷ []) l) (λ d n. settle-listed outer d n)
+  settle-listed : (outer : List TaskDoc) (ns : Nodes) (l : Names) → WantsListed metas (settle metas l ns outer)
+  settle-listed [] ns l = tt
+  settle-listed (t ∷ outer) ns l =
+      by_turns-listed outer (resumed metas l ns t) (λ ms j. settle metas j ms outer) (turns-listed ns t.node t.at t.fetched (drop t.at (roles_at t.node ns)) l) (λ ms j. settle-listed outer ms j)
 
-  give-listed : (w : WorkDoc) → WantsListed metas (give metas w)
-  give-listed w =
-      by_turns-listed w.outer (turns metas w.loaded (with_roles [] w.here) [] (with_fetched w.fetched (listed_roles w.here.below))) (λ d l. settle metas l d w.outer)
-      (turns-listed (with_roles [] w.here) (with_fetched w.fetched (listed_roles w.here.below)) [] w.loaded) (λ d l. settle-listed w.outer d l)
-
-  by_look-listed : (w : WorkDoc) (k : Look) → LookListed (listed_roles w.here.below) k → WantsListed metas (by_look metas w k)
-  by_look-listed w through h = give-listed w
-  by_look-listed w (unlisted n) h = settle-listed w.outer w.here (add n w.loaded)
+  by_look-listed : (w : WorkDoc) (k : Look) → LookListed (listed_roles (here w).below) k → WantsListed metas (by_look metas w k)
+  by_look-listed w through h = settle-listed (record { node = last_number w.nodes; at = 0; fetched = w.fetched } ∷ w.outer) w.nodes w.loaded
+  by_look-listed w (unlisted n) h = settle-listed w.outer w.nodes (add n w.loaded)
   by_look-listed w (wanted waiting m) h = h
 
-  go_on-listed : (w : WorkDoc) → Ends (listed_roles w.here.below) w.waiting → WantsListed metas (go_on metas w)
-  go_on-listed w h = by_look-listed w (look metas w.loaded w.waiting) (look-listed (listed_roles w.here.below) w.waiting w.loaded h)
+  go_on-listed : (w : WorkDoc) → Ends (listed_roles (here w).below) w.waiting → WantsListed metas (go_on metas w)
+  go_on-listed w h = by_look-listed w (look metas w.loaded w.waiting) (look-listed (listed_roles (here w).below) w.waiting w.loaded h)
 
-  with_taken-ends : (w : WorkDoc) (waiting : List Entry) (h : HeldDoc) → waiting ≡ w.waiting → Ends (listed_roles w.here.below) waiting → Ends (listed_roles (with_taken w waiting h).here.below) (with_taken w waiting h).waiting
-  with_taken-ends w [] h is x = subst (Ends (listed_roles w.here.below)) is x
-  with_taken-ends w (e ∷ rest) h is x = next-ends (listed_roles w.here.below) e rest x
+  with_taken-ends : (w : WorkDoc) (waiting : List Entry) (h : HeldDoc) → waiting ≡ w.waiting → Ends (listed_roles (here w).below) waiting → Ends (listed_roles (here (with_taken w waiting h)).below) (with_taken w waiting h).waiting
+  with_taken-ends w [] h is x = subst (Ends (listed_roles (here w).below)) is x
+  with_taken-ends w (e ∷ rest) h is x = next-ends (listed_roles (here w).below) e rest x
 
   begun-listed : (top : HeldDoc) → WantsListed metas (begun metas top)
   begun-listed top = go_on-listed (first_work top) ([], refl)

@@ -8,14 +8,15 @@ use Rattle.std.specs.BTreeMap.{insert_entry}
 use Rattle.std.specs.Ordering.{match_ordering}
 use Rattle.std.proofs.lemmas.Slice.Eq.{bytes_eq-Decides}
 use Rattle.tough_roles.specs.Signature.{SignedDoc}
-use Rattle.tough_roles.specs.Timestamp.{MetafileDoc}
 use Rattle.tough_schema.specs.Tree.{Entry}
 use Rattle.tough_schema.specs.Update.{listed_roles}
 use Rattle.tough_schema.specs.Search.{Names, no_names, add}
-use Rattle.tough_schema.specs.Whole.{OwnDoc, TreeDoc, tree, Branches, put_branch, branches_from, HeldDoc, RoleTree}
-use Rattle.tough_delegated.specs.Growing.{Metas, Look, through, unlisted, wanted, look, Fetched, at_name, with_fetched, refilled, with_roles, OpenDoc, Turn, past, stopped, entered, turn, Turns, all_past, stopped_at, by_turn, turns, WorkDoc, Progress, wants, grown, by_turns, taken_up, settle, give, by_look, go_on, first_work, begun, with_taken, taken}
+use Rattle.tough_schema.specs.Whole.{TreeDoc, tree, Branches, put_branch, branches_from, HeldDoc, RoleTree}
+use Rattle.tough_delegated.specs.Growing.{Metas, Look, through, unlisted, wanted, look, Fetched, at_name}
+use Rattle.tough_delegated.proofs.lemmas.Levels.{with_fetched, refilled, with_roles, OpenDoc, Turn, past, stopped, entered, turn, Turns, all_past, stopped_at, by_turn, turns, WorkDoc, Progress, wants, grown, by_turns, taken_up, settle, give, by_look, first_work, begun, with_taken, taken}
 use Rattle.tough_schema.specs.Fresh.{carriers, carriers_below}
-use Rattle.tough_delegated.specs.Once.{is_among, Distinct, IsBare, AreBare, runs}
+use Rattle.tough_delegated.specs.Once.{is_among, Distinct, IsBare, AreBare}
+use Rattle.tough_delegated.proofs.lemmas.Levels.{runs}
 
 -- ---- marked names
 
@@ -115,7 +116,7 @@ emptied-bare (tree o bs) h = emptied (is_some o.keys) bs h
 
 -- ---- roles whose documents are bare
 
-abbrev BareAt : RoleTree → Type 0
+abbrev pub BareAt : RoleTree → Type 0
 BareAt (e, None) = ⊤
 BareAt (e, Some h) = IsBare h
 
@@ -123,7 +124,7 @@ abbrev BareRoles : List RoleTree → Type 0
 BareRoles [] = ⊤
 BareRoles (r ∷ rs) = BareAt r × BareRoles rs
 
-abbrev BareFetched : Fetched → Type 0
+abbrev pub BareFetched : Fetched → Type 0
 BareFetched [] = ⊤
 BareFetched (f ∷ fs) = IsBare f.1 × BareFetched fs
 
@@ -131,7 +132,7 @@ found-bare : (e : Entry) (b : Bool) (h : HeldDoc) (o : Option HeldDoc) → IsBar
 found-bare e true h o x y = x
 found-bare e false h o x y = y
 
-lookup-bare : (e : Entry) (n : List ℕ) (fs : Fetched) → BareFetched fs → BareAt (e, lookup (at_name n) fs)
+pub lookup-bare : (e : Entry) (n : List ℕ) (fs : Fetched) → BareFetched fs → BareAt (e, lookup (at_name n) fs)
 lookup-bare e n [] h = tt
 lookup-bare e n (f ∷ fs) h = found-bare e (at_name n f.0) f.1 (lookup (at_name n) fs) h.0 (lookup-bare e n fs h.1)
 
@@ -139,7 +140,7 @@ left-bare : (b : Bool) (f : List ℕ × HeldDoc) (fs gs : Fetched) → IsBare f.
 left-bare true f fs gs x y z = y
 left-bare false f fs gs x y z = (x, z)
 
-removed-bare : (n : List ℕ) (fs : Fetched) → BareFetched fs → BareFetched (remove_entry (at_name n) fs)
+pub removed-bare : (n : List ℕ) (fs : Fetched) → BareFetched fs → BareFetched (remove_entry (at_name n) fs)
 removed-bare n [] h = tt
 removed-bare n (f ∷ fs) h = left-bare (at_name n f.0) f fs (remove_entry (at_name n) fs) h.0 h.1 (removed-bare n fs h.1)
 
@@ -153,7 +154,7 @@ put-bare Less f n h fs gs x y z w = (y, (x, z))
 put-bare Equal f n h fs gs x y z w = (y, z)
 put-bare Greater f n h fs gs x y z w = (x, w)
 
-inserted-bare : (n : List ℕ) (h : HeldDoc) (fs : Fetched) → IsBare h → BareFetched fs → BareFetched (insert_entry (slice_cmp nat_cmp) fs n h)
+pub inserted-bare : (n : List ℕ) (h : HeldDoc) (fs : Fetched) → IsBare h → BareFetched fs → BareFetched (insert_entry (slice_cmp nat_cmp) fs n h)
 inserted-bare n h [] x y = (x, tt)
 inserted-bare n h (f ∷ fs) x y = put-bare (slice_cmp nat_cmp n f.0) f n h fs (insert_entry (slice_cmp nat_cmp) fs n h) y.0 x y.1 (inserted-bare n h fs x y.1)
 

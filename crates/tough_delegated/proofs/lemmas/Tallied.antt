@@ -17,18 +17,19 @@ use Rattle.tough_schema.specs.Entries.{entries}
 use Rattle.tough_schema.specs.Preorder.{preorder, preorder_below}
 use Rattle.tough_schema.specs.Whole.{TreeDoc, tree, Branches, no_branches, unloaded, loaded, branches_from, HeldDoc, RoleTree, entries_in}
 use Rattle.tough_delegated.specs.Bare.{bare_tree}
-use Rattle.tough_delegated.specs.Growing.{Metas, listed_as, Look, through, unlisted, wanted, look, looked, Fetched, at_name, with_fetched, refilled, with_roles, OpenDoc, Turn, past, stopped, entered, turn, Turns, all_past, stopped_at, by_turn, turns, WorkDoc, Progress, wants, grown, by_turns, taken_up, settle, give, by_look, go_on, first_work, begun, with_taken}
-use Rattle.tough_delegated.specs.Tallies.{tally_role, tally_roles, tally_open, tally_opens, tally_work}
+use Rattle.tough_delegated.specs.Growing.{Metas, listed_as, Look, through, unlisted, wanted, look, looked, Fetched, at_name}
+use Rattle.tough_delegated.proofs.lemmas.Levels.{with_fetched, refilled, with_roles, OpenDoc, Turn, past, stopped, entered, turn, Turns, all_past, stopped_at, by_turn, turns, WorkDoc, Progress, wants, grown, by_turns, taken_up, settle, give, by_look, go_on, first_work, begun, with_taken}
+use Rattle.tough_delegated.proofs.lemmas.Levels.{tally_role, tally_roles, tally_open, tally_opens, tally_work}
 
 -- ---- how many roles a tree has
 
 abbrev mutual
-  size : Branches → ℕ
+  pub size : Branches → ℕ
   size no_branches = 0
   size (unloaded e bs) = suc (size bs)
   size (loaded e name signatures t bs) = suc (size_below t + size bs)
 
-  size_below : TreeDoc → ℕ
+  pub size_below : TreeDoc → ℕ
   size_below (tree o bs) = size bs
 
 mutual
@@ -44,7 +45,7 @@ mutual
   below-size : (k : ℕ) (t : TreeDoc) → length (preorder_below k t) ≡ size_below t
   below-size k (tree o bs) = preorder-size k bs
 
-entries-size : (t : TreeDoc) → length (entries t) ≡ size_below t
+pub entries-size : (t : TreeDoc) → length (entries t) ≡ size_below t
 entries-size t = length-map (preorder_below 0 t) (λ o. o.role) ∙ below-size 0 t
 
 listed-in : (bs : Branches) → length (entries_in bs) ≤ size bs
@@ -60,7 +61,7 @@ roles-last : (rs : List RoleTree) (r : RoleTree) → tally_roles (rs ++ r ∷ []
 roles-last [] r = omega arith
 roles-last (x ∷ rs) r = omega (arith, roles-last rs r)
 
-roles-size : (rs : List RoleTree) → size (branches_from rs) ≡ tally_roles rs
+pub roles-size : (rs : List RoleTree) → size (branches_from rs) ≡ tally_roles rs
 roles-size [] = refl
 roles-size ((e, None) ∷ rs) = omega (arith, roles-size rs)
 roles-size ((e, Some h) ∷ rs) = omega (arith, roles-size rs, entries-size h.below)

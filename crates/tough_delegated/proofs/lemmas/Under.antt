@@ -2,7 +2,6 @@
 use Rattle.std.proofs.Common.{◌≡◌, ℕ, List, [], ◌∷◌, ◌++◌, map, Bool, true, false, if◌then◌else◌, cond, Option, Some, None, is_some, option_map, nat_cmp, Ordering, Less, Equal, Greater, refl, ap, sym, ◌∙◌, subst, append_assoc, append-nil}
 use Rattle.std.specs.Bool.{⊤}
 use Rattle.std.specs.Prelude.{IfSome}
-use Rattle.std.specs.Str.{bytes_eq}
 use Rattle.std.specs.Cmp.Lexicographic.{slice_cmp}
 use Rattle.std.specs.Map.{lookup, remove_entry}
 use Rattle.std.specs.BTreeMap.{insert_entry}
@@ -18,11 +17,14 @@ use Rattle.tough_schema.specs.Tree.{Entry}
 use Rattle.tough_schema.specs.Update.{listed_roles}
 use Rattle.tough_schema.specs.Search.{Names, no_names, add}
 use Rattle.tough_schema.specs.Whole.{OwnDoc, TreeDoc, tree, Branches, no_branches, unloaded, loaded, put_branch, branches_from, entries_in, HeldDoc, RoleTree, top_doc}
-use Rattle.tough_delegated.specs.Growing.{Metas, Look, through, unlisted, wanted, look, looked, listed_as, Fetched, at_name, with_fetched, refilled, with_roles, OpenDoc, Turn, past, stopped, entered, turn, Turns, all_past, stopped_at, by_turn, turns, WorkDoc, Progress, wants, grown, by_turns, taken_up, settle, give, by_look, go_on, first_work, begun, with_taken, taken, first_of, holder_of}
+use Rattle.tough_delegated.specs.Growing.{Metas, Look, through, unlisted, wanted, look, Fetched, at_name, first_of}
+use Rattle.tough_delegated.proofs.lemmas.Levels.{with_fetched, refilled, with_roles, OpenDoc, Turn, past, stopped, entered, turn, Turns, all_past, stopped_at, by_turn, turns, WorkDoc, Progress, wants, grown, by_turns, taken_up, settle, give, by_look, first_work, begun, with_taken, taken, holder_of}
 use Rattle.tough_schema.specs.Fresh.{carriers, carriers_below}
-use Rattle.tough_delegated.specs.Once.{IsBare, AreBare, runs}
+use Rattle.tough_delegated.specs.Once.{IsBare, AreBare}
+use Rattle.tough_delegated.proofs.lemmas.Levels.{runs}
 use Rattle.tough_delegated.specs.Bare.{top_page}
-use Rattle.tough_delegated.specs.Under.{page_of, Relation, Under, Below, AllTaken}
+use Rattle.tough_delegated.specs.Under.{page_of, Relation, Under, Below}
+use Rattle.tough_delegated.proofs.lemmas.Levels.{AllTaken}
 
 abbrev entries : List RoleTree → List Entry
 entries rs = map (λ r. r.0) rs

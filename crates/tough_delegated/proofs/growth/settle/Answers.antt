@@ -2,48 +2,51 @@ use Rattle.std.proofs.Common.{rules, ◌≡◌, [], ◌∷◌, map, ap, sym, ◌
 use Rattle.tough_roles.specs.Signature.{SignedDoc}
 use Rattle.tough_roles.specs.Timestamp.{metafile_doc}
 use Rattle.tough_schema.specs.Walk.{names_in}
-use Rattle.tough_schema.specs.Whole.{TreeDoc, held_doc}
-use Rattle.tough_delegated.specs.Growing.{Progress, wants, grown, settle}
-use Rattle.tough_delegated.specs.View.{metas_of, waiting_in, open_doc, opens_doc, turns_doc, progress_doc}
+use Rattle.tough_schema.specs.Whole.{TreeDoc}
+use Rattle.tough_delegated.specs.Growing.{Progress, wants, grown, all_past, stopped_at, resumed, settle}
+use Rattle.tough_delegated.specs.View.{metas_of, waiting_in, nodes_doc, task_doc, progress_doc}
 use Rattle.tough_delegated.proofs.Turning.{if_ok-to, settle-past, settle-stopped}
 use Rattle.tough_delegated.proofs.growth.settle.Goals as goal
 
-pub returns-in-Stopped : goal.returns-in-Stopped
-returns-in-Stopped c =
+pub returns-in-Some-2 : goal.returns-in-Some-2
+returns-in-Some-2 c =
     let metas = metas_of c.args.snapshot.now in
-    let names = names_in c.loop-level.loaded in
-    let more = names_in c.take_up.new.loaded in
-    let h = held_doc c.loop-level.finished in
+    let names = names_in c.loop-task.loaded in
+    let more = names_in c.take_turns.new.loaded in
+    let ns = nodes_doc c.loop-task.nodes in
+    let ms = nodes_doc c.take_turns.new.nodes in
     let outer = c.pop_front.new.self.items in
-    let level = c.in-Some.level in
-    let here = c.in-Stopped.here in
-    let waiting = waiting_in here c.in-Stopped.at in
-    let m = metafile_doc c.in-Stopped.entry.now in
-    let popped : c.loop-level.outer.items ≡ level ∷ outer = search rules in
-    let next : Progress = wants (record { outer = open_doc c.in-Stopped.inner ∷ opens_doc outer; loaded = more; here = held_doc here; fetched = []; waiting = waiting }) m in
-    if_ok-to c.stop.result (λ p. progress_doc p ≡ next)
-    (λ p. progress_doc p ≡ settle metas (names_in c.args.loaded) (held_doc c.args.finished) (opens_doc c.args.outer.items))
+    let task = c.in-Some.task in
+    let stop = c.in-Some-2.stop in
+    let waiting = waiting_in ms stop.at in
+    let m = metafile_doc stop.entry.now in
+    let popped : c.loop-task.outer.items ≡ task ∷ outer = search rules in
+    let went : stopped_at ms (task_doc stop.task) waiting m more ≡ resumed metas names ns (task_doc task) = search rules in
+    let next : Progress = wants (record { nodes = ms; outer = task_doc stop.task ∷ map task_doc outer; loaded = more; fetched = []; waiting = waiting }) m in
+    if_ok-to c.stop_at.result (λ p. progress_doc p ≡ next)
+    (λ p. progress_doc p ≡ settle metas (names_in c.args.loaded) (nodes_doc c.args.nodes) (map task_doc c.args.outer.items))
     (λ p is. is
-    ∙ settle-stopped metas names more h (held_doc here) (open_doc level) (open_doc c.in-Stopped.inner) (opens_doc outer) waiting m
-    (sym (ap (turns_doc more) c.in-Stopped.is) ∙ c.in_ok-document.ensures)
-    ∙ ap (λ os. settle metas names h (opens_doc os)) (sym popped) ∙ c.loop-level.invariant) c.stop.ensures
+    ∙ settle-stopped metas names more ns ms (task_doc task) (task_doc stop.task) (map task_doc outer) waiting m went
+    ∙ ap (λ ts. settle metas names ns (map task_doc ts)) (sym popped) ∙ c.loop-task.invariant) c.stop_at.ensures
 
-pub loop-level-preserved : goal.loop-level-preserved
-loop-level-preserved c =
+pub loop-task-preserved : goal.loop-task-preserved
+loop-task-preserved c =
     let metas = metas_of c.args.snapshot.now in
-    let names = names_in c.loop-level.loaded in
-    let more = names_in c.take_up.new.loaded in
-    let h = held_doc c.loop-level.finished in
+    let names = names_in c.loop-task.loaded in
+    let more = names_in c.take_turns.new.loaded in
+    let ns = nodes_doc c.loop-task.nodes in
+    let ms = nodes_doc c.take_turns.new.nodes in
     let outer = c.pop_front.new.self.items in
-    let level = c.in-Some.level in
-    let popped : c.loop-level.outer.items ≡ level ∷ outer = search rules in
-    settle-past metas names more h (held_doc c.in-Past.document) (open_doc level) (opens_doc outer) (sym (ap (turns_doc more) c.in-Past.is) ∙ c.in_ok-document.ensures)
-    ∙ ap (λ os. settle metas names h (opens_doc os)) (sym popped) ∙ c.loop-level.invariant
+    let task = c.in-Some.task in
+    let popped : c.loop-task.outer.items ≡ task ∷ outer = search rules in
+    let went : all_past ms more ≡ resumed metas names ns (task_doc task) = search rules in
+    settle-past metas names more ns ms (task_doc task) (map task_doc outer) went
+    ∙ ap (λ ts. settle metas names ns (map task_doc ts)) (sym popped) ∙ c.loop-task.invariant
 
 pub returns : goal.returns
 returns c =
     let metas = metas_of c.args.snapshot.now in
-    let names = names_in c.loop-level.loaded in
-    let h = held_doc c.loop-level.finished in
-    let ended : c.loop-level.outer.items ≡ [] = search rules in
-    ap (λ (s : SignedDoc TreeDoc). grown s) c.unnamed.ensures ∙ ap (λ os. settle metas names h (opens_doc os)) (sym ended) ∙ c.loop-level.invariant
+    let names = names_in c.loop-task.loaded in
+    let ns = nodes_doc c.loop-task.nodes in
+    let ended : c.loop-task.outer.items ≡ [] = search rules in
+    ap (λ (s : SignedDoc TreeDoc). grown s) c.into_tree.ensures ∙ ap (λ ts. settle metas names ns (map task_doc ts)) (sym ended) ∙ c.loop-task.invariant

@@ -1,14 +1,13 @@
-use Rattle.std.proofs.Common.{◌≡◌, length}
+use Rattle.std.proofs.Common.{◌≡◌, map, length}
 use Rattle.tough_schema.specs.Walk.{names_in}
-use Rattle.tough_schema.specs.Whole.{held_doc}
 use Rattle.tough_delegated.specs.Growing.{settle}
-use Rattle.tough_delegated.specs.View.{metas_of, opens_doc}
+use Rattle.tough_delegated.specs.View.{metas_of, nodes_doc, task_doc}
 use Rattle.tough_delegated.proofs.growth.settle.Given as goal
 
-abbrev pub invariant-loop-level : goal.invariant-loop-level
-invariant-loop-level l =
-    settle (metas_of l.fn.snapshot) (names_in l.loaded) (held_doc l.finished) (opens_doc l.outer.items)
-    ≡ settle (metas_of l.fn.snapshot) (names_in l.fn.loaded) (held_doc l.fn.finished) (opens_doc l.fn.outer.items)
+abbrev pub invariant-loop-task : goal.invariant-loop-task
+invariant-loop-task l =
+    settle (metas_of l.fn.snapshot) (names_in l.loaded) (nodes_doc l.nodes) (map task_doc l.outer.items)
+    ≡ settle (metas_of l.fn.snapshot) (names_in l.fn.loaded) (nodes_doc l.fn.nodes) (map task_doc l.fn.outer.items)
 
-abbrev pub decreases-loop-level : goal.decreases-loop-level
-decreases-loop-level l = length l.outer.items
+abbrev pub decreases-loop-task : goal.decreases-loop-task
+decreases-loop-task l = length l.outer.items

@@ -1,4 +1,4 @@
-use Rattle.tough_delegated.proofs.lemmas.Once.{grows-once}
+use Rattle.tough_delegated.proofs.lemmas.Laws.{grows-once}
 use Rattle.tough_delegated.proofs.laws.grows_once.Goals as goal
 
 pub returns : goal.returns

@@ -1,5 +1,5 @@
 use Rattle.std.specs.Prelude.{IsTrue}
-use Rattle.tough_delegated.proofs.lemmas.Under.{stands-under}
+use Rattle.tough_delegated.proofs.lemmas.Laws.{stands-under}
 use Rattle.tough_delegated.proofs.laws.grows_under.Goals as goal
 
 pub returns-clause-under : goal.returns-clause-under

@@ -1,10 +1,10 @@
-use Rattle.std.proofs.Common.{rules, ◌≡◌, true, false, Option, Some, None, option_map, string_bytes, sym, ◌∙◌}
+use Rattle.std.proofs.Common.{rules, ◌≡◌, true, false, Option, Some, None, string_bytes, sym, ◌∙◌}
 use Rattle.tough_roles.specs.Timestamp.{MetafileDoc, metafile_doc}
 use Rattle.tough_schema.specs.Walk.{names_in}
 use Rattle.tough_schema.specs.declared.delegations.DelegatedRole.{out-DelegatedRole}
 use Rattle.tough_delegated.specs.Growing.{listed_as}
 use Rattle.tough_delegated.specs.View.{metas_of}
-use Rattle.tough_delegated.proofs.Listing.{look-past, look-wanted, look-unlisted, look-end}
+use Rattle.tough_delegated.proofs.Listing.{look-past, look-wanted, look-unlisted}
 use Rattle.tough_delegated.proofs.look.look_from.Goals as goal
 
 pub returns-in-Some-2 : goal.returns-in-Some-2

@@ -1,10 +1,13 @@
-use Rattle.std.proofs.Common.{drop, ap, ◌∙◌}
+use Rattle.std.proofs.Common.{List, drop, ap, ◌∙◌}
+use Rattle.tough_schema.specs.Tree.{Entry}
 use Rattle.tough_delegated.specs.Growing.{first_of}
-use Rattle.tough_delegated.specs.View.{entries_of}
+use Rattle.tough_delegated.specs.View.{nodes_doc}
 use Rattle.tough_delegated.proofs.Listing.{first-at}
+use Rattle.tough_delegated.proofs.Turning.{listed-last}
 use Rattle.tough_delegated.proofs.growth.Growth.role.Goals as goal
 
 pub returns : goal.returns
 returns c =
-    first-at c.roles_of.result.now c.args.self.now.at c.get.result c.get.ensures.lookup
-    ∙ ap (λ rs. first_of (drop c.args.self.now.at (entries_of rs))) c.roles_of.ensures
+    let g = c.args.self.now in
+    first-at c.roles_of.result.now g.at c.get.result c.get.ensures.lookup
+    ∙ ap (λ (es : List Entry). first_of (drop g.at es)) (listed-last (nodes_doc g.nodes) c.last.result.now c.roles_of.result.now c.last.ensures c.roles_of.ensures)
