@@ -196,11 +196,10 @@ module _ (v : Verifies) (s : SettingDoc) where
     read-bounded (at.Timestamp b) r bytes t l = reading Next bad (ParseMetadata role.Timestamp (holds_json bytes)) (timestamp_in bytes) (λ d. at.Step (at.PutTimestamp b d)) (λ d. early l t)
     read-bounded (at.Snapshot b x listed) r bytes t l = reading Next bad (ParseMetadata role.Snapshot (holds_json bytes)) (snapshot_in bytes) (λ d. at.Step (at.PutSnapshot (known_of b x d) listed)) (λ d. early l t)
     read-bounded (at.Targets k listed) r bytes t l = and_then-fine Next bad (judged v s.enforced k.start (by_root k.root.role) listed bytes) (λ d. Ok (at.Step (at.PutTargets k d))) (λ d is.
-        let p = judged-ok v s.enforced k.start (by_root k.root.role) listed bytes d is in
-        (
-            early l t,
-            subst (λ (x : SignedDoc TreeDoc). IsKeyed x.role) (sym p.is) (bare-keyed p.page.role),
-            subst (λ (x : SignedDoc TreeDoc). IsUnloaded x.role) (sym p.is) (bare-none p.page),
+        let p = judged-ok v s.enforced k.start (by_root k.root.role) listed bytes d is in (
+          early l t,
+          subst (λ (x : SignedDoc TreeDoc). IsKeyed x.role) (sym p.is) (bare-keyed p.page.role),
+          subst (λ (x : SignedDoc TreeDoc). IsUnloaded x.role) (sym p.is) (bare-none p.page),
         ))
     read-bounded (at.Role k roles listed) r bytes t l =
         let kept = with_received roles bytes in
