@@ -1,5 +1,5 @@
 -- How far what an update counts may go.
-use Rattle.std.specs.Prelude.{◌≡◌, ◌≤◌, ◌<◌, ℕ, ◌+◌, ◌-◌, ◌^◌, ◌==◌, List, [], length, Option, Some, None, Bool, true, false, IsTrue, Result, Ok, Err, nat_lt, not, if◌then◌else◌}
+use Rattle.std.specs.Prelude.{◌≡◌, ◌≤◌, ◌<◌, ℕ, ◌+◌, ◌-◌, ◌^◌, List, [], length, Option, Some, None, Bool, true, false, IsTrue, Result, Ok, Err, nat_lt, if◌then◌else◌}
 use Rattle.std.proofs.Common.{refl, sym, ◌∙◌, ap, subst, inl, inr, arith}
 use Rattle.std.proofs.Math.Nat.{min-le_left}
 use Rattle.std.proofs.lemmas.Bool.{ltb-true}
@@ -7,7 +7,6 @@ use Rattle.tough_keys.specs.Same.{Verifies}
 use Rattle.tough_roles.specs.Signature.{SignedDoc}
 use Rattle.tough_roles.specs.Timestamp.{TimestampDoc, MetafileDoc}
 use Rattle.tough_roles.specs.declared.role_type.RoleType.TheVariants as role
-use Rattle.tough_vault.specs.Checks.{ExpiredMetadata, is_expired}
 use Rattle.tough_vault.specs.Documents.{timestamp_in, snapshot_in, metafile_in}
 use Rattle.tough_vault.specs.Files.{snapshot_file, targets_file}
 use Rattle.tough_names.specs.Named.{Named}
@@ -21,11 +20,10 @@ use Rattle.tough_delegated.proofs.lemmas.Bare.{bare-none}
 use Rattle.tough_delegated.proofs.lemmas.Tallied.{IsKeyed, bare-keyed}
 use Rattle.tough_delegated.proofs.lemmas.Laws.{WorkGrows, ProgressGrows, begun-grows, taken-grows, grows-more, grows-listed}
 use Rattle.tough_update.specs.declared.counts.Counts.{Counts}
-use Rattle.tough_trust.specs.Failure.{Failure, ParseMetadata, MaxUpdatesExceeded, Checked}
+use Rattle.tough_trust.specs.Failure.{Failure, ParseMetadata}
 use Rattle.tough_trust.specs.Walk.{first_root, next_root}
-use Rattle.tough_trust.specs.Outcomes.{holds_json, if_read}
-use Rattle.tough_trust.specs.Requests.{RequestDoc, root_request, timestamp_request}
-use Rattle.tough_trust.specs.Rotation.{is_rotated}
+use Rattle.tough_trust.specs.Outcomes.{holds_json}
+use Rattle.tough_trust.specs.Requests.{RequestDoc}
 use Rattle.tough_trust.specs.Listed.{by_root, judged}
 use Rattle.tough_update.specs.Delegated.{metas_in, is_reserved, if_found, grown_on, given, role_given, role_stored, with_received}
 use Rattle.tough_trust.specs.Listed.{wanted_name, role_holder}
@@ -33,7 +31,7 @@ use Rattle.tough_update.specs.Stages.{WalkDoc, BaseDoc, KnownDoc, WantedDoc, Pen
 use Rattle.tough_update.specs.Stages as at
 use Rattle.tough_update.specs.Answered.{AnswerDoc}
 use Rattle.tough_update.specs.Answered as got
-use Rattle.tough_update.specs.Machine.{walked, base_of, walk_ended, want_snapshot, known_of, want_targets, read_wanted, after, stage_after}
+use Rattle.tough_update.specs.Machine.{walked, walk_ended, want_snapshot, known_of, want_targets, read_wanted, after, stage_after}
 use Rattle.tough_update.specs.Promises.{Goes}
 use Rattle.tough_update.specs.Counts.{none_yet, one_more, ends_fetch, with_fetch, with_tree}
 use Rattle.tough_update.specs.Counted.{Counted, Passes, HadAsMany, roles_listed, FetchesFew, KeepsAll}
@@ -225,8 +223,8 @@ module _ (v : Verifies) (s : SettingDoc) where
     step-bounded (at.PutTargets k d) t l =
         let none : m.delegated ≡ 0 = (early l t.0).1 in
         let top = held_as [] d in
-        grown-bounded k [] (begun (metas_in k) top) (subst (λ x. ProgressGrows x (begun (metas_in k) top)) (sym none) (begun-grows (metas_in k) top t.1.1 t.1.0))
-    step-bounded (at.PutDelegated k roles name d) t l = given-bounded k roles d (subst (Grows 1 roles.work) (sym l) t.0) t.1.0 t.1.1
+        grown-bounded k [] (begun (metas_in k) top) (subst (λ x. ProgressGrows x (begun (metas_in k) top)) (sym none) (begun-grows (metas_in k) top t.2 t.1))
+    step-bounded (at.PutDelegated k roles name d) t l = given-bounded k roles d (subst (Grows 1 roles.work) (sym l) t.0) t.1 t.2
 
     -- an answer that isn't waited for
     kept-counts : (more : Counts) (b : Bool) → b ≡ false → m ≡ (if b then more else n) → m ≡ n
@@ -245,7 +243,7 @@ module _ (v : Verifies) (s : SettingDoc) where
     same-bounded (at.Fetch (at.Snapshot b x listed) r) a e t l = early l t
     same-bounded (at.Step (at.PutSnapshot k listed)) a e t l = early l t
     same-bounded (at.Fetch (at.Targets k listed) r) a e t l = early l t
-    same-bounded (at.Step (at.PutTargets k d)) a e t l = (early l t.0, t.1)
+    same-bounded (at.Step (at.PutTargets k d)) a e t l = (early l t.0, t.1, t.2)
     same-bounded (at.Fetch (at.Role k roles listed) r) a e t l =
         subst (Grows 0 roles.work) (sym (kept-counts (more_delegated n) (ends_fetch a) (unended (at.Role k roles listed) r a e) l)) t
     same-bounded (at.Step (at.PutDelegated k roles name d)) a e t l = subst (λ x. Bounded x (at.Step (at.PutDelegated k roles name d))) (sym l) t

@@ -1,11 +1,10 @@
 -- That an update keeps no delegated document before it has succeeded, and then at most as many as the snapshot lists names.
-use Rattle.std.specs.Prelude.{◌≡◌, ◌≤◌, ⊤, ℕ, ◌+◌, ◌-◌, ◌^◌, ◌==◌, List, [], length, Option, Some, None, Bool, true, false, Result, Ok, Err, nat_lt, not, if◌then◌else◌}
+use Rattle.std.specs.Prelude.{◌≡◌, ◌≤◌, ⊤, ℕ, List, [], length, Option, Some, None, Bool, true, false, Result, Ok, Err, if◌then◌else◌}
 use Rattle.std.proofs.Common.{refl, sym, ◌∙◌, subst, inl, inr, arith}
 use Rattle.tough_keys.specs.Same.{Verifies}
 use Rattle.tough_roles.specs.Signature.{SignedDoc}
 use Rattle.tough_roles.specs.Timestamp.{TimestampDoc, MetafileDoc}
 use Rattle.tough_roles.specs.declared.role_type.RoleType.TheVariants as role
-use Rattle.tough_vault.specs.Checks.{ExpiredMetadata, is_expired}
 use Rattle.tough_vault.specs.Documents.{timestamp_in, snapshot_in, metafile_in}
 use Rattle.tough_vault.specs.Files.{snapshot_file, targets_file}
 use Rattle.tough_names.specs.Named.{Named}
@@ -18,11 +17,10 @@ use Rattle.tough_delegated.proofs.lemmas.Bare.{bare-none}
 use Rattle.tough_delegated.proofs.lemmas.Kept.{tree-few}
 use Rattle.tough_delegated.proofs.lemmas.Laws.{WorkKeeps, ProgressKeeps, begun-keeps, taken-keeps}
 use Rattle.tough_update.specs.declared.counts.Counts.{Counts}
-use Rattle.tough_trust.specs.Failure.{Failure, ParseMetadata, MaxUpdatesExceeded, Checked}
+use Rattle.tough_trust.specs.Failure.{Failure, ParseMetadata}
 use Rattle.tough_trust.specs.Walk.{first_root, next_root}
-use Rattle.tough_trust.specs.Outcomes.{holds_json, if_read}
-use Rattle.tough_trust.specs.Requests.{RequestDoc, root_request, timestamp_request}
-use Rattle.tough_trust.specs.Rotation.{is_rotated}
+use Rattle.tough_trust.specs.Outcomes.{holds_json}
+use Rattle.tough_trust.specs.Requests.{RequestDoc}
 use Rattle.tough_trust.specs.Listed.{by_root, judged}
 use Rattle.tough_update.specs.Delegated.{metas_in, is_reserved, if_found, grown_on, given, role_given, role_stored, with_received}
 use Rattle.tough_trust.specs.Listed.{wanted_name, role_holder}
@@ -30,7 +28,7 @@ use Rattle.tough_update.specs.Stages.{WalkDoc, BaseDoc, KnownDoc, WantedDoc, Pen
 use Rattle.tough_update.specs.Stages as at
 use Rattle.tough_update.specs.Answered.{AnswerDoc}
 use Rattle.tough_update.specs.Answered as got
-use Rattle.tough_update.specs.Machine.{walked, base_of, walk_ended, want_snapshot, known_of, want_targets, read_wanted, after, stage_after}
+use Rattle.tough_update.specs.Machine.{walked, walk_ended, want_snapshot, known_of, want_targets, read_wanted, after, stage_after}
 use Rattle.tough_update.specs.Promises.{Goes}
 use Rattle.tough_update.specs.Counts.{none_yet, one_more, ends_fetch, with_fetch, with_tree}
 use Rattle.tough_update.specs.Counted.{Counted, HadAsMany, names_listed, KeepsFew}

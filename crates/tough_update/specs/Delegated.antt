@@ -1,13 +1,12 @@
 -- The documents of delegated roles, as an update fetches them (TUF specification 1.0, section 5.6.7).
-use Rattle.std.specs.Prelude.{ℕ, List, [], ◌∷◌, ◌++◌, Option, Some, None, Bool, ◌||◌, if◌then◌else◌, Result, Ok, Err}
+use Rattle.std.specs.Prelude.{ℕ, List, [], ◌∷◌, ◌++◌, Option, Bool, ◌||◌, if◌then◌else◌, Result, Ok}
 use Rattle.std.specs.Str.{bytes_eq}
 use Rattle.tough_names.specs.Named.{Named}
 use Rattle.tough_keys.specs.Same.{Verifies}
 use Rattle.tough_roles.specs.Signature.{SignedDoc}
-use Rattle.tough_schema.specs.Tree.{Entry}
 use Rattle.tough_schema.specs.Whole.{TreeDoc}
 use Rattle.tough_schema.specs.Entries.{first_missing}
-use Rattle.tough_delegated.specs.Growing.{Metas, WorkDoc, Progress, wants, grown, holder_of, first_work, with_taken, go_on}
+use Rattle.tough_delegated.specs.Growing.{Metas, WorkDoc, Progress, wants, grown, first_work, with_taken, go_on}
 use Rattle.tough_delegated.specs.Bare.{held_as}
 use Rattle.tough_vault.specs.Files.{time_file, root_file, timestamp_file, snapshot_file, targets_file}
 use Rattle.tough_trust.specs.declared.limits.Limits.{Limits}

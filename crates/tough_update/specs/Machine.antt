@@ -1,6 +1,6 @@
 -- An update as a machine (TUF specification 1.0, section 5): what is asked next, and what an answer makes of it. An answer of a kind that
 -- isn't waited for changes nothing.
-use Rattle.std.specs.Prelude.{ℕ, ℤ, ◌+◌, ◌-◌, ◌^◌, ◌==◌, List, Option, Some, None, Bool, true, false, not, nat_lt, if◌then◌else◌, Result, Ok, Err}
+use Rattle.std.specs.Prelude.{ℕ, ℤ, List, Option, Some, None, Bool, not, if◌then◌else◌, Result, Ok, Err}
 use Rattle.tough_keys.specs.Same.{Verifies}
 use Rattle.tough_roles.specs.Signature.{SignedDoc}
 use Rattle.tough_roles.specs.Timestamp.{TimestampDoc, MetafileDoc}
@@ -13,11 +13,11 @@ use Rattle.tough_vault.specs.Act.{Act}
 use Rattle.tough_vault.specs.Act as act
 use Rattle.tough_trust.specs.declared.limits.Limits.{Limits}
 use Rattle.tough_trust.specs.declared.fault.Fault.{Fault}
-use Rattle.tough_trust.specs.Failure.{Failure, ParseMetadata, MaxUpdatesExceeded, JoinUrl, Transport, Checked, Memory}
+use Rattle.tough_trust.specs.Failure.{Failure, ParseMetadata, Checked}
 use Rattle.tough_trust.specs.Walk.{first_root, next_root, next_request}
 use Rattle.tough_trust.specs.Faults.{fault_failure, ends_start, ends_stream}
 use Rattle.tough_trust.specs.Outcomes.{unless, if_read, holds_json, and_then}
-use Rattle.tough_trust.specs.Requests.{RequestDoc, root_request, timestamp_request, snapshot_request, targets_request}
+use Rattle.tough_trust.specs.Requests.{RequestDoc, timestamp_request, snapshot_request, targets_request}
 use Rattle.tough_trust.specs.Rotation.{is_rotated}
 use Rattle.tough_delegated.specs.Bare.{top_page}
 use Rattle.tough_trust.specs.Listed.{by_root, targets_text, judged}

@@ -1,7 +1,7 @@
 -- The machine of the program, seen as plain data.
-use Rattle.std.specs.Prelude.{List, Option, Some, None, Result, Ok, Err, option_map, map, string_bytes, ⊤}
-use Rattle.tough_roles.specs.Signature.{SignedDoc, signed_doc}
-use Rattle.tough_roles.specs.Root.{RootDoc, root_doc}
+use Rattle.std.specs.Prelude.{List, Option, Some, None, Result, Ok, Err, map, string_bytes}
+use Rattle.tough_roles.specs.Signature.{signed_doc}
+use Rattle.tough_roles.specs.Root.{root_doc}
 use Rattle.tough_roles.specs.declared.root.Root.{Root}
 use Rattle.tough_roles.specs.declared.signed.Signed.{Signed}
 use Rattle.tough_roles.specs.declared.timestamp.Timestamp.{Timestamp}
@@ -9,19 +9,12 @@ use Rattle.tough_roles.specs.declared.snapshot.Snapshot.{Snapshot}
 use Rattle.tough_schema.specs.declared.targets.Targets.{Targets}
 use Rattle.tough_roles.specs.Timestamp.{timestamp_doc}
 use Rattle.tough_roles.specs.Snapshot.{snapshot_doc}
-use Rattle.tough_schema.specs.Targets.{targets_doc}
 use Rattle.tough_schema.specs.Whole.{tree_doc}
 use Rattle.tough_delegated.specs.View.{work_doc}
 use Rattle.tough_vault.specs.Checks.{enforces}
-use Rattle.tough_vault.specs.declared.checks.StepError.{StepError}
-use Rattle.tough_vault.specs.Act.{Act as ActDoc}
-use Rattle.tough_vault.specs.Act as act
-use Rattle.tough_vault.specs.Files.{targets_file}
 use Rattle.tough_vault.specs.DocumentName.{name_of}
-use Rattle.tough_trust.specs.Listed.{targets_text}
-use Rattle.tough_trust.specs.Failure.{Failure, failure_of, step_failure}
+use Rattle.tough_trust.specs.Failure.{Failure, failure_of}
 use Rattle.tough_trust.specs.declared.error.UpdateError.{UpdateError}
-use Rattle.tough_trust.specs.declared.request.Request.{Request}
 use Rattle.tough_update.specs.declared.ask.Ask.{Ask}
 use Rattle.tough_update.specs.declared.ask.Ask.TheVariants as wants
 use Rattle.tough_update.specs.declared.ask.Answer.{Answer}
