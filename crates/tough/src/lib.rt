@@ -43,4 +43,4 @@ pub use tough_net::{
     fetch_sha256,
 };
 pub use url::Url;
-pub use waiting::drive_on;
+pub use waiting::{drive_on, open_on};

@@ -1,20 +1,19 @@
 //! A repository is loaded over a transport.
 
 ghost use Rattle.std.specs.Prelude.{⊤, IfOk};
-ghost use Rattle.tough_update.specs.View.{loaded_doc};
 ghost use Rattle.tough_client.specs.Repositories.{documents_of};
 ghost use Rattle.tough.specs.Program.{IsVouchedFor};
 
-use crate::{Error, drive_on};
+use crate::{Error, open_on};
 use std::alloc::{AllocError, AllocGlobal, Global};
 use std::random::RandomSource;
 use std::sync::Wait;
 use std::{io, rt};
 use tokio::runtime::LocalRuntime;
 use tough_client::Repository;
-use tough_load::{Clock, DirStore, Keeper, Load, Loaded, RepositoryLoader, SystemClock, Vault};
+use tough_load::{DirStore, Keeper, RepositoryLoader, SystemClock, Vault};
 use tough_net::Transport;
-use tough_schema::{DemoVerify, Verify};
+use tough_schema::DemoVerify;
 use url::Url;
 
 /// Why a run failed, as it is told.
@@ -82,18 +81,6 @@ where
     Ok(Vault::new(rt.alloc(), DirStore::new(rt.clone()?, folder)))
 }
 
-// The repository of a load and its documents.
-fn opened<T, K, C, V>(load: Load<T, K, C, V>, loaded: Loaded) -> Repository<T, K, C>
-where
-    T: Transport,
-    K: Keeper,
-    C: Clock + Drop,
-    V: Verify + Drop,
-    ensures { IsVouchedFor (loaded_doc loaded) → IsVouchedFor (documents_of result) }
-{
-    Repository::new(load, loaded)
-}
-
 /// Loads a repository over a transport that the runtime serves, by this keeper.
 pub(crate) fn open_by<R, T, K>(
     rt: &R,
@@ -119,16 +106,10 @@ where
         Ok(load) => load,
         Err(error) => return Err(refused(rt.alloc(), Error::from(error))),
     };
-    let (outcome, load) = match drive_on(rt, runtime, load) {
-        Ok(both) => both,
-        Err(error) => return Err(not_run(rt.alloc(), error)),
-    };
-    match outcome {
-        Ok(loaded) => Ok(opened(load, loaded)),
-        Err(error) => {
-            drop(load);
-            Err(refused(rt.alloc(), Error::from(error)))
-        }
+    match open_on(rt, runtime, load) {
+        Ok(Ok(repository)) => Ok(repository),
+        Ok(Err(error)) => Err(refused(rt.alloc(), error)),
+        Err(error) => Err(not_run(rt.alloc(), error)),
     }
 }
 

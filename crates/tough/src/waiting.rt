@@ -1,4 +1,4 @@
-//! Runs a load that waits for sockets and timers.
+//! Runs loads that wait for sockets and timers.
 
 ghost use Rattle.std.specs.Prelude.{◌≡◌, Ok, IfOk};
 ghost use Rattle.tough_update.specs.View.{core_doc, outcome_doc};
@@ -7,12 +7,15 @@ ghost use Rattle.tough_load.specs.Advancing.{Finishes};
 ghost use Rattle.tough_load.specs.Running.{CanPoll};
 ghost use Rattle.tough_load.specs.Vouching.{Vouches};
 ghost use Rattle.tough_load.specs.Words as part;
+ghost use Rattle.tough_client.specs.Repositories as repository;
 
+use crate::Error;
 use std::alloc::AllocGlobal;
 use std::random::RandomSource;
 use std::sync::Wait;
 use std::{io, time};
 use tokio::runtime::LocalRuntime;
+use tough_client::Repository;
 use tough_load::laws::loads_are_trusted;
 use tough_load::{Clock, Keeper, Load, Loaded, UpdateError};
 use tough_net::Transport;
@@ -45,4 +48,38 @@ where
 {
     loads_are_trusted::<T, V, C, K>();
     runtime.block_on(rt, load.run())
+}
+
+/// Polls a load until it is ready, as `drive_on` does, and gives the repository that it loaded, or why it didn't: what `drive` does for
+/// transports that never wait.
+pub fn open_on<R, T, K, C, V>(
+    rt: &R,
+    runtime: &mut LocalRuntime,
+    load: Load<T, K, C, V>,
+) -> io::Result<Result<Repository<T, K, C>, Error>>
+where
+    R: Wait + time::Clock + RandomSource + AllocGlobal,
+    T: Transport,
+    K: Keeper,
+    C: Clock + Drop,
+    V: Verify + Drop,
+    requires { CanPoll T.Stream.can_poll (part.fetch_of load) }
+    ensures trusted { (from : _) → IsBegun from load
+        → IfOk result (λ r. IfOk r
+        (λ opened. (left : _) × Vouches T.refuses T.serves K.keeps T.Stream.yields
+        (V.verifies (verifier_of from)) (part.base_of load) (transport_of from)
+        (first_core (settings_of from)) (keeper_of from)
+        left (repository.keeper_of opened) (repository.documents_of opened))) }
+{
+    let (outcome, load) = match drive_on(rt, runtime, load) {
+        Ok(both) => both,
+        Err(error) => return Err(error),
+    };
+    match outcome {
+        Ok(loaded) => Ok(Ok(Repository::new(load, loaded))),
+        Err(error) => {
+            drop(load);
+            Ok(Err(Error::from(error)))
+        }
+    }
 }

@@ -3,4 +3,4 @@ mod Planned
 mod Savings
 mod Starting
 mod Turns
-mod Vouched
+pub mod Vouched

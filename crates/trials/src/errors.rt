@@ -6,7 +6,7 @@ use serde_json::Value;
 use std::alloc::Global;
 use tough::schema::{self, ReadError, RoleType, Target};
 use tough::{Error, OsFiles, TargetName, TransportError, TransportErrorKind};
-use trials_values::case::text;
+use trials_calls::case::text;
 use url::ParseError;
 
 // Those that tell versions and counts.

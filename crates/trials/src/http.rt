@@ -3,7 +3,7 @@
 use crate::program::run;
 use anyhow::Result;
 use serde_json::Value;
-use std::alloc::AllocGlobal;
+use std::alloc::{AllocGlobal, Global};
 use std::io::{Read, Write};
 use std::net::{Ipv4Addr, Net, SocketAddr, TcpListener, TcpStream};
 use std::random::RandomSource;
@@ -15,9 +15,9 @@ use std::{fs, thread};
 // The most connections of a run.
 const MOST: usize = 256;
 
-// A request's head.
-fn read_head(rt: &HostRuntime, socket: &mut TcpStream) -> Result<String> {
-    let mut head = Vec::new(rt.alloc());
+/// A request's head.
+pub(crate) fn read_head(alloc: Global, socket: &mut TcpStream) -> Result<String> {
+    let mut head = Vec::new(alloc);
     let mut buffer = [0u8; 1024];
     for _ in 0..64 {
         let len = socket.read(&mut buffer)?;
@@ -61,7 +61,7 @@ fn serve(rt: &HostRuntime, listener: &TcpListener, folder: &str) -> Result<Strin
     let mut asked = String::new(rt.alloc());
     for _ in 0..MOST {
         let (mut socket, _) = listener.accept()?;
-        let head = read_head(rt, &mut socket)?;
+        let head = read_head(rt.alloc(), &mut socket)?;
         let path = path_of(head.as_str());
         if path.is_empty() {
             break;

@@ -11,9 +11,9 @@ use tough::{
     Error, FixedClock, Limits, Loaded, MemoryStore, MemoryTransport, RepositoryLoader, TargetName,
     Vault, drive,
 };
-use trials_devices::shelf::Shelf;
-use trials_devices::vault::enforcement;
-use trials_values::case::{flag, list, number, text_of_either};
+use trials_calls::case::{flag, list, number, text_of_either};
+use trials_calls::shelf::Shelf;
+use trials_calls::vault::enforcement;
 use url::Url;
 
 // Adds the files of an object, below the base URL.

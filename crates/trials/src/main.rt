@@ -6,11 +6,15 @@
 #![tactic(auto)]
 
 mod errors;
+mod exchange;
+mod fetch;
+mod gateway;
 mod http;
 mod load;
 mod outcome;
 mod program;
 mod saves;
+mod script;
 mod update;
 
 use anyhow::{Result, anyhow};
@@ -22,8 +26,8 @@ use std::rt::{Clock, Files};
 use std::sync::Wait;
 use std::thread::Threads;
 use std::{env, fs};
-use trials_values::case::text;
-use trials_values::judge::misses;
+use trials_calls::case::text;
+use trials_calls::judge::misses;
 
 // What a call on updates or errors answers.
 fn of_updates(rt: &HostRuntime, call: &str, case: &Value) -> Result<String> {
@@ -47,17 +51,13 @@ fn answer<R>(rt: &HostRuntime, waiting: &R, case: &Value) -> Result<String>
 where
     R: Files + Net + Threads + Wait + Clock + RandomSource + AllocGlobal + Clone + Drop,
 {
-    let (alloc, call) = (rt.alloc(), text(case, "call"));
-    if call == "tough" {
-        return program::play(rt, waiting, case);
+    let call = text(case, "call");
+    match call {
+        "tough" => return program::play(rt, waiting, case),
+        "fetch over HTTP" => return exchange::play(rt, waiting, case),
+        _ => {}
     }
-    if let Some(told) = trials_values::answer(alloc, call, case)? {
-        return Ok(told);
-    }
-    if let Some(told) = trials_documents::answer(alloc, call, case)? {
-        return Ok(told);
-    }
-    if let Some(told) = trials_devices::answer(rt, call, case)? {
+    if let Some(told) = trials_calls::answer(rt, call, case)? {
         return Ok(told);
     }
     of_updates(rt, call, case)

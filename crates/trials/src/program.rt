@@ -10,8 +10,8 @@ use std::rt::{Clock, Files};
 use std::sync::Wait;
 use std::thread::Threads;
 use std::{env, fs, process};
-use trials_devices::shelf::held;
-use trials_values::case::{list, number, text};
+use trials_calls::case::{list, number, text};
+use trials_calls::shelf::held;
 
 // Writes a file: the text of the step, or as many blanks as it says.
 fn put(rt: &HostRuntime, at: &str, step: &Value) -> Result<()> {

@@ -12,8 +12,8 @@ use tough::{
     Clock, Error, Files, FixedClock, Keeper, MemoryFiles, MemoryStore, MemoryTransport, Prefix,
     Repository, RepositoryLoader, TargetName, Transport, Vault, drive, finish,
 };
-use trials_devices::vault::enforcement;
-use trials_values::case::{flag, list, number, text};
+use trials_calls::case::{flag, list, number, text};
+use trials_calls::vault::enforcement;
 use url::Url;
 
 // Adds the files of a member of the case, below the URL.

@@ -11,8 +11,8 @@ use tough::{
     Act, Answer, Ask, Core, Counts, Error, Fault, Limits, StepError, TransportError,
     TransportErrorKind,
 };
-use trials_devices::vault::enforcement;
-use trials_values::case::{list, text};
+use trials_calls::case::{list, text};
+use trials_calls::vault::enforcement;
 
 // A step on the store.
 fn act(alloc: Global, act: &Act<'_>) -> Result<String, AllocError> {

@@ -8,8 +8,8 @@ use std::sync::Wait;
 use std::{env, fs, rt};
 use tough::schema::DemoVerify;
 use tough::{
-    Clock, DefaultTransport, DirStore, Keeper, LocalRuntime, OsFiles, Prefix, Repository,
-    RepositoryLoader, SystemClock, TargetName, Transport, Url, Vault, drive_on,
+    DefaultTransport, DirStore, LocalRuntime, OsFiles, Prefix, RepositoryLoader, SystemClock,
+    TargetName, Url, Vault, open_on,
 };
 
 const USAGE: &str = "usage: updater ROOT METADATA TARGETS STORE NAME OUTDIR";
@@ -57,37 +57,14 @@ where
     let transport = DefaultTransport::new(rt.clone()?, runtime.handle().clone()?)?;
     let folder = String::from_str(alloc, store)?;
     let mut vault = Vault::new(alloc, DirStore::new(rt.clone()?, folder));
+    let mut files = OsFiles::new(rt.clone()?);
     let load = RepositoryLoader::new(alloc, trusted, metadata, targets)
         .transport(transport)
         .verifier(DemoVerify) // put your own verifier here: this one proves nothing
         .clock(SystemClock::new(rt.clone()?))
         .keeper(&mut vault)
         .load()?;
-    let (outcome, load) = drive_on(rt, &mut runtime, load)?;
-    save(
-        rt,
-        &mut runtime,
-        Repository::new(load, outcome?),
-        name,
-        outdir,
-    )
-}
-
-// Saves a target of the repository.
-fn save<R, T, K, C>(
-    rt: &R,
-    runtime: &mut LocalRuntime,
-    mut repository: Repository<T, K, C>,
-    name: &TargetName,
-    outdir: &str,
-) -> anyhow::Result<()>
-where
-    R: rt::Files + Wait + rt::Clock + RandomSource + AllocGlobal + Clone + Drop,
-    T: Transport,
-    K: Keeper,
-    C: Clock + Drop,
-{
-    let mut files = OsFiles::new(rt.clone()?);
+    let mut repository = open_on(rt, &mut runtime, load)??;
     let saving = repository.save_target(&mut files, name, outdir, Prefix::None);
     runtime.block_on(rt, saving)??;
     Ok(())

@@ -1,13 +1,13 @@
 use Rattle.std.proofs.Common.{◌∙◌, ap}
 use Rattle.tough_load.specs.Loader.{settings_of}
+use Rattle.tough_client.specs.Repositories.{documents_of}
 use Rattle.tough.specs.Program.{IsVouchedFor}
 use Rattle.tough.proofs.Vouching.{come, vouched}
 use Rattle.tough.proofs.opening.open_by.Goals as goal
 
-pub returns-in-Ok-outcome : goal.returns-in-Ok-outcome
-returns-in-Ok-outcome g c =
-    c.opened.ensures
-    (come {Q = IsVouchedFor} c.in-Ok-outcome.is (c.in-Ok-drive_on.ensures.trusted c.keeper-loader.result c.in-Ok.ensures.begun)
-    (λ d v. vouched (settings_of c.keeper-loader.result) d v.answers
+pub returns-in-Ok-Ok : goal.returns-in-Ok-Ok
+returns-in-Ok-Ok g c =
+    come {Q = λ r. IsVouchedFor (documents_of r)} c.in-Ok-Ok.field-0-is (c.in-Ok-Ok.ensures.trusted c.keeper-loader.result c.in-Ok.ensures.begun)
+    (λ r v. vouched (settings_of c.keeper-loader.result) (documents_of r) v.1.answers
     (ap (λ s. s.enforced) (c.keeper-loader.ensures.settings ∙ (c.clock.ensures.settings ∙ (c.verifier.ensures.settings ∙ (c.transport.ensures.settings ∙ c.new.ensures)))))
-    v.loaded))
+    v.1.loaded)

@@ -1,11 +1,11 @@
 //! A store in memory that fails as a case asks.
 ghost use Rattle.tough_vault.specs.Stored.{HasCause};
 
+use crate::case::{list, number, text};
 use anyhow::{Result, anyhow};
 use serde_json::Value;
 use std::alloc::Global;
 use tough_vault::{MemoryStore, Store, StoreError};
-use trials_values::case::{list, number, text};
 
 // The files that are told, in this order.
 const NAMES: [&str; 5] = [

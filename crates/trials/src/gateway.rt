@@ -3,8 +3,7 @@ ghost use Rattle.std.specs.Prelude.{⊤};
 ghost use Rattle.url.specs.Parts.{Parts};
 
 use std::alloc::Global;
-use tough_net::{Transport, TransportError, TransportErrorKind};
-use url::Url;
+use tough::{Transport, TransportError, TransportErrorKind, Url};
 
 /// Has `https` served by a gateway, a program that is asked over plain HTTP.
 #[derive(Drop)]

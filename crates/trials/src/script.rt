@@ -1,13 +1,14 @@
 //! A server that answers each connection by the next part of a script.
 
-use crate::case::{flag, number, text};
+use crate::http::read_head;
 use anyhow::Result;
 use serde_json::Value;
 use std::alloc::Global;
 use std::io::{Read, Write};
 use std::net::{TcpListener, TcpStream};
+use std::thread;
 use std::time::{Duration, Instant};
-use std::{str, thread};
+use trials_calls::case::{flag, number, text};
 
 /// A request.
 #[derive(Drop)]
@@ -19,20 +20,6 @@ pub(crate) struct Seen {
 
 // The most connections of a case.
 const MOST: usize = 64;
-
-// A request's head.
-fn read_head(alloc: Global, socket: &mut TcpStream) -> Result<String> {
-    let mut head = Vec::new(alloc);
-    let mut buffer = [0u8; 1024];
-    for _ in 0..64 {
-        let len = socket.read(&mut buffer)?;
-        head.extend_from_slice(&buffer[..len])?;
-        if len == 0 || head.as_slice().ends_with(b"\r\n\r\n") {
-            break;
-        }
-    }
-    Ok(String::from_utf8(head)?)
-}
 
 // What a request asks for.
 fn asked(alloc: Global, head: &str) -> Result<String> {

@@ -1,5 +1,6 @@
 //! Bytes that come in: over memory and from files, bounded and checked.
 
+use crate::case::{number, text};
 use anyhow::{Result, anyhow};
 use bytes::Bytes;
 use futures::{FutureExt, Stream, StreamExt};
@@ -10,7 +11,6 @@ use tough_net::{
     Cause, FilesystemTransport, HttpError, IntoVec, MemoryTransport, Transport, TransportError,
     TransportErrorKind, fetch_max_size, fetch_sha256, fetch_whole,
 };
-use trials_values::case::{number, text};
 use url::Url;
 
 // Files in memory: those of the case, in pieces of as many bytes as it says, or each in one.

@@ -1,5 +1,6 @@
 //! Targets that are made of files, and repositories that are made for demonstrations.
 
+use crate::case::{flag, number, text};
 use crate::documents::tell;
 use anyhow::Result;
 use serde_json::Value;
@@ -8,7 +9,6 @@ use std::alloc::Global;
 use tough_base::{Files, FilesError, MemoryFiles};
 use tough_demo::{RepositoryFiles, repository};
 use tough_schema::Target;
-use trials_values::case::{flag, number, text};
 
 // A file `/f` with these bytes, a link `/l` to it, and a folder `/d`.
 fn files(alloc: Global, bytes: &[u8]) -> Result<MemoryFiles, FilesError> {

@@ -1,6 +1,5 @@
 //! Fetches over HTTP.
 
-use crate::case::{number, text};
 use crate::gateway::Gateway;
 use anyhow::Result;
 use bytes::Bytes;
@@ -14,10 +13,8 @@ use std::rt::Files;
 use std::str;
 use std::sync::Wait;
 use std::time::{Clock, Duration};
-use tokio::runtime::LocalRuntime;
-use tough_http::{DefaultTransport, HttpTransportBuilder};
-use tough_net::{Transport, TransportError};
-use url::Url;
+use tough::{DefaultTransport, HttpTransportBuilder, LocalRuntime, Transport, TransportError, Url};
+use trials_calls::case::{number, text};
 
 // The time of a member in milliseconds, else the other.
 fn time(case: &Value, name: &str, other: u64) -> Duration {

@@ -1,5 +1,6 @@
 //! Documents of one role: how they are read and written, what they say of themselves, and their verification.
 
+use crate::case::{list, number, text};
 use anyhow::Result;
 use jiff::Timestamp as Instant;
 use serde_json::Value;
@@ -12,7 +13,6 @@ use tough_schema::{
     DelegatedTargets, Delegations, DemoVerify, Error, ReadError, Role, RoleType, Root, Signed,
     Snapshot, Targets, Timestamp,
 };
-use trials_values::case::{list, number, text};
 
 /// A verdict: `Ok`, or the refusal.
 pub(crate) fn verdict(alloc: Global, answer: Result<(), Error>) -> Result<String> {

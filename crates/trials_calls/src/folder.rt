@@ -1,5 +1,6 @@
 //! A store over a folder, and the clock of the system.
 
+use crate::case::{list, text};
 use crate::told::came_to;
 use anyhow::{Result, anyhow};
 use jiff::Timestamp;
@@ -8,7 +9,6 @@ use std::alloc::Global;
 use std::fmt::Debug;
 use std::{env, fs, process, str};
 use tough_vault::{Clock, DirStore, Receipt, StepError, Store, SystemClock, Vault};
-use trials_values::case::{list, text};
 
 // A store over a folder.
 type Folder = DirStore<HostRuntime>;

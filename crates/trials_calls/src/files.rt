@@ -1,13 +1,13 @@
 //! Steps on files, played in memory and on the files of the system. A step is an object with what is done (`op`), its path below the base
 //! folder and its other input, and the answer that is wanted, as a case has it.
 
+use crate::case::{flag, number, text};
+use crate::judge::misses;
 use anyhow::Result;
 use serde_json::Value;
 use std::alloc::Global;
 use std::fs;
 use tough_base::{Files, FilesError, MemoryFiles, OsFiles};
-use trials_values::case::{flag, number, text};
-use trials_values::judge::misses;
 
 // The base folder on the system, below the folder that the program runs in.
 const FOLDER: &str = "steps";

@@ -1,11 +1,11 @@
 //! When a request is made again, and after which pause.
 
+use crate::case::{flag, list, number, text};
 use anyhow::Result;
 use serde_json::Value;
 use std::alloc::Global;
 use std::time::Duration;
 use tough_net::{RetryCore, RetryEvent, RetrySettings};
-use trials_values::case::{flag, list, number, text};
 
 // The settings of the case, in milliseconds; else those by default.
 fn settings(case: &Value) -> RetrySettings {

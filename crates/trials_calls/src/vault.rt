@@ -1,5 +1,6 @@
 //! Steps on a vault.
 
+use crate::case::{flag, list, number, text};
 use crate::shelf::{Shelf, held};
 use anyhow::anyhow;
 use serde_json::Value;
@@ -7,7 +8,6 @@ use std::alloc::{AllocError, Global};
 use std::fmt::Debug;
 use tough_roles::{DemoVerify, Root, Signed, Snapshot, Timestamp};
 use tough_vault::{DocumentName, ExpirationEnforcement, Receipt, Store, Vault};
-use trials_values::case::{flag, list, number, text};
 
 /// Whether what has expired is refused.
 pub fn enforcement(case: &Value) -> ExpirationEnforcement {

@@ -1,11 +1,11 @@
 //! Trees of delegated documents as they grow.
 
+use crate::case::text;
 use anyhow::Result;
 use serde_json::Value;
 use std::alloc::Global;
 use tough_delegated::{Growth, Progress};
 use tough_schema::{DelegatedTargets, Signed, Snapshot, Targets};
-use trials_values::case::text;
 
 // The text of a document without signatures.
 fn document_text(alloc: Global, member: &str, value: &str) -> Result<String> {

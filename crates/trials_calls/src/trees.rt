@@ -1,12 +1,12 @@
 //! Trees of targets: what is found in them, and how they are edited.
 
+use crate::case::{list, number, text};
 use crate::documents::verdict;
 use anyhow::Result;
 use serde_json::Value;
 use std::alloc::Global;
 use tough_base::TargetName;
 use tough_schema::{DelegatedTargets, Delegations, Error, PathSet, Signed, Target, Targets};
-use trials_values::case::{list, number, text};
 
 // The document, where each role whose mark is `1` has the last of the documents that were made.
 fn with_documents(
