@@ -281,17 +281,6 @@ stands-under U metas top hs t bare all is = subst (ProgressFine U (page_of top))
 
 -- ---- one document more
 
-pub runs-more : (metas : Metas) (hs : List HeldDoc) (p : Progress) (w : WorkDoc) (m : MetafileDoc) (h : HeldDoc) → runs metas p hs ≡ wants w m → runs metas p (hs ++ h ∷ []) ≡ taken metas w h
-runs-more metas [] p w m h is = ap (λ q. runs metas q (h ∷ [])) is
-runs-more metas (x ∷ hs) (wants v n) w m h is = runs-more metas hs (taken metas v x) w m h is
-runs-more metas (x ∷ hs) (grown t) w m h is = cc
-
-pub all-more : (U : Relation) (metas : Metas) (hs : List HeldDoc) (p : Progress) (w : WorkDoc) (m : MetafileDoc) (h : HeldDoc) → runs metas p hs ≡ wants w m → AllTaken U metas p hs
-    → IsBare h → IfSome (first_of w.waiting) (λ e. U (holder_of w) e.name (page_of h)) → AllTaken U metas p (hs ++ h ∷ [])
-all-more U metas [] p w m h is all b u = subst (λ q. AllTaken U metas q (h ∷ [])) (sym is) (b, u, tt)
-all-more U metas (x ∷ hs) (wants v n) w m h is all b u = (all.0, all.1, all-more U metas hs (taken metas v x) w m h is all.2 b u)
-all-more U metas (x ∷ hs) (grown t) w m h is all b u = cc
-
 -- documents that were read
 pub bare-more : (hs : List HeldDoc) (h : HeldDoc) → AreBare hs → IsBare h → AreBare (hs ++ h ∷ [])
 bare-more [] h bare b = (b, tt)
