@@ -15,8 +15,8 @@ use Rattle.tough_vault.specs.Act.{Act}
 use Rattle.tough_vault.specs.declared.checks.StepError.{StepError}
 use Rattle.tough_vault.specs.declared.entry.Receipt.{Receipt}
 use Rattle.tough_update.specs.Stages.{LoadedDoc}
-use Rattle.tough_error.specs.declared.error.Error.{Error}
-use Rattle.tough_error.specs.declared.error.Error.TheVariants as error
+use Rattle.tough_client.specs.declared.error.Error.{Error}
+use Rattle.tough_client.specs.declared.error.Error.TheVariants as error
 use Rattle.tough_save.specs.declared.error.SaveError.{SaveError}
 use Rattle.tough_save.specs.declared.place.Place.{Place}
 use Rattle.tough_save.specs.declared.saving.Saving.{Saving}

@@ -24,9 +24,9 @@ use Rattle.tough_vault.specs.declared.checks.StepError.{StepError}
 use Rattle.tough_vault.specs.declared.entry.Receipt.{Receipt}
 use Rattle.tough_trust.specs.Failure.{Checked, step_failure}
 use Rattle.tough_update.specs.Stages.{LoadedDoc}
-use Rattle.tough_error.specs.declared.error.Error.{Error}
-use Rattle.tough_error.specs.declared.error.Error.TheVariants as error
-use Rattle.tough_error.specs.Failures.{failure_in}
+use Rattle.tough_client.specs.declared.error.Error.{Error}
+use Rattle.tough_client.specs.declared.error.Error.TheVariants as error
+use Rattle.tough_client.specs.Failures.{failure_in}
 use Rattle.tough_save.specs.declared.target.FetchError.{FetchError}
 use Rattle.tough_save.specs.declared.target.FetchError.TheVariants as fetching
 use Rattle.tough_save.specs.Targets.{HasBegun, IsUnbegun, file_name}

@@ -8,13 +8,13 @@ ghost use Rattle.tough_load.specs.Vouching.{Vouches};
 ghost use Rattle.tough_load.specs.Words as part;
 ghost use Rattle.tough_client.specs.Repositories.{documents_of, keeper_of};
 
+use crate::error::Error;
 use crate::repository::Repository;
 use futures::Future;
 use futures::task::{Doorbell, Poll, Solo};
 use std::alloc::AllocGlobal;
 use std::io;
 use std::random::RandomSource;
-use tough_error::Error;
 use tough_load::{Clock, Keeper, Load};
 use tough_net::Transport;
 use tough_roles::Verify;

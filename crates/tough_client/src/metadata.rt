@@ -14,6 +14,7 @@ ghost use Rattle.tough_client.specs.declared.plan.Served.TheVariants as served;
 ghost use Rattle.tough_client.specs.Copying.{is_consistent, file_again, IsUnlisted, IsMade, IsWritten, WritesFetched, WritesDocument, WritesRole};
 ghost use Rattle.tough_client.specs.Copying as spec;
 
+use crate::error::Error;
 use crate::failure::fault;
 use crate::plan::Served;
 use std::alloc::{AllocError, Global};
@@ -21,7 +22,6 @@ use std::collections::BTreeMap;
 use std::num::NonZeroU64;
 use std::path::Path;
 use tough_base::encode_filename;
-use tough_error::Error;
 use tough_files::{Files, FilesError};
 use tough_load::{Limits, Loaded, Received, Request};
 use tough_net::TransportError;

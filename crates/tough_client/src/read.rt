@@ -9,13 +9,13 @@ ghost use Rattle.tough_client.specs.Reading.{HasNoted, IsRefused, IsUnasked, InT
 ghost use Rattle.tough_client.specs.Reading as spec;
 ghost use Rattle.tough_client.specs.Repositories.{IsKept, documents_of, transport_of, keeper_of, targets_base_of, enforced_of};
 
+use crate::error::Error;
 use crate::failure::unfetched;
 use crate::repository::Repository;
 use crate::unverified::Unverified;
 use futures::Future;
 use futures::task::{Context, Poll};
 use jiff::Timestamp as Instant;
-use tough_error::Error;
 use tough_load::{Act, Clock, ExpirationEnforcement, Keeper};
 use tough_names::TargetName;
 use tough_net::Transport;

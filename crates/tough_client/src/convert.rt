@@ -1,7 +1,7 @@
 //! What the narrow errors are.
 
 ghost use Rattle.std.specs.Prelude.{◌≡◌, Some};
-ghost use Rattle.tough_error.specs.Failures.{failure_in};
+ghost use Rattle.tough_client.specs.Failures.{failure_in};
 
 use crate::error::Error;
 use std::alloc::AllocError;
@@ -10,7 +10,7 @@ use tough_update::UpdateError;
 use tough_vault::{Refusal, StepError};
 
 impl From<AllocError> for Error {
-    ghost use Rattle.tough_error.specs.declared.error.Error.TheVariants.{Memory};
+    ghost use Rattle.tough_client.specs.declared.error.Error.TheVariants.{Memory};
 
     ghost from_gives = { λ _ e. e ≡ Memory };
 
@@ -20,7 +20,7 @@ impl From<AllocError> for Error {
 }
 
 impl From<NameError> for Error {
-    ghost use Rattle.tough_error.specs.Failures.{name_error};
+    ghost use Rattle.tough_client.specs.Failures.{name_error};
 
     ghost from_gives = { λ n e. e ≡ name_error n };
 

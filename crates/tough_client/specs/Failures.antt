@@ -6,8 +6,8 @@ use Rattle.tough_vault.specs.Checks.{refused}
 use Rattle.tough_vault.specs.Checks as check
 use Rattle.tough_trust.specs.Failure as failed
 use Rattle.tough_trust.specs.Failure.{Failure, is_json, name_missing}
-use Rattle.tough_error.specs.declared.error.Error.{Error}
-use Rattle.tough_error.specs.declared.error.Error.TheVariants as error
+use Rattle.tough_client.specs.declared.error.Error.{Error}
+use Rattle.tough_client.specs.declared.error.Error.TheVariants as error
 
 -- the failure of an update that an error tells, if it tells one
 abbrev pub failure_in : Error → Option Failure
