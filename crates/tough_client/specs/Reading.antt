@@ -13,6 +13,8 @@ use Rattle.tough_net.specs.Checking.{checked}
 use Rattle.tough_net.specs.Errors.{error_kind}
 use Rattle.tough_net.specs.Items.{Item}
 use Rattle.tough_net.specs.Limiting.{limited}
+use Rattle.tough_roles.specs.declared.error.Error.{Error as RoleError}
+use Rattle.tough_roles.specs.declared.error.Error.TheVariants as errors
 use Rattle.tough_roles.specs.declared.role_type.RoleType.{RoleType}
 use Rattle.tough_roles.specs.declared.role_type.RoleType.TheVariants as role
 use Rattle.tough_schema.specs.Search.{search}
@@ -37,6 +39,11 @@ use Rattle.tough_client.specs.Repositories.{documents_of, transport_of, keeper_o
 -- no signature verifies
 abbrev pub nothing_verifies : Verifies
 nothing_verifies key message signature = false
+
+-- memory was wanting
+abbrev pub is_memory : RoleError → Bool
+is_memory errors.Memory = true
+is_memory _ = false
 
 -- ---- expiry
 

@@ -23,6 +23,13 @@ use tough_roles::{self as schema, RoleType};
 use tough_save::{TargetStream, fetch_target, file_name};
 use tough_schema::Target;
 
+// Whether memory was wanting.
+fn is_memory(error: &schema::Error) -> bool
+    ensures { result ≡ spec.is_memory error.now }
+{
+    matches!(error, schema::Error::Memory)
+}
+
 // A role, and when its document expires.
 #[derive(Clone, Copy, Drop)]
 struct Dated {
@@ -125,8 +132,15 @@ impl<T: Transport, K: Keeper, C: Clock + Drop> Repository<T, K, C> {
             .find_target(self.alloc, name, false)
         {
             Ok(target) => Ok(Some(target)),
-            Err(schema::Error::Memory) => Err(Error::Memory),
-            Err(_) => Ok(None),
+            Err(error) => {
+                let is_memory = is_memory(&error);
+                drop(error);
+                if is_memory {
+                    Err(Error::Memory)
+                } else {
+                    Ok(None)
+                }
+            }
         }
     }
 
