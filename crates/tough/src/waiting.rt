@@ -7,7 +7,7 @@ ghost use Rattle.tough_load.specs.Advancing.{Finishes};
 ghost use Rattle.tough_load.specs.Running.{CanPoll};
 ghost use Rattle.tough_load.specs.Vouching.{Vouches};
 ghost use Rattle.tough_load.specs.Words as part;
-ghost use Rattle.tough_client.specs.Repositories as repository;
+ghost use Rattle.tough_client.specs.Opening.{Opens, VouchesFor};
 
 use crate::Error;
 use std::alloc::AllocGlobal;
@@ -64,12 +64,12 @@ where
     C: Clock + Drop,
     V: Verify + Drop,
     requires { CanPoll T.Stream.can_poll (part.fetch_of load) }
+    ensures done { IfOk result
+        (Opens T.refuses T.serves K.keeps T.Stream.yields V.verifies load) }
     ensures trusted { (from : _) → IsBegun from load
         → IfOk result (λ r. IfOk r
-        (λ opened. (left : _) × Vouches T.refuses T.serves K.keeps T.Stream.yields
-        (V.verifies (verifier_of from)) (part.base_of load) (transport_of from)
-        (first_core (settings_of from)) (keeper_of from)
-        left (repository.keeper_of opened) (repository.documents_of opened))) }
+        (VouchesFor T.refuses T.serves K.keeps T.Stream.yields V.verifies from
+        (part.base_of load))) }
 {
     let (outcome, load) = match drive_on(rt, runtime, load) {
         Ok(both) => both,

@@ -6,3 +6,4 @@ pub mod Reading
 pub mod Repositories
 pub mod Saving
 pub mod Failures
+pub mod Opening

@@ -1,12 +1,10 @@
 //! Runs futures on this thread, with nothing to wait for.
 
 ghost use Rattle.std.specs.Prelude.{IfOk};
-ghost use Rattle.tough_load.specs.Loader.{IsBegun, first_core, settings_of, transport_of, verifier_of};
-ghost use Rattle.tough_load.specs.Loader as loader;
+ghost use Rattle.tough_load.specs.Loader.{IsBegun};
 ghost use Rattle.tough_load.specs.Running.{CanPoll};
-ghost use Rattle.tough_load.specs.Vouching.{Vouches};
-ghost use Rattle.tough_load.specs.Words as part;
-ghost use Rattle.tough_client.specs.Repositories.{documents_of, keeper_of};
+ghost use Rattle.tough_load.specs.Words.{fetch_of, base_of};
+ghost use Rattle.tough_client.specs.Opening.{Opens, VouchesFor};
 
 use crate::error::Error;
 use crate::repository::Repository;
@@ -30,13 +28,12 @@ where
     K: Keeper,
     C: Clock + Drop,
     V: Verify + Drop,
-    requires { CanPoll T.Stream.can_poll (part.fetch_of load) }
+    requires { CanPoll T.Stream.can_poll (fetch_of load) }
+    ensures done { IfOk result
+        (Opens T.refuses T.serves K.keeps T.Stream.yields V.verifies load) }
     ensures trusted { (from : _) → IsBegun from load
         → IfOk result (λ r. IfOk r
-        (λ repository. (left : _) × Vouches T.refuses T.serves K.keeps T.Stream.yields
-        (V.verifies (verifier_of from)) (part.base_of load) (transport_of from)
-        (first_core (settings_of from)) (loader.keeper_of from)
-        left (keeper_of repository) (documents_of repository))) }
+        (VouchesFor T.refuses T.serves K.keeps T.Stream.yields V.verifies from (base_of load))) }
 {
     let mut load = load;
     match tough_load::drive(rt, &mut load) {
