@@ -1,5 +1,5 @@
 -- How a target is read (TUF specification 1.0, section 5.7): in time, by what the search finds, from below the base URL.
-use Rattle.std.specs.Prelude.{◌≡◌, ◌≢◌, ◌⊎◌, ℕ, ℤ, Bool, true, false, List, Option, Some, None, Result, Ok, Err, int_lt, string_bytes, if◌then◌else◌}
+use Rattle.std.specs.Prelude.{◌≡◌, ◌≢◌, ◌⊎◌, ℕ, ℤ, Bool, true, false, List, Option, Some, None, Result, Ok, Err, string_bytes}
 use Rattle.url.specs.declared.error.ParseError.{ParseError}
 use Rattle.url.specs.Parts.{Parts}
 use Rattle.futures.specs.Runs.{Runs}
@@ -13,18 +13,15 @@ use Rattle.tough_net.specs.Checking.{checked}
 use Rattle.tough_net.specs.Errors.{error_kind}
 use Rattle.tough_net.specs.Items.{Item}
 use Rattle.tough_net.specs.Limiting.{limited}
-use Rattle.tough_roles.specs.declared.error.Error.{Error as RoleError}
-use Rattle.tough_roles.specs.declared.error.Error.TheVariants as errors
-use Rattle.tough_roles.specs.declared.role_type.RoleType.{RoleType}
-use Rattle.tough_roles.specs.declared.role_type.RoleType.TheVariants as role
 use Rattle.tough_schema.specs.Search.{search}
 use Rattle.tough_schema.specs.Target.{TargetDoc}
 use Rattle.tough_schema.specs.Whole.{top_doc}
-use Rattle.tough_vault.specs.Act.{Act, NoteTime}
-use Rattle.tough_vault.specs.Checks.{ExpiredMetadata}
+use Rattle.tough_vault.specs.Act.{Act}
 use Rattle.tough_vault.specs.declared.checks.StepError.{StepError}
 use Rattle.tough_vault.specs.declared.entry.Receipt.{Receipt}
-use Rattle.tough_trust.specs.Failure.{Checked, step_failure}
+use Rattle.tough_trust.specs.Failure.{Failure}
+use Rattle.tough_trust.specs.Timely.{Expiry, NotesTimely}
+use Rattle.tough_trust.specs.Timely.{earliest as first_expiry}
 use Rattle.tough_update.specs.Stages.{LoadedDoc}
 use Rattle.tough_client.specs.declared.error.Error.{Error}
 use Rattle.tough_client.specs.declared.error.Error.TheVariants as error
@@ -33,77 +30,24 @@ use Rattle.tough_save.specs.declared.target.FetchError.{FetchError}
 use Rattle.tough_save.specs.declared.target.FetchError.TheVariants as fetching
 use Rattle.tough_save.specs.Targets.{HasBegun, IsUnbegun, file_name}
 use Rattle.tough_client.specs.declared.repository.Repository.{Repository}
-use Rattle.tough_client.specs.declared.read.Dated.{Dated}
 use Rattle.tough_client.specs.Repositories.{documents_of, transport_of, keeper_of, targets_base_of, enforced_of}
-
--- no signature verifies
-abbrev pub nothing_verifies : Verifies
-nothing_verifies key message signature = false
-
--- memory was wanting
-abbrev pub is_memory : RoleError → Bool
-is_memory errors.Memory = true
-is_memory _ = false
 
 -- ---- expiry
 
--- a role, and when its document expires
-pub record Expiry : Type 0 where
-  pub role : RoleType
-  pub time : ℤ
-
-abbrev pub expiry_doc : Dated → Expiry
-expiry_doc e = record { role = e.role; time = e.expires.nanosecond }
-
--- the one that comes first; of two at once the first of them
-abbrev pub sooner : Expiry → Expiry → Expiry
-sooner first second = if int_lt second.time first.time then second else first
-
--- the first of the four roles, in this order, whose document expires before no other's
+-- the role whose document expires first, and when
 abbrev pub earliest : LoadedDoc → Expiry
-earliest l = sooner (sooner (sooner
-    (record { role = role.Root; time = l.known.root.role.head.expires })
-    (record { role = role.Timestamp; time = l.known.timestamp.role.head.expires }))
-    (record { role = role.Snapshot; time = l.known.snapshot.role.head.expires }))
-    (record { role = role.Targets; time = (top_doc l.targets.role).head.expires })
+earliest l = first_expiry l.known.root.role.head.expires l.known.timestamp.role.head.expires
+    l.known.snapshot.role.head.expires (top_doc l.targets.role).head.expires
 
 module _ {K : Type 0} (keeps : Verifies → K → Act → Result Receipt StepError → K → Type 0) where
-  -- the keeper noted this time
-  pub record HasNoted (now : ℤ) (k next : K) : Type 0 where
-    pub receipt : Receipt
-    pub noted : keeps nothing_verifies k (NoteTime now) (Ok receipt) next
-
-  -- the keeper refused to note a time, and the error tells why
-  pub record IsRefused (k : K) (e : Error) (next : K) : Type 0 where
-    pub now : ℤ
-    pub why : StepError
-    pub refused : keeps nothing_verifies k (NoteTime now) (Err why) next
-    pub told : failure_in e ≡ Some (step_failure why)
-
-  -- the time was noted, and is before the earliest expiry
-  pub record IsTimely (l : LoadedDoc) (k next : K) : Type 0 where
-    pub now : ℤ
-    pub noted : HasNoted now k next
-    pub before : int_lt now (earliest l).time ≡ true
-
-  -- the time was noted, and is not before the earliest expiry; the error tells the role
-  pub record IsExpired (l : LoadedDoc) (k : K) (e : Error) (next : K) : Type 0 where
-    pub now : ℤ
-    pub noted : HasNoted now k next
-    pub after : int_lt now (earliest l).time ≡ false
-    pub told : failure_in e ≡ Some (Checked (ExpiredMetadata (earliest l).role (earliest l).time now))
-
-  -- there was no memory to note the time
-  abbrev pub IsUnasked : K → Error → K → Type 0
-  IsUnasked k e next = (e ≡ error.Memory) × (next ≡ k)
-
-  -- in time, where expiry counts
+  -- in time, where expiry counts: a moment was noted, and is before the earliest expiry
   abbrev pub InTime : Bool → LoadedDoc → K → K → Type 0
-  InTime true l k next = IsTimely l k next
+  InTime true l k next = (now : ℤ) × NotesTimely keeps (earliest l) now k (Ok (tt {0})) next
   InTime false l k next = next ≡ k
 
+  -- it isn't before that, or wasn't noted, and the error tells why
   abbrev pub NotInTime : Bool → LoadedDoc → K → Error → K → Type 0
-  NotInTime true l k e next = IsExpired l k e next ⊎ (IsRefused k e next ⊎ IsUnasked k e next)
+  NotInTime true l k e next = (now : ℤ) × (f : Failure) × (failure_in e ≡ Some f) × NotesTimely keeps (earliest l) now k (Err f) next
   NotInTime false l k e next = ⊥
 
 -- ---- what is listed

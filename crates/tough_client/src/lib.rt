@@ -13,7 +13,6 @@ mod plan;
 mod read;
 mod repository;
 mod save;
-mod unverified;
 
 pub use cache::{Cache, CacheMetadata};
 pub use driving::{drive, finish};

@@ -5,94 +5,38 @@ ghost use Rattle.futures.specs.Poll.{IfReady, OnPending};
 ghost use Rattle.futures.specs.Task.{Covers, Keeps};
 ghost use Rattle.tough_schema.specs.Target.{target_doc};
 ghost use Rattle.tough_client.specs.Futures.{repository_in, name_in};
-ghost use Rattle.tough_client.specs.Reading.{HasNoted, IsRefused, IsUnasked, InTime, NotInTime, IsStreamOf, IsUnfetched, Reads, expiry_doc, target_at};
+ghost use Rattle.tough_trust.specs.Timely.{expiry_doc};
+ghost use Rattle.tough_client.specs.Reading.{InTime, NotInTime, IsStreamOf, IsUnfetched, Reads, target_at};
 ghost use Rattle.tough_client.specs.Reading as spec;
 ghost use Rattle.tough_client.specs.Repositories.{IsKept, documents_of, transport_of, keeper_of, targets_base_of, enforced_of};
 
 use crate::error::Error;
 use crate::failure::unfetched;
 use crate::repository::Repository;
-use crate::unverified::Unverified;
 use futures::Future;
 use futures::task::{Context, Poll};
-use jiff::Timestamp as Instant;
-use tough_load::{Act, Clock, ExpirationEnforcement, Keeper};
+use std::alloc::AllocError;
+use tough_load::{Clock, ExpirationEnforcement, Keeper};
 use tough_names::TargetName;
 use tough_net::Transport;
-use tough_roles::{self as schema, RoleType};
 use tough_save::{TargetStream, fetch_target, file_name};
 use tough_schema::Target;
-
-// Whether memory was wanting.
-fn is_memory(error: &schema::Error) -> bool
-    ensures { result ≡ spec.is_memory error.now }
-{
-    matches!(error, schema::Error::Memory)
-}
-
-// A role, and when its document expires.
-#[derive(Clone, Copy, Drop)]
-struct Dated {
-    role: RoleType,
-    expires: Instant,
-}
-
-// The one that comes first; of two that come at once, the first of them.
-fn sooner(first: Dated, second: Dated) -> Dated
-    ensures { expiry_doc result ≡ spec.sooner (expiry_doc first) (expiry_doc second) }
-{
-    if second.expires < first.expires {
-        second
-    } else {
-        first
-    }
-}
-
-// A role whose document expires then.
-fn expiring(role: RoleType, expires: Instant) -> Dated
-    ensures { expiry_doc result ≡ record { role = role; time = expires.nanosecond } }
-{
-    Dated { role, expires }
-}
+use tough_trust::{Dated, earliest, listed_target, note_timely};
 
 impl<T: Transport, K: Keeper, C: Clock + Drop> Repository<T, K, C> {
     // The role whose document expires first, and when.
     fn earliest(&self) -> Dated
         ensures { expiry_doc result ≡ spec.earliest (documents_of self.now) }
     {
-        let root = expiring(RoleType::Root, self.loaded.root().signed.expires);
-        let timestamp = expiring(RoleType::Timestamp, self.loaded.timestamp().signed.expires);
-        let snapshot = expiring(RoleType::Snapshot, self.loaded.snapshot().signed.expires);
-        let targets = expiring(RoleType::Targets, self.loaded.targets().signed.expires);
-        sooner(sooner(sooner(root, timestamp), snapshot), targets)
+        earliest(
+            self.loaded.root().signed.expires,
+            self.loaded.timestamp().signed.expires,
+            self.loaded.snapshot().signed.expires,
+            self.loaded.targets().signed.expires,
+        )
     }
 
-    // Has the keeper note the time, and puts its receipt by.
-    fn note_time(&mut self) -> Result<Instant, Error>
-        ensures noted { IfOk result
-            (λ now. HasNoted K.keeps now.nanosecond (keeper_of self.old) (keeper_of self.new)) }
-        ensures refused { IfErr result
-            (λ e. IsRefused K.keeps (keeper_of self.old) e (keeper_of self.new)
-            ⊎ IsUnasked K.keeps (keeper_of self.old) e (keeper_of self.new)) }
-        ensures kept { IsKept self.old self.new }
-    {
-        let now = self.clock.now();
-        if self.receipts.reserve(1).is_err() {
-            return Err(Error::Memory);
-        }
-        match self
-            .keeper
-            .take(self.alloc, &Act::NoteTime(now), &Unverified)
-        {
-            Ok(receipt) => {
-                self.receipts.push_reserved(receipt);
-                Ok(now)
-            }
-            Err(error) => Err(Error::from(error)),
-        }
-    }
-
-    // Notes the time, which must be before any of the documents expires, where that counts.
+    // Has the keeper note the time, which must be before any of the documents expires, where that counts.
     fn be_in_time(&mut self) -> Result<(), Error>
         ensures timely { OnOk result
             (InTime K.keeps (enforced_of self.old) (documents_of self.old)
@@ -104,44 +48,24 @@ impl<T: Transport, K: Keeper, C: Clock + Drop> Repository<T, K, C> {
     {
         match self.enforcement {
             ExpirationEnforcement::Unsafe => Ok(()),
-            ExpirationEnforcement::Safe => match self.note_time() {
-                Ok(now) => {
-                    let Dated { role, expires } = self.earliest();
-                    if now < expires {
-                        Ok(())
-                    } else {
-                        Err(Error::ExpiredMetadata { role, expires, now })
-                    }
+            ExpirationEnforcement::Safe => {
+                let now = self.clock.now();
+                let first = self.earliest();
+                match note_timely(self.alloc, &mut self.keeper, &mut self.receipts, now, first) {
+                    Ok(()) => Ok(()),
+                    Err(error) => Err(Error::from(error)),
                 }
-                Err(error) => Err(error),
-            },
+            }
         }
     }
 
     // What is listed under the name.
-    pub(crate) fn find(&self, name: &TargetName) -> Result<Option<&Target>, Error>
-        ensures found { IfOk result
+    pub(crate) fn find(&self, name: &TargetName) -> Result<Option<&Target>, AllocError>
+        ensures { IfOk result
             (λ o. option_map (λ t. target_doc t.now) o
             ≡ target_at (documents_of self.now) name.now) }
-        ensures memory { IfErr result (λ e. e ≡ Error.Memory) }
     {
-        match self
-            .loaded
-            .targets()
-            .signed
-            .find_target(self.alloc, name, false)
-        {
-            Ok(target) => Ok(Some(target)),
-            Err(error) => {
-                let is_memory = is_memory(&error);
-                drop(error);
-                if is_memory {
-                    Err(Error::Memory)
-                } else {
-                    Ok(None)
-                }
-            }
-        }
+        listed_target(self.alloc, &self.loaded.targets().signed, name)
     }
 
     // Starts to fetch a target that is listed under the name.
@@ -187,13 +111,12 @@ impl<T: Transport, K: Keeper, C: Clock + Drop> Repository<T, K, C> {
         if let Err(error) = self.be_in_time() {
             return Err(error);
         }
-        match self.find(name) {
-            Ok(None) => Ok(None),
-            Ok(Some(target)) => match self.fetch(name, target) {
+        match self.find(name)? {
+            None => Ok(None),
+            Some(target) => match self.fetch(name, target) {
                 Ok(stream) => Ok(Some(stream)),
                 Err(error) => Err(error),
             },
-            Err(error) => Err(error),
         }
     }
 

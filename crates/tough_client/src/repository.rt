@@ -12,7 +12,7 @@ use std::alloc::{AllocError, Global};
 use tough_load::{Clock, ExpirationEnforcement, Keeper, Limits, Load, LoadParts, Loaded, Receipt};
 use tough_names::TargetName;
 use tough_net::Transport;
-use tough_roles::{self as schema, Root, Signed, Snapshot, Timestamp, Verify};
+use tough_roles::{Root, Signed, Snapshot, Timestamp, Verify};
 use tough_schema::{DelegatedRole, Target, Targets};
 use url::Url;
 
@@ -132,8 +132,11 @@ impl<T, K, C> Repository<T, K, C> {
             .delegated_role(self.alloc, name)
         {
             Ok(role) => Ok(Some(role)),
-            Err(schema::Error::Memory) => Err(AllocError),
-            Err(_) => Ok(None),
+            Err(error) => {
+                let is_memory = error.is_memory();
+                drop(error);
+                if is_memory { Err(AllocError) } else { Ok(None) }
+            }
         }
     }
 

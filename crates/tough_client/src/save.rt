@@ -59,13 +59,12 @@ impl<T: Transport, K: Keeper, C: Clock + Drop> Repository<T, K, C> {
     {
         match prefix {
             Prefix::None => Ok(String::from_str(self.alloc, name.resolved())?),
-            Prefix::Digest => match self.find(name) {
-                Ok(Some(target)) => {
+            Prefix::Digest => match self.find(name)? {
+                Some(target) => {
                     let digest = target.hashes.sha256.as_slice();
                     Ok(file_name(self.alloc, name.resolved(), digest, true)?)
                 }
-                Ok(None) => Err(Repository::<T, K, C>::unlisted(name)),
-                Err(error) => Err(error),
+                None => Err(Repository::<T, K, C>::unlisted(name)),
             },
         }
     }

@@ -1,15 +1,4 @@
 pub mod lemmas
-pub mod Holding
-pub mod Joining
-pub mod Heads
-pub mod Ends
-pub mod Ordered
-pub mod Unambiguous
-pub mod Existence
-pub mod Placing
-pub mod Escaping
-pub mod Plain
-pub mod ByName
 pub mod MemberLemmas
 pub mod MomentLemmas
 pub mod Fractions

@@ -1,7 +1,7 @@
 -- Facts about this crate's definitions, for the proofs of the crates above it too.
 pub mod Borrowed
-pub mod Computed
-pub mod Exactness
+pub use Rattle.tough_cjson.proofs.lemmas.Computed
+pub use Rattle.tough_cjson.proofs.lemmas.Exactness
 pub mod Json
 pub mod Each
 pub mod List

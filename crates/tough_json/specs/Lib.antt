@@ -1,9 +1,5 @@
-pub mod Ascii
-pub mod ByName
-pub mod Canon
-pub mod CanonicalText
-pub mod Same
-pub mod Small
+pub use Rattle.tough_cjson.specs.Canon
+pub use Rattle.tough_cjson.specs.CanonicalText
 pub mod Reading
 pub mod Results
 pub mod Writing

@@ -8,8 +8,8 @@ use Rattle.std.specs.Ordering.{nat_cmp}
 use Rattle.std.specs.Str.{IsAscii, bytes_eq}
 use Rattle.serde_json.specs.Data.{Data, Members, no_members, member}
 use Rattle.serde_json.specs.Written.{has_float, compact_text}
-use Rattle.tough_json.specs.Canon.{joined}
-use Rattle.tough_json.specs.CanonicalText.{canonical_of}
+use Rattle.tough_cjson.specs.Canon.{joined}
+use Rattle.tough_cjson.specs.CanonicalText.{canonical_of}
 use Rattle.tough_json.specs.declared.pieces.Form.{Form}
 use Rattle.tough_json.specs.declared.pieces.Form.TheVariants as forms
 use Rattle.tough_json.specs.declared.pieces.ObjectText.{ObjectText}

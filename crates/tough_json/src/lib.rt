@@ -1,9 +1,8 @@
-//! Canonical JSON, members of JSON objects, taken out and put in, and the text of an instant: what documents are read
-//! and written by.
+//! Members of JSON objects, taken out and put in, objects written member by member, and the text of an instant: what documents are read and
+//! written by. Canonical JSON is re-exported.
 #![tactic(auto)]
 
 pub mod borrowed;
-pub mod cjson;
 pub mod error;
 pub mod list;
 pub mod member;
@@ -14,7 +13,7 @@ pub mod table;
 pub mod text;
 pub mod write;
 
-pub use cjson::{CjsonError, canonical, holds_float};
 pub use error::{ReadError, WriteError};
 pub use moment::{MomentError, moment_text};
 pub use pieces::{Form, ObjectText, PieceError};
+pub use tough_cjson::{CjsonError, canonical, holds_float};

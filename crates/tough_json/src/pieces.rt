@@ -8,11 +8,11 @@ ghost use Rattle.tough_json.specs.Results.{Writes};
 ghost use Rattle.tough_json.specs.declared.pieces.Form.{Form as Kind};
 ghost use Rattle.tough_json.specs.Pieces.{text_in, is_simple_byte, IsSimple, AreBelow, and_last, replaced, piece, Stands};
 
-use crate::cjson::{CjsonError, canonical, holds_float};
 use crate::error::WriteError;
 use crate::text::bytes_of;
 use serde_json::{Map, Value};
 use std::alloc::{AllocError, Global};
+use tough_cjson::{CjsonError, canonical, holds_float};
 
 /// Which text of a value is written.
 #[derive(Clone, Copy, Debug, PartialEq, Eq, Drop)]

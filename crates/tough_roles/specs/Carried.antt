@@ -1,4 +1,5 @@
 -- The errors of values, carried into that of documents.
+use Rattle.std.specs.Prelude.{Bool, true, false}
 use Rattle.tough_base.specs.declared.decoded.DecodeError.{DecodeError}
 use Rattle.tough_base.specs.declared.decoded.DecodeError.TheVariants as decoding
 use Rattle.tough_names.specs.declared.pattern.reading.PatternError.{PatternError}
@@ -14,3 +15,8 @@ decode_error decoding.Memory = errors.Memory
 abbrev pub pattern_error : PatternError → Error
 pattern_error pattern.Glob = errors.Glob
 pattern_error pattern.Memory = errors.Memory
+
+-- a request for memory was refused
+abbrev pub wants_memory : Error → Bool
+wants_memory errors.Memory = true
+wants_memory _ = false

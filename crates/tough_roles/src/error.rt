@@ -95,6 +95,18 @@ pub enum Error {
 /// What a call on documents answers.
 pub type Result<T> = std::result::Result<T, Error>;
 
+impl Error {
+    ghost use Rattle.std.specs.Prelude.{◌≡◌};
+    ghost use Rattle.tough_roles.specs.Carried.{wants_memory};
+
+    /// Whether a request for memory was refused.
+    pub fn is_memory(&self) -> bool
+        ensures { result ≡ wants_memory self.now }
+    {
+        matches!(self, Error::Memory)
+    }
+}
+
 impl From<AllocError> for Error {
     ghost use Rattle.std.specs.Prelude.{◌≡◌};
     ghost use Rattle.tough_roles.specs.declared.error.Error.TheVariants.{Memory};

@@ -7,3 +7,4 @@ pub mod Rotation
 pub mod Listed
 pub mod Steps
 pub mod View
+pub mod Timely

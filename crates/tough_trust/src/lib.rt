@@ -8,8 +8,10 @@ mod fault;
 mod holder;
 mod keeper;
 mod limits;
+mod listed;
 mod request;
 mod rotation;
+mod timely;
 mod walk;
 
 pub use act::Act;
@@ -18,8 +20,10 @@ pub use fault::Fault;
 pub use holder::{Holder, check_tree, holder_of, judge, wanted_name};
 pub use keeper::{Keeper, take_step};
 pub use limits::Limits;
+pub use listed::listed_target;
 pub use request::{
     Request, role_request, root_request, snapshot_request, targets_request, timestamp_request,
 };
 pub use rotation::is_rotated;
+pub use timely::{Dated, earliest, note_timely};
 pub use walk::{first_root, next_request, next_root, next_version};

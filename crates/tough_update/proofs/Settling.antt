@@ -1,11 +1,9 @@
 -- How a turn of the program ends.
-use Rattle.std.proofs.Common.{◌≡◌, ◌⊎◌, List, ℕ, ℤ, Bool, Some, None, Result, Ok, Err, refl, sym, ap, ◌∙◌, inl, inr}
-use Rattle.tough_keys.specs.Same.{Verifies}
+use Rattle.std.proofs.Common.{◌≡◌, None, Result, Ok, Err, refl, sym, ap, inl, inr}
 use Rattle.tough_trust.specs.Failure.{Failure, ParseTrustedMetadata, VerifyTrustedMetadata, ParseMetadata, MaxUpdatesExceeded, ParseUrl, JoinUrl, Transport, InvalidPath, Checked, DatastoreOpen, DatastoreCreate, DatastoreRemove, Memory, IsRefused}
-use Rattle.tough_update.specs.Stages.{StageDoc, CoreDoc, Done}
-use Rattle.tough_update.specs.Answered.{AnswerDoc}
-use Rattle.tough_update.specs.Machine.{settled, stage_after}
-use Rattle.tough_update.specs.Promises.{Settles, Goes, ended}
+use Rattle.tough_update.specs.Stages.{StageDoc, Done}
+use Rattle.tough_update.specs.Machine.{settled}
+use Rattle.tough_update.specs.Promises.{Settles, ended}
 use Rattle.tough_update.specs.View.{stage_doc}
 use Rattle.tough_trust.specs.declared.error.UpdateError.{UpdateError}
 use Rattle.tough_update.specs.declared.stage.Loaded.{Loaded}
@@ -29,19 +27,6 @@ failed r (Checked reason) h = inl (sym (ap settled h))
 failed r (DatastoreOpen path) h = inl (sym (ap settled h))
 failed r (DatastoreCreate path) h = inl (sym (ap settled h))
 failed r (DatastoreRemove path) h = inl (sym (ap settled h))
-
-pub goes : (v : Verifies) (old : CoreDoc) (trusted : List ℕ) (stage : StageDoc) (a : AnswerDoc) (new : StageDoc) → trusted ≡ old.setting.trusted → stage ≡ old.stage
-    → Settles (stage_after v (record { trusted = trusted; limits = old.setting.limits; enforced = old.setting.enforced }) stage a) new
-    → Goes v old a (record { setting = old.setting; stage = new })
-goes v old trusted stage a new t s (inl h) =
-    inl (ap (λ x. record { setting = old.setting; stage = x }) (h ∙ (ap (λ x. settled (stage_after v (record { trusted = x; limits = old.setting.limits; enforced = old.setting.enforced }) stage a)) t ∙ ap (λ x. settled (stage_after v old.setting x a)) s)))
-goes v old trusted stage a new t s (inr h) = inr (ap (λ x. record { setting = old.setting; stage = x }) h)
-
--- the same, where memory may be wanting for what is counted
-pub counted-on : (r : Result StageDoc Failure) (x y : StageDoc) → Settles r x → (y ≡ x) ⊎ (y ≡ Done (Err Memory)) → Settles r y
-counted-on r x y (inl h) (inl e) = inl (e ∙ h)
-counted-on r x y (inr h) (inl e) = inr (e ∙ h)
-counted-on r x y h (inr e) = inr e
 
 -- a stage that is no end
 pub unended : (s : Stage) → ((o : Result Loaded UpdateError) → s ≡ in_stage.Done o → ⊥) → None ≡ ended (stage_doc s)

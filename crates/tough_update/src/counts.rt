@@ -76,24 +76,12 @@ impl Counts {
     }
 
     // With the tree, where the update has succeeded.
-    fn with_tree(self, alloc: Global, stage: &Stage) -> Result<Counts, AllocError>
+    pub(crate) fn with_tree(self, alloc: Global, stage: &Stage) -> Result<Counts, AllocError>
         ensures { IfOk result (λ n. n ≡ with_tree (stage_doc stage.now) self) }
     {
         match stage {
             Stage::Done(Ok(loaded)) => self.with_roles(alloc, &loaded.targets.signed),
             _ => Ok(self),
         }
-    }
-}
-
-/// The stage, and the counts with the tree, where the update has succeeded; where memory is wanting, it ends with `Memory`.
-pub(crate) fn count_tree(alloc: Global, counts: Counts, stage: Stage) -> (Counts, Stage)
-    ensures counts { result.0 ≡ with_tree (stage_doc result.1) counts }
-    ensures stage { (stage_doc result.1 ≡ stage_doc stage)
-        ⊎ (stage_doc result.1 ≡ Done (Err Memory)) }
-{
-    match counts.with_tree(alloc, &stage) {
-        Ok(more) => (more, stage),
-        Err(_) => (counts, Stage::Done(Err(UpdateError::Memory))),
     }
 }

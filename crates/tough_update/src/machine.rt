@@ -10,7 +10,7 @@ ghost use Rattle.tough_update.specs.View.{core_doc, counts_of, stage_doc, answer
 ghost use Rattle.tough_update.specs.Promises.{Settles, Goes, fits, ended};
 
 use crate::ask::{Answer, Ask};
-use crate::counts::{Counts, count_tree};
+use crate::counts::Counts;
 use crate::stage::{Loaded, Pending, Stage};
 use crate::turns::{Setting, end_cut, end_unstarted, read_wanted, take_step};
 use std::alloc::Global;
@@ -135,9 +135,16 @@ impl Core {
         };
         let counts = self.counts.with_fetch(&stage, &answer);
         let stage = next(&setting, stage, answer, verifier);
-        let (counts, stage) = count_tree(alloc, counts, stage);
-        self.counts = counts;
-        self.stage = stage;
+        match counts.with_tree(alloc, &stage) {
+            Ok(counts) => {
+                self.counts = counts;
+                drop(mem::replace(&mut self.stage, stage));
+            }
+            Err(_) => {
+                self.counts = counts;
+                drop(stage);
+            }
+        }
     }
 
     /// How much was fetched by now and, once the update has succeeded, how much of it stands in the tree of delegated roles.

@@ -357,6 +357,9 @@ pub(crate) fn take_step<V: Verify>(
 {
     match taken {
         Ok(()) => after(setting, pending, verifier),
-        Err(error) => Err(UpdateError::from(error)),
+        Err(error) => {
+            drop(pending);
+            Err(UpdateError::from(error))
+        }
     }
 }

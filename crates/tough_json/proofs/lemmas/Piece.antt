@@ -16,10 +16,10 @@ use Rattle.serde_json.specs.Find.{get_member}
 use Rattle.serde_json.specs.View.{view, members_view}
 use Rattle.serde_json.specs.Written.{has_float, members_have_float, compact_text, members_text}
 use Rattle.serde_json.proofs.Views.{Entry}
-use Rattle.tough_json.specs.Canon.{Member, escaped, escaped_byte, joined, member_text}
-use Rattle.tough_json.specs.CanonicalText.{canonical_of, member_texts, in_order, put_in, object_text}
-use Rattle.tough_json.proofs.Joining.{is_nil, comma_unless, piece_more}
-use Rattle.tough_json.proofs.Plain.{nfc_text-IsAscii}
+use Rattle.tough_cjson.specs.Canon.{Member, escaped, escaped_byte, joined, member_text}
+use Rattle.tough_cjson.specs.CanonicalText.{canonical_of, member_texts, in_order, put_in, object_text}
+use Rattle.tough_cjson.proofs.lemmas.Joining.{is_nil, comma_unless, piece_more}
+use Rattle.tough_cjson.proofs.lemmas.Plain.{nfc_text-IsAscii}
 use Rattle.tough_json.specs.declared.pieces.Form.{Form}
 use Rattle.tough_json.specs.declared.pieces.Form.TheVariants as forms
 use Rattle.tough_json.specs.declared.pieces.ObjectText.{ObjectText}

@@ -1,0 +1,10 @@
+pub mod lemmas
+pub mod Holding
+pub mod Heads
+pub mod Ends
+pub mod Ordered
+pub mod Unambiguous
+pub mod Existence
+pub mod Placing
+pub mod Escaping
+pub mod ByName

@@ -1,5 +1,0 @@
-use Rattle.tough_json.proofs.lemmas.Computed.{Canon-computed, computed}
-use Rattle.tough_json.proofs.cjson.laws.computed_text.Goals as goal
-
-pub returns : goal.returns
-returns c = λ v t. (λ e. Canon-computed v t e, λ h. computed v t h)

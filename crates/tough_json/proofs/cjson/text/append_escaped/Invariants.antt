@@ -1,8 +1,0 @@
-use Rattle.std.proofs.Common.{◌≡◌, ◌≤◌, ◌++◌, take}
-use Rattle.std.specs.List.{slice_range}
-use Rattle.tough_json.specs.Canon.{escaped}
-use Rattle.tough_json.proofs.cjson.text.append_escaped.Given as goal
-
-abbrev pub invariant-loop-index : goal.invariant-loop-index
-invariant-loop-index l =
-    (l.start ≤ l.index) × (l.out.items ++ slice_range l.bytes l.start l.index ≡ l.fn.out.items ++ escaped (take l.index l.bytes))

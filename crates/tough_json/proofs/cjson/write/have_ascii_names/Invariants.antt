@@ -1,6 +1,0 @@
-use Rattle.serde_json.specs.View.{members_view}
-use Rattle.tough_json.specs.Ascii.{HaveAsciiNames}
-use Rattle.tough_json.proofs.cjson.write.have_ascii_names.Given as goal
-
-abbrev pub invariant-loop-name : goal.invariant-loop-name
-invariant-loop-name l = HaveAsciiNames (members_view l.name-iterator) → HaveAsciiNames (members_view l.members.entries)

@@ -1,0 +1,84 @@
+//! Until when what was loaded serves (TUF specification 5.7).
+
+ghost use Rattle.std.specs.Prelude.{◌≡◌};
+ghost use Rattle.tough_trust.specs.Timely.{expiry_doc, NotesTimely};
+ghost use Rattle.tough_trust.specs.Timely as spec;
+ghost use Rattle.tough_trust.specs.View.{step_doc};
+
+use crate::act::Act;
+use crate::keeper::{Keeper, take_step};
+use jiff::Timestamp as Instant;
+use std::alloc::Global;
+use tough_roles::{Key, RoleType, Verify};
+use tough_vault::{Receipt, Refusal, StepError};
+
+/// A role, and when its document expires.
+#[derive(Clone, Copy, Drop)]
+pub struct Dated {
+    /// The role.
+    pub role: RoleType,
+    /// The expiry of its document.
+    pub expires: Instant,
+}
+
+// The one that comes first; of two that come at once, the first of them.
+fn sooner(first: Dated, second: Dated) -> Dated
+    ensures { expiry_doc result ≡ spec.sooner (expiry_doc first) (expiry_doc second) }
+{
+    if second.expires < first.expires {
+        second
+    } else {
+        first
+    }
+}
+
+// A role whose document expires then.
+fn expiring(role: RoleType, expires: Instant) -> Dated
+    ensures { expiry_doc result ≡ record { role = role; time = expires.nanosecond } }
+{
+    Dated { role, expires }
+}
+
+/// The role whose document expires first, by the expiries of the four: of two that expire at once, the first of root, timestamp, snapshot
+/// and targets.
+pub fn earliest(root: Instant, timestamp: Instant, snapshot: Instant, targets: Instant) -> Dated
+    ensures { expiry_doc result ≡ spec.earliest root.nanosecond timestamp.nanosecond
+        snapshot.nanosecond targets.nanosecond }
+{
+    let root = expiring(RoleType::Root, root);
+    let timestamp = expiring(RoleType::Timestamp, timestamp);
+    let snapshot = expiring(RoleType::Snapshot, snapshot);
+    let targets = expiring(RoleType::Targets, targets);
+    sooner(sooner(sooner(root, timestamp), snapshot), targets)
+}
+
+// Takes no signature for one. To note a moment verifies nothing, so it doesn't matter which verifier is handed to that step.
+struct Unverified;
+
+impl Verify for Unverified {
+    ghost verifies = { λ _. spec.nothing_verifies };
+
+    fn verify(&self, _key: &Key, _msg: &[u8], _sig: &[u8]) -> bool {
+        false
+    }
+}
+
+/// Has the keeper note the moment, and puts its receipt by. The moment must be before the expiry, or else `ExpiredMetadata` tells that
+/// role; the other refusals are the keeper's own.
+pub fn note_timely<K: Keeper>(
+    alloc: Global,
+    keeper: &mut K,
+    receipts: &mut Vec<Receipt>,
+    now: Instant,
+    first: Dated,
+) -> Result<(), StepError>
+    ensures { NotesTimely K.keeps (expiry_doc first) now.nanosecond keeper.old
+        (step_doc result) keeper.new }
+{
+    take_step(alloc, keeper, &Unverified, receipts, &Act::NoteTime(now))?;
+    let Dated { role, expires } = first;
+    if now < expires {
+        return Ok(());
+    }
+    Err(StepError::Refused(Refusal::ExpiredMetadata { role, expires, now }))
+}
