@@ -5,15 +5,18 @@ use anyhow::Error;
 use std::fs;
 use std::time::Instant;
 use tough::{
-    Clock, FilesystemTransport, Keeper, MemoryStore, OsFiles, Repository, Transport, Vault, finish,
+    Clock, DirStore, Files, FilesystemTransport, Keeper, OsFiles, Repository, Transport, Vault,
+    finish,
 };
 
 /// Loads the repository of a folder, which has `root.json`, `metadata` and `targets`, and prints how long it takes to save it as a whole
-/// in the folder `cached` there.
+/// in the folder `cached` there, beside the store.
 pub fn run(rt: &HostRuntime, folder: &str) -> Result<(), Error> {
     let alloc = rt.alloc();
     let root = fs::read(rt, format!(in alloc; "{folder}/root.json")?.as_str())?;
-    let mut vault = Vault::new(alloc, MemoryStore::new(alloc));
+    let store = format!(in alloc; "{folder}/cached/store")?;
+    OsFiles::new(rt.clone()?).make_folders(store.as_str())?;
+    let mut vault = Vault::new(alloc, DirStore::new(rt.clone()?, store));
     let done = load_and_save(rt, root.as_slice(), &mut vault, folder);
     drop(vault);
     done

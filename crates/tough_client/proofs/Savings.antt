@@ -14,18 +14,19 @@ use Rattle.tough_net.specs.declared.error.TransportError.{TransportError}
 use Rattle.tough_net.specs.declared.max_size.MaxSize.{MaxSize}
 use Rattle.tough_net.specs.Items.{Item}
 use Rattle.tough_vault.specs.Act.{Act}
-use Rattle.tough_vault.specs.declared.checks.StepError.{StepError}
+use Rattle.tough_checks.specs.declared.checks.StepError.{StepError}
 use Rattle.tough_vault.specs.declared.entry.Receipt.{Receipt}
+use Rattle.tough_trust.specs.Timely.{Keeping}
 use Rattle.tough_client.specs.declared.error.Error.{Error}
 use Rattle.tough_save.specs.declared.saving.Saving.{Saving}
 use Rattle.tough_client.specs.declared.repository.Repository.{Repository}
 use Rattle.tough_client.specs.declared.save.Prefix.{Prefix}
-use Rattle.tough_client.specs.Repositories.{keeper_of}
+use Rattle.tough_client.specs.Repositories.{keeping_of}
 use Rattle.tough_client.specs.Saving.{Finishes, Continues, Starts, SavesTarget, GoesOnSaving}
 
 module _ {T K C S : Type 0} (refuses : T → Parts → TransportError → Type 0) (serves : T → Parts → Runs Item) (yields : S → Runs Item) (can_poll : S → Type 0)
     (keeps : Verifies → K → Act → Result Receipt StepError → K → Type 0) (tells : Bool)
-    (r : Repository T K C) (name : Named) (outdir : List ℕ) (p : Prefix) (old mid : List Told) (next : K) (s : Saving (DigestCheck (MaxSize S))) where
+    (r : Repository T K C) (name : Named) (outdir : List ℕ) (p : Prefix) (old mid : List Told) (next : Keeping K) (s : Saving (DigestCheck (MaxSize S))) where
   -- it started, and finished
   pub saves : Starts refuses serves yields can_poll keeps tells r name outdir p old mid next (Ok s) → (new : List Told) (result : Result (Unit {0}) Error) → Finishes yields tells name s mid new result
       → SavesTarget refuses serves yields can_poll keeps tells r name outdir p old new next result
@@ -37,22 +38,22 @@ module _ {T K C S : Type 0} (refuses : T → Parts → TransportError → Type 0
     (o : Option (Saving (DigestCheck (MaxSize S)))) (r : Repository T K C) (name : Named) (outdir : List ℕ) (p : Prefix) (old : List Told) where
   -- what a saving may come to from here
   abbrev May : Result (Unit {0}) Error → Type 0
-  May result = (calls : List Told) × (k : K) × GoesOnSaving refuses serves yields can_poll keeps tells o r name outdir p old calls k result
+  May result = (calls : List Told) × (k : Keeping K) × GoesOnSaving refuses serves yields can_poll keeps tells o r name outdir p old calls k result
 
-  may : (calls : List Told) (k : K) (x : Result (Unit {0}) Error) → GoesOnSaving refuses serves yields can_poll keeps tells o r name outdir p old calls k x → May x
+  may : (calls : List Told) (k : Keeping K) (x : Result (Unit {0}) Error) → GoesOnSaving refuses serves yields can_poll keeps tells o r name outdir p old calls k x → May x
   may calls k x h = (calls, k, h)
 
   module _ (s : Saving (DigestCheck (MaxSize S))) (is : o ≡ Some s) where
     pub some_value : (new : List Told) (result : Poll (Result (Unit {0}) Error)) → IfReady result (Finishes yields tells name s old new) → IfReady result May
-    some_value new (Ready x) h = may new (keeper_of r) x (rw is (h, refl))
+    some_value new (Ready x) h = may new (keeping_of r) x (rw is (h, refl))
     some_value new Pending h = h
 
   -- it couldn't start
-  pub none_failed : (new : List Told) (next : K) (e : Error) → o ≡ None → Starts refuses serves yields can_poll keeps tells r name outdir p old new next (Err e)
+  pub none_failed : (new : List Told) (next : Keeping K) (e : Error) → o ≡ None → Starts refuses serves yields can_poll keeps tells r name outdir p old new next (Err e)
       → GoesOnSaving refuses serves yields can_poll keeps tells o r name outdir p old new next (Err e)
   none_failed new next e is h = rw is (inl h)
 
-  module _ (s : Saving (DigestCheck (MaxSize S))) (mid : List Told) (next : K) (is : o ≡ None) (started : Starts refuses serves yields can_poll keeps tells r name outdir p old mid next (Ok s)) where
+  module _ (s : Saving (DigestCheck (MaxSize S))) (mid : List Told) (next : Keeping K) (is : o ≡ None) (started : Starts refuses serves yields can_poll keeps tells r name outdir p old mid next (Ok s)) where
     whole : (new : List Told) (result : Result (Unit {0}) Error) → Finishes yields tells name s mid new result
         → GoesOnSaving refuses serves yields can_poll keeps tells o r name outdir p old new next result
     whole new result h = rw is (saves refuses serves yields can_poll keeps tells r name outdir p old mid next s started new result h)
@@ -68,12 +69,12 @@ module _ {T K C S : Type 0} (refuses : T → Parts → TransportError → Type 0
 
     none_later : (o' : Option (Saving (DigestCheck (MaxSize S)))) (r' : Repository T K C) (outdir' : List ℕ) (p' : Prefix) (done : List Told)
         → IsSomeAnd o' (Continues yields tells name s mid done) → (x : Result (Unit {0}) Error)
-        → ((calls : List Told) × (k : K) × GoesOnSaving refuses serves yields can_poll keeps tells o' r' name outdir' p' done calls k x) → May x
+        → ((calls : List Told) × (k : Keeping K) × GoesOnSaving refuses serves yields can_poll keeps tells o' r' name outdir' p' done calls k x) → May x
     none_later None r' outdir' p' done w x h = absurd w
     none_later (Some later) r' outdir' p' done w x h = may h.0 next x (whole h.0 x (w x h.0 h.2.0))
 
     pub none_same : (o' : Option (Saving (DigestCheck (MaxSize S)))) (r' : Repository T K C) (outdir' : List ℕ) (p' : Prefix) (done : List Told) (result : Poll (Result (Unit {0}) Error))
         → OnPending result (IsSomeAnd o' (Continues yields tells name s mid done))
-        → OnPending result ((x : Result (Unit {0}) Error) → ((calls : List Told) × (k : K) × GoesOnSaving refuses serves yields can_poll keeps tells o' r' name outdir' p' done calls k x) → May x)
+        → OnPending result ((x : Result (Unit {0}) Error) → ((calls : List Told) × (k : Keeping K) × GoesOnSaving refuses serves yields can_poll keeps tells o' r' name outdir' p' done calls k x) → May x)
     none_same o' r' outdir' p' done (Ready x) h = h
     none_same o' r' outdir' p' done Pending h = none_later o' r' outdir' p' done h

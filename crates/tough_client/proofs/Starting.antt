@@ -12,8 +12,9 @@ use Rattle.tough_net.specs.declared.error.TransportError.{TransportError}
 use Rattle.tough_net.specs.declared.max_size.MaxSize.{MaxSize}
 use Rattle.tough_net.specs.Items.{Item}
 use Rattle.tough_vault.specs.Act.{Act}
-use Rattle.tough_vault.specs.declared.checks.StepError.{StepError}
+use Rattle.tough_checks.specs.declared.checks.StepError.{StepError}
 use Rattle.tough_vault.specs.declared.entry.Receipt.{Receipt}
+use Rattle.tough_trust.specs.Timely.{Keeping}
 use Rattle.tough_update.specs.Stages.{LoadedDoc}
 use Rattle.tough_client.specs.declared.error.Error.{Error}
 use Rattle.tough_client.specs.declared.error.Error.TheVariants as error
@@ -25,12 +26,12 @@ use Rattle.tough_save.specs.Places.{IsPlace, IsMisplaced, parent_of, path_of}
 use Rattle.tough_save.specs.Savings.{stream_of, temp_of, target_of}
 use Rattle.tough_client.specs.declared.repository.Repository.{Repository}
 use Rattle.tough_client.specs.declared.save.Prefix.{Prefix}
-use Rattle.tough_client.specs.Repositories.{documents_of, keeper_of}
+use Rattle.tough_client.specs.Repositories.{documents_of, keeping_of}
 use Rattle.tough_client.specs.Saving.{TellsSave, IsSavedAs, IsUnlisted, Places, Opened, Readies, Starts}
 
 module _ {T K C S : Type 0} (refuses : T → Parts → TransportError → Type 0) (serves : T → Parts → Runs Item) (yields : S → Runs Item) (can_poll : S → Type 0)
     (keeps : Verifies → K → Act → Result Receipt StepError → K → Type 0) (tells : Bool) (r : Repository T K C) (name : Named) where
-  module _ (dir : List ℕ) (place : Place) (old new : List Told) (next : K) where
+  module _ (dir : List ℕ) (place : Place) (old new : List Told) (next : Keeping K) where
     pub ready : (stream : DigestCheck (MaxSize S)) (s : Saving (DigestCheck (MaxSize S))) (temp : String Global) → Opened refuses serves yields can_poll keeps r name (Ok stream) next
         → stream_of s ≡ stream → (tells ≡ true → MakesTemp dir (parent_of place) (path_of place) (Ok temp) old new) → temp_of s ≡ string_bytes temp → target_of s ≡ path_of place
         → Readies refuses serves yields can_poll keeps tells r name dir place old new next (Ok s)
@@ -43,9 +44,9 @@ module _ {T K C S : Type 0} (refuses : T → Parts → TransportError → Type 0
         → Readies refuses serves yields can_poll keeps tells r name dir place old new next (Err e)
     unmade stream why e opened made told = inr (record { stream = stream; opened = opened; why = why; made = made; told = told })
 
-  module _ (outdir : List ℕ) (p : Prefix) (old new : List Told) (next : K) where
+  module _ (outdir : List ℕ) (p : Prefix) (old new : List Told) (next : Keeping K) where
     pub nowhere : (dir : String Global) (d : List ℕ) (e : Error) → d ≡ string_bytes dir → (tells ≡ true → Opens outdir (Ok dir) old new)
-        → Places (documents_of r) d name p (Err e) → next ≡ keeper_of r → Starts refuses serves yields can_poll keeps tells r name outdir p old new next (Err e)
+        → Places (documents_of r) d name p (Err e) → next ≡ keeping_of r → Starts refuses serves yields can_poll keeps tells r name outdir p old new next (Err e)
     nowhere dir d e same opened is kept =
         let P : List ℕ → Type 0 = λ x. Places (documents_of r) x name p (Err e) in
         inr (inl (record { dir = dir; opened = opened; nowhere = subst P same is; kept = kept }))

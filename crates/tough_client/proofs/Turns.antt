@@ -14,8 +14,9 @@ use Rattle.tough_names.specs.Named.{Named, GivesName}
 use Rattle.tough_net.specs.declared.error.TransportError.{TransportError}
 use Rattle.tough_net.specs.Items.{Item}
 use Rattle.tough_vault.specs.Act.{Act}
-use Rattle.tough_vault.specs.declared.checks.StepError.{StepError}
+use Rattle.tough_checks.specs.declared.checks.StepError.{StepError}
 use Rattle.tough_vault.specs.declared.entry.Receipt.{Receipt}
+use Rattle.tough_trust.specs.Timely.{Keeping}
 use Rattle.tough_client.specs.declared.error.Error.{Error}
 use Rattle.tough_client.specs.declared.cache.Caching.{Caching}
 use Rattle.tough_client.specs.declared.cache.Folders.{Folders}
@@ -28,7 +29,7 @@ use Rattle.tough_client.specs.declared.plan.Turn.TheVariants as turn
 use Rattle.tough_client.specs.declared.repository.Repository.{Repository}
 use Rattle.tough_client.specs.Caching.{IsFetched, Ends, Follows, BeginsFile, CopiesFile, prefix_of, BeginsTarget, BeginsIf, SavesNamed, SavesText, Begins, Does, Caches, GoesOnCaching, Continues, HasBegun, GoesOnPlan}
 use Rattle.tough_client.specs.Plans.{left_in}
-use Rattle.tough_client.specs.Repositories.{IsKept, documents_of, keeper_of}
+use Rattle.tough_client.specs.Repositories.{IsKept, documents_of, keeping_of}
 use Rattle.tough_client.specs.Saving.{Finishes}
 use Rattle.tough_client.proofs.Savings.{saves}
 
@@ -39,7 +40,7 @@ anyway Pending x = x
 
 module _ {T K C S : Type 0} (refuses : T → Parts → TransportError → Type 0) (serves : T → Parts → Runs Item) (yields : S → Runs Item) (can_poll : S → Type 0)
     (keeps : Verifies → K → Act → Result Receipt StepError → K → Type 0) (tells : Bool) where
-  module _ (r : Repository T K C) (dirs : Folders) (old mid : List Told) (next : K) where
+  module _ (r : Repository T K C) (dirs : Folders) (old mid : List Told) (next : Keeping K) where
     target_ended : (dir : List ℕ) (name : Named) (w : Work S) (new : List Told) (result : Result (Unit {0}) Error) → BeginsTarget refuses serves yields can_poll keeps tells r dir name old mid next (Ok (Some w))
         → Ends tells yields w mid new result → SavesNamed refuses serves yields can_poll keeps tells r dir name old new next result
     target_ended dir name (work.Target n s) new result h e =
@@ -95,10 +96,10 @@ module _ {T K C S : Type 0} (refuses : T → Parts → TransportError → Type 0
   module _ (r : Repository T K C) (dirs : Folders) (old mid : List Told) (c : Caching S) where
     -- ---- something is under way
     module _ (w : Work S) (is : c.work ≡ Some w) where
-      pub work_failed : (e : Error) → Ends tells yields w old mid (Err e) → GoesOnCaching refuses serves yields can_poll keeps tells c.work (left_in c.plan) r dirs old mid (keeper_of r) (Err e)
+      pub work_failed : (e : Error) → Ends tells yields w old mid (Err e) → GoesOnCaching refuses serves yields can_poll keeps tells c.work (left_in c.plan) r dirs old mid (keeping_of r) (Err e)
       work_failed e h = rw is (inl (h, tt, refl))
 
-      later_ends : (o : Option (Work S)) (ts : List Turn) (new : List Told) (next : K) (result : Result (Unit {0}) Error) → IsSomeAnd o (Follows tells yields w old mid)
+      later_ends : (o : Option (Work S)) (ts : List Turn) (new : List Told) (next : Keeping K) (result : Result (Unit {0}) Error) → IsSomeAnd o (Follows tells yields w old mid)
           → GoesOnCaching refuses serves yields can_poll keeps tells o ts r dirs mid new next result → GoesOnCaching refuses serves yields can_poll keeps tells (Some w) ts r dirs old new next result
       later_ends None ts new next result follows h = absurd follows
       later_ends (Some w') ts new next result follows (inl h) = inl (follows result new h.0, h.1, h.2)
@@ -116,40 +117,40 @@ module _ {T K C S : Type 0} (refuses : T → Parts → TransportError → Type 0
 
     -- ---- nothing is under way
     module _ (is : c.work ≡ None) where
-      pub all_done : left_in c.plan ≡ [] → (u : Unit {0}) → GoesOnCaching refuses serves yields can_poll keeps tells c.work (left_in c.plan) r dirs old old (keeper_of r) (Ok u)
+      pub all_done : left_in c.plan ≡ [] → (u : Unit {0}) → GoesOnCaching refuses serves yields can_poll keeps tells c.work (left_in c.plan) r dirs old old (keeping_of r) (Ok u)
       all_done none u = rw (is, none) (λ t. refl, refl, tt)
 
       module _ (t : Turn) (p : Plan) (planned : left_in c.plan ≡ t ∷ left_in p) (later : Repository T K C) where
-        pub turn_failed : (e : Error) → Begins {S = S} refuses serves yields can_poll keeps tells r dirs t old mid (keeper_of later) (Err e)
-            → GoesOnCaching refuses serves yields can_poll keeps tells c.work (left_in c.plan) r dirs old mid (keeper_of later) (Err e)
-        turn_failed e h = rw (is, planned) (inl (failed r dirs old mid (keeper_of later) t e h, tt))
+        pub turn_failed : (e : Error) → Begins {S = S} refuses serves yields can_poll keeps tells r dirs t old mid (keeping_of later) (Err e)
+            → GoesOnCaching refuses serves yields can_poll keeps tells c.work (left_in c.plan) r dirs old mid (keeping_of later) (Err e)
+        turn_failed e h = rw (is, planned) (inl (failed r dirs old mid (keeping_of later) t e h, tt))
 
-        goes_on : (o : Option (Work S)) → IsKept r later → Begins refuses serves yields can_poll keeps tells r dirs t old mid (keeper_of later) (Ok o)
-            → (new : List Told) (next : K) (result : Result (Unit {0}) Error) → GoesOnCaching refuses serves yields can_poll keeps tells o (left_in p) later dirs mid new next result
+        goes_on : (o : Option (Work S)) → IsKept r later → Begins refuses serves yields can_poll keeps tells r dirs t old mid (keeping_of later) (Ok o)
+            → (new : List Told) (next : Keeping K) (result : Result (Unit {0}) Error) → GoesOnCaching refuses serves yields can_poll keeps tells o (left_in p) later dirs mid new next result
             → Caches {S = S} refuses serves yields can_poll keeps tells (t ∷ left_in p) r dirs old new next result
-        goes_on None kept begun new next result h = inr (tt, mid, later, done r dirs old mid (keeper_of later) t tt begun, kept, h)
+        goes_on None kept begun new next result h = inr (tt, mid, later, done r dirs old mid (keeping_of later) t tt begun, kept, h)
         goes_on (Some w) kept begun new next result (inl h) =
-            inl (subst (λ k. Does {S = S} refuses serves yields can_poll keeps tells r dirs t old new k result) (sym h.2) (ended r dirs old mid (keeper_of later) t w new result begun h.0), h.1)
+            inl (subst (λ k. Does {S = S} refuses serves yields can_poll keeps tells r dirs t old new k result) (sym h.2) (ended r dirs old mid (keeping_of later) t w new result begun h.0), h.1)
         goes_on (Some w) kept begun new next result (inr h) =
-            inr (h.0, h.1, later, ended r dirs old mid (keeper_of later) t w h.1 (Ok h.0) begun h.2, kept, h.3)
+            inr (h.0, h.1, later, ended r dirs old mid (keeping_of later) t w h.1 (Ok h.0) begun h.2, kept, h.3)
 
-        pub turn_begun : (o : Option (Work S)) → IsKept r later → Begins refuses serves yields can_poll keeps tells r dirs t old mid (keeper_of later) (Ok o)
+        pub turn_begun : (o : Option (Work S)) → IsKept r later → Begins refuses serves yields can_poll keeps tells r dirs t old mid (keeping_of later) (Ok o)
             → Continues refuses serves yields can_poll keeps tells c r dirs old mid later (record { work = o; plan = p })
         turn_begun o kept begun = λ result new next h. rw (is, planned) (goes_on o kept begun new next result h)
 
   -- ---- the whole
   module _ (makes : List Told → List Told → Result (Unit {0}) Error → Type 0) (plans : List Turn → Type 0) (r : Repository T K C) (dirs : Folders) (old mid : List Told) (o : Option (Caching S)) where
     abbrev May : Result (Unit {0}) Error → Type 0
-    May result = (calls : List Told) × (k : K) × GoesOnPlan refuses serves yields can_poll keeps tells makes plans o r dirs old calls k result
+    May result = (calls : List Told) × (k : Keeping K) × GoesOnPlan refuses serves yields can_poll keeps tells makes plans o r dirs old calls k result
 
     module _ (is : o ≡ None) where
-      pub unbegun : (e : Error) → HasBegun {S = S} (makes old mid) plans (Err e) → GoesOnPlan refuses serves yields can_poll keeps tells makes plans o r dirs old mid (keeper_of r) (Err e)
+      pub unbegun : (e : Error) → HasBegun {S = S} (makes old mid) plans (Err e) → GoesOnPlan refuses serves yields can_poll keeps tells makes plans o r dirs old mid (keeping_of r) (Err e)
       unbegun e h = rw is (inl (h, refl))
 
       pub unbegun_value : (e : Error) → HasBegun {S = S} (makes old mid) plans (Err e) → May (Err e)
-      unbegun_value e h = (mid, keeper_of r, unbegun e h)
+      unbegun_value e h = (mid, keeping_of r, unbegun e h)
 
-      from_begun : (c : Caching S) → HasBegun (makes old mid) plans (Ok c) → (new : List Told) (next : K) (result : Result (Unit {0}) Error)
+      from_begun : (c : Caching S) → HasBegun (makes old mid) plans (Ok c) → (new : List Told) (next : Keeping K) (result : Result (Unit {0}) Error)
           → GoesOnCaching refuses serves yields can_poll keeps tells c.work (left_in c.plan) r dirs mid new next result
           → GoesOnPlan refuses serves yields can_poll keeps tells makes plans o r dirs old new next result
       from_begun c h new next result g =
@@ -157,24 +158,24 @@ module _ {T K C S : Type 0} (refuses : T → Parts → TransportError → Type 0
           rw is (inr (h.0, mid, left_in c.plan, h.1, h.3, subst P h.2 g))
 
       pub begun : (c : Caching S) → HasBegun (makes old mid) plans (Ok c) → (o' : Option (Caching S)) → o' ≡ Some c → (result : Result (Unit {0}) Error)
-          → ((calls : List Told) × (k : K) × GoesOnPlan refuses serves yields can_poll keeps tells makes plans o' r dirs mid calls k result) → May result
+          → ((calls : List Told) × (k : Keeping K) × GoesOnPlan refuses serves yields can_poll keeps tells makes plans o' r dirs mid calls k result) → May result
       begun c h o' is' result g =
           let P : Option (Caching S) → Type 0 = λ x. GoesOnPlan refuses serves yields can_poll keeps tells makes plans x r dirs mid g.0 g.1 result in
           (g.0, g.1, from_begun c h g.0 g.1 result (subst P is' g.2))
 
     module _ (c : Caching S) (is : o ≡ Some c) where
-      pub goes : (new : List Told) (next : K) (result : Result (Unit {0}) Error) → GoesOnCaching refuses serves yields can_poll keeps tells c.work (left_in c.plan) r dirs old new next result
+      pub goes : (new : List Told) (next : Keeping K) (result : Result (Unit {0}) Error) → GoesOnCaching refuses serves yields can_poll keeps tells c.work (left_in c.plan) r dirs old new next result
           → GoesOnPlan refuses serves yields can_poll keeps tells makes plans o r dirs old new next result
       goes new next result h = rw is h
 
-      pub goes_value : (new : List Told) (next : K) (result : Poll (Result (Unit {0}) Error)) → IfReady result (GoesOnCaching refuses serves yields can_poll keeps tells c.work (left_in c.plan) r dirs old new next)
+      pub goes_value : (new : List Told) (next : Keeping K) (result : Poll (Result (Unit {0}) Error)) → IfReady result (GoesOnCaching refuses serves yields can_poll keeps tells c.work (left_in c.plan) r dirs old new next)
           → IfReady result May
       goes_value new next (Ready x) h = (new, next, goes new next x h)
       goes_value new next Pending h = h
 
       pub continues : (plans' : List Turn → Type 0) (later : Repository T K C) (c' : Caching S) → Continues refuses serves yields can_poll keeps tells c r dirs old mid later c'
           → (o' : Option (Caching S)) → o' ≡ Some c' → (result : Result (Unit {0}) Error)
-          → ((calls : List Told) × (k : K) × GoesOnPlan refuses serves yields can_poll keeps tells makes plans' o' later dirs mid calls k result) → May result
+          → ((calls : List Told) × (k : Keeping K) × GoesOnPlan refuses serves yields can_poll keeps tells makes plans' o' later dirs mid calls k result) → May result
       continues plans' later c' h o' is' result g =
           let P : Option (Caching S) → Type 0 = λ x. GoesOnPlan refuses serves yields can_poll keeps tells makes plans' x later dirs mid g.0 g.1 result in
           (g.0, g.1, goes g.0 g.1 result (h result g.0 g.1 (subst P is' g.2)))

@@ -5,7 +5,7 @@ use Rattle.url.specs.Parts.{Parts}
 use Rattle.futures.specs.Runs.{Runs}
 use Rattle.tough_keys.specs.Same.{Verifies}
 use Rattle.tough_vault.specs.declared.entry.Receipt.{Receipt}
-use Rattle.tough_vault.specs.declared.checks.StepError.{StepError}
+use Rattle.tough_checks.specs.declared.checks.StepError.{StepError}
 use Rattle.tough_vault.specs.Act.{Act}
 use Rattle.tough_net.specs.declared.error.TransportError.{TransportError}
 use Rattle.tough_net.specs.Items.{Item}

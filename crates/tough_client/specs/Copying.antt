@@ -11,8 +11,8 @@ use Rattle.tough_roles.specs.Names.{versioned, file_name}
 use Rattle.tough_roles.specs.Timestamp.{MetafileDoc}
 use Rattle.tough_schema.specs.Targets.{delegated_file}
 use Rattle.tough_schema.specs.Whole.{top_doc}
-use Rattle.tough_vault.specs.Documents.{metafile_in}
-use Rattle.tough_vault.specs.Files.{snapshot_file, targets_file}
+use Rattle.tough_checks.specs.Documents.{metafile_in}
+use Rattle.tough_checks.specs.Files.{snapshot_file, targets_file}
 use Rattle.tough_trust.specs.declared.limits.Limits.{Limits}
 use Rattle.tough_trust.specs.Requests.{RequestDoc, bound, root_request, timestamp_request}
 use Rattle.tough_update.specs.Stages.{LoadedDoc, ReceivedDoc}

@@ -2,8 +2,8 @@
 use Rattle.std.specs.Prelude.{Option, Some, None, string_bytes}
 use Rattle.tough_names.specs.declared.name.NameError.{NameError}
 use Rattle.tough_names.specs.declared.name.NameError.TheVariants as names
-use Rattle.tough_vault.specs.Checks.{refused}
-use Rattle.tough_vault.specs.Checks as check
+use Rattle.tough_checks.specs.Checks.{refused}
+use Rattle.tough_checks.specs.Checks as check
 use Rattle.tough_trust.specs.Failure as failed
 use Rattle.tough_trust.specs.Failure.{Failure, is_json, name_missing}
 use Rattle.tough_client.specs.declared.error.Error.{Error}

@@ -1,8 +1,9 @@
 -- A repository that was loaded, by its parts.
 use Rattle.std.specs.Prelude.{◌≡◌, Bool, List}
 use Rattle.url.specs.Parts.{Parts}
-use Rattle.tough_vault.specs.Checks.{enforces}
+use Rattle.tough_checks.specs.Checks.{enforces}
 use Rattle.tough_vault.specs.declared.entry.Receipt.{Receipt}
+use Rattle.tough_trust.specs.Timely.{Keeping}
 use Rattle.tough_trust.specs.declared.limits.Limits.{Limits}
 use Rattle.tough_update.specs.declared.stage.Loaded.{Loaded}
 use Rattle.tough_update.specs.Stages.{LoadedDoc}
@@ -47,6 +48,10 @@ module _ {T K C : Type 0} where
   -- what the steps were told
   abbrev pub receipts_of : Repository T K C → List Receipt
   receipts_of r = r.receipts.items
+
+  -- the keeper, and what its steps were told
+  abbrev pub keeping_of : Repository T K C → Keeping K
+  keeping_of r = record { keeper = keeper_of r; receipts = receipts_of r }
 
   -- every part of the load is handed on, with these documents
   pub record IsMadeOf {V S : Type 0} (l : Load T K C V S) (documents : Loaded) (r : Repository T K C) : Type 0 where

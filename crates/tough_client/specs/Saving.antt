@@ -15,8 +15,9 @@ use Rattle.tough_net.specs.Items.{Item}
 use Rattle.tough_net.specs.Limiting.{Limits, limit_of, limited}
 use Rattle.tough_schema.specs.Target.{TargetDoc}
 use Rattle.tough_vault.specs.Act.{Act}
-use Rattle.tough_vault.specs.declared.checks.StepError.{StepError}
+use Rattle.tough_checks.specs.declared.checks.StepError.{StepError}
 use Rattle.tough_vault.specs.declared.entry.Receipt.{Receipt}
+use Rattle.tough_trust.specs.Timely.{Keeping}
 use Rattle.tough_update.specs.Stages.{LoadedDoc}
 use Rattle.tough_client.specs.declared.error.Error.{Error}
 use Rattle.tough_client.specs.declared.error.Error.TheVariants as error
@@ -34,7 +35,7 @@ use Rattle.tough_client.specs.declared.repository.Repository.{Repository}
 use Rattle.tough_client.specs.declared.save.Prefix.{Prefix}
 use Rattle.tough_client.specs.declared.save.Prefix.TheVariants as prefix
 use Rattle.tough_client.specs.Reading.{TellsFault, Reads, target_at}
-use Rattle.tough_client.specs.Repositories.{documents_of, keeper_of}
+use Rattle.tough_client.specs.Repositories.{documents_of, keeping_of}
 
 -- what a call that the files refused at a step is told as
 abbrev pub refusal : Step → String Global → FilesError → Error
@@ -149,14 +150,14 @@ CanGoOn can_poll s = failure_of (stream_of s) ≡ None → can_poll (limited (ch
 module _ {T K C S : Type 0} (refuses : T → Parts → TransportError → Type 0) (serves : T → Parts → Runs Item) (yields : S → Runs Item) (can_poll : S → Type 0)
     (keeps : Verifies → K → Act → Result Receipt StepError → K → Type 0) where
   -- the stream of a target, which must be listed
-  abbrev pub Opened : Repository T K C → Named → Result (DigestCheck (MaxSize S)) Error → K → Type 0
+  abbrev pub Opened : Repository T K C → Named → Result (DigestCheck (MaxSize S)) Error → Keeping K → Type 0
   Opened r name (Ok s) next = Reads refuses serves yields can_poll keeps r name (Ok (Some s)) next
   Opened r name (Err e) next = Reads refuses serves yields can_poll keeps r name (Err e) next
       ⊎ (Reads refuses serves yields can_poll keeps r name (Ok None) next × TellsMissing name e)
 
 module _ {T K C S : Type 0} (refuses : T → Parts → TransportError → Type 0) (serves : T → Parts → Runs Item) (yields : S → Runs Item) (can_poll : S → Type 0)
     (keeps : Verifies → K → Act → Result Receipt StepError → K → Type 0) (tells : Bool) where
-  module _ (r : Repository T K C) (name : Named) (dir : List ℕ) (place : Place) (old new : List Told) (next : K) where
+  module _ (r : Repository T K C) (name : Named) (dir : List ℕ) (place : Place) (old new : List Told) (next : Keeping K) where
     -- the target is being read, and there is a temporary file for it
     pub record IsReady (s : Saving (DigestCheck (MaxSize S))) : Type 0 where
       pub stream : Opened refuses serves yields can_poll keeps r name (Ok (stream_of s)) next
@@ -178,20 +179,20 @@ module _ {T K C S : Type 0} (refuses : T → Parts → TransportError → Type 0
     Readies (Ok s) = IsReady s
     Readies (Err e) = (Opened refuses serves yields can_poll keeps r name (Err e) next × (tells ≡ true → new ≡ old)) ⊎ IsUnmade e
 
-  module _ (r : Repository T K C) (name : Named) (outdir : List ℕ) (p : Prefix) (old new : List Told) (next : K) where
+  module _ (r : Repository T K C) (name : Named) (outdir : List ℕ) (p : Prefix) (old new : List Told) (next : Keeping K) where
     -- the folder couldn't be opened
     pub record IsUnopened (e : Error) : Type 0 where
       pub why : SaveError
       pub opened : tells ≡ true → Opens outdir (Err why) old new
       pub told : TellsSave name why e
-      pub kept : next ≡ keeper_of r
+      pub kept : next ≡ keeping_of r
 
     -- the target has no place in it
     pub record IsNowhere (e : Error) : Type 0 where
       pub dir : String Global
       pub opened : tells ≡ true → Opens outdir (Ok dir) old new
       pub nowhere : Places (documents_of r) (string_bytes dir) name p (Err e)
-      pub kept : next ≡ keeper_of r
+      pub kept : next ≡ keeping_of r
 
     -- the folder was opened, the target has a place in it, and there it goes on
     pub record GoesOn (result : Result (Saving (DigestCheck (MaxSize S))) Error) : Type 0 where
@@ -208,18 +209,18 @@ module _ {T K C S : Type 0} (refuses : T → Parts → TransportError → Type 0
     Starts (Err e) = IsUnopened e ⊎ (IsNowhere e ⊎ GoesOn (Err e))
 
   -- it started, and finished
-  pub record IsWhole (r : Repository T K C) (name : Named) (outdir : List ℕ) (p : Prefix) (old new : List Told) (next : K) (result : Result (Unit {0}) Error) : Type 0 where
+  pub record IsWhole (r : Repository T K C) (name : Named) (outdir : List ℕ) (p : Prefix) (old new : List Told) (next : Keeping K) (result : Result (Unit {0}) Error) : Type 0 where
     pub saving : Saving (DigestCheck (MaxSize S))
     pub mid : List Told
     pub started : Starts r name outdir p old mid next (Ok saving)
     pub finished : Finishes yields tells name saving mid new result
 
   -- The calls by which a target is saved, in their order, and what comes of them.
-  abbrev pub SavesTarget : Repository T K C → Named → List ℕ → Prefix → List Told → List Told → K → Result (Unit {0}) Error → Type 0
+  abbrev pub SavesTarget : Repository T K C → Named → List ℕ → Prefix → List Told → List Told → Keeping K → Result (Unit {0}) Error → Type 0
   SavesTarget r name outdir p old new next (Ok u) = IsWhole r name outdir p old new next (Ok u)
   SavesTarget r name outdir p old new next (Err e) = Starts r name outdir p old new next (Err e) ⊎ IsWhole r name outdir p old new next (Err e)
 
   -- the same from where a saving stands: at its start, or with its stream
-  abbrev pub GoesOnSaving : Option (Saving (DigestCheck (MaxSize S))) → Repository T K C → Named → List ℕ → Prefix → List Told → List Told → K → Result (Unit {0}) Error → Type 0
+  abbrev pub GoesOnSaving : Option (Saving (DigestCheck (MaxSize S))) → Repository T K C → Named → List ℕ → Prefix → List Told → List Told → Keeping K → Result (Unit {0}) Error → Type 0
   GoesOnSaving None r name outdir p old new next result = SavesTarget r name outdir p old new next result
-  GoesOnSaving (Some s) r name outdir p old new next result = Finishes yields tells name s old new result × (next ≡ keeper_of r)
+  GoesOnSaving (Some s) r name outdir p old new next result = Finishes yields tells name s old new result × (next ≡ keeping_of r)

@@ -5,10 +5,11 @@ ghost use Rattle.futures.specs.Poll.{IfReady, OnPending};
 ghost use Rattle.futures.specs.Task.{Covers, Keeps};
 ghost use Rattle.tough_files.specs.Calls.{Told};
 ghost use Rattle.tough_trust.specs.View.{request_doc};
+ghost use Rattle.tough_trust.specs.Timely.{Keeping};
 ghost use Rattle.tough_client.specs.Caching.{Ends, Follows, IsPollable, Needs, prefix_of, IsBegun, IsUnstarted, BeginsFile, BeginsTarget, BeginsText, Begins, GoesOnCaching, Continues, AreMade, BeginsMetadata, PlansAll, BeginsAll, GoesOnMetadata, GoesOnAll};
 ghost use Rattle.tough_client.specs.Futures.{cached_from, cached_in, folders_in, subset_in, chain_in, caching_in, metadata_from, metadata_in, metadata_folders_in, metadata_chain_in, metadata_caching_in};
 ghost use Rattle.tough_client.specs.Plans.{left_in};
-ghost use Rattle.tough_client.specs.Repositories.{IsKept, documents_of, keeper_of};
+ghost use Rattle.tough_client.specs.Repositories.{IsKept, documents_of, keeping_of};
 
 use crate::error::Error;
 use crate::failure::fault;
@@ -161,7 +162,7 @@ impl<T: Transport, K: Keeper, C: Clock + Drop> Repository<T, K, C> {
     ) -> Result<Option<Work<T::Stream>>, Error>
         ensures begins { BeginsTarget T.refuses T.serves T.Stream.yields T.Stream.can_poll K.keeps
             F.tells self.old folder.now name (F.calls files.old) (F.calls files.new)
-            (keeper_of self.new) result }
+            (keeping_of self.new) result }
         ensures can_poll { IfOk result (λ o. IfSome o (IsPollable T.Stream.can_poll)) }
         ensures kept { IsKept self.old self.new }
     {
@@ -181,7 +182,7 @@ impl<T: Transport, K: Keeper, C: Clock + Drop> Repository<T, K, C> {
     ) -> Result<Option<Work<T::Stream>>, Error>
         ensures begins { BeginsText T.refuses T.serves T.Stream.yields T.Stream.can_poll K.keeps
             F.tells self.old folder.now text.now (F.calls files.old) (F.calls files.new)
-            (keeper_of self.new) result }
+            (keeping_of self.new) result }
         ensures can_poll { IfOk result (λ o. IfSome o (IsPollable T.Stream.can_poll)) }
         ensures kept { IsKept self.old self.new }
     {
@@ -200,7 +201,7 @@ impl<T: Transport, K: Keeper, C: Clock + Drop> Repository<T, K, C> {
     ) -> Result<Option<Work<T::Stream>>, Error>
         ensures begins { Begins T.refuses T.serves T.Stream.yields T.Stream.can_poll K.keeps F.tells
             self.old folders.entry turn (F.calls files.old) (F.calls files.new)
-            (keeper_of self.new) result }
+            (keeping_of self.new) result }
         ensures can_poll { IfOk result (λ o. IfSome o (IsPollable T.Stream.can_poll)) }
         ensures kept { IsKept self.old self.new }
     {
@@ -230,7 +231,7 @@ impl<T: Transport, K: Keeper, C: Clock + Drop> Repository<T, K, C> {
         ensures done { IfReady result
             (GoesOnCaching T.refuses T.serves T.Stream.yields T.Stream.can_poll K.keeps F.tells
             caching.old.work (left_in caching.old.plan) self.old folders.entry (F.calls files.old)
-            (F.calls files.new) (keeper_of self.new)) }
+            (F.calls files.new) (keeping_of self.new)) }
         ensures continues { OnPending result
             (Continues T.refuses T.serves T.Stream.yields T.Stream.can_poll K.keeps F.tells
             caching.old self.old folders.entry (F.calls files.old)
@@ -424,7 +425,7 @@ impl<T: Transport, K: Keeper, C: Clock + Drop, F: Files, S: AsStr> Future
         (λ c. IsSomeAnd c.work (λ w. Needs T.Stream.needs w n)) };
 
     // Some calls and some keeper's steps lead to what it may give.
-    ghost gives = { λ m r. (calls : List Told) × (next : K)
+    ghost gives = { λ m r. (calls : List Told) × (next : Keeping K)
         × GoesOnAll T.refuses T.serves T.Stream.yields T.Stream.can_poll K.keeps F.tells m.caching
         m.repository.now m.folders (option_map (λ names. map S.text names.now) m.subset)
         m.root_chain (F.calls m.files.now) calls next r };
@@ -432,7 +433,7 @@ impl<T: Transport, K: Keeper, C: Clock + Drop, F: Files, S: AsStr> Future
     fn poll(&mut self, cx: &mut Context<'_>) -> Poll<Result<(), Error>>
         requires { IfSome self.old.caching (λ c. IfSome c.work (IsPollable T.Stream.can_poll)) }
         ensures value { IfReady result
-            (λ r. (calls : List Told) × (next : K)
+            (λ r. (calls : List Told) × (next : Keeping K)
             × GoesOnAll T.refuses T.serves T.Stream.yields T.Stream.can_poll K.keeps F.tells
             self.old.caching self.old.repository.now self.old.folders
             (option_map (λ names. map S.text names.now) self.old.subset) self.old.root_chain
@@ -442,16 +443,16 @@ impl<T: Transport, K: Keeper, C: Clock + Drop, F: Files, S: AsStr> Future
             self.old.caching self.old.repository.now self.old.folders
             (option_map (λ names. map S.text names.now) self.old.subset) self.old.root_chain
             (F.calls self.old.files.now) (F.calls self.new.files.now)
-            (keeper_of self.new.repository.now)) }
+            (keeping_of self.new.repository.now)) }
         ensures again { OnPending result
             (IfSome self.new.caching (λ c. IfSome c.work (IsPollable T.Stream.can_poll))) }
         ensures same { OnPending result ((r : _)
-            → ((calls : List Told) × (next : K)
+            → ((calls : List Told) × (next : Keeping K)
             × GoesOnAll T.refuses T.serves T.Stream.yields T.Stream.can_poll K.keeps F.tells
             self.new.caching self.new.repository.now self.new.folders
             (option_map (λ names. map S.text names.now) self.new.subset) self.new.root_chain
             (F.calls self.new.files.now) calls next r)
-            → ((calls : List Told) × (next : K)
+            → ((calls : List Told) × (next : Keeping K)
             × GoesOnAll T.refuses T.serves T.Stream.yields T.Stream.can_poll K.keeps F.tells
             self.old.caching self.old.repository.now self.old.folders
             (option_map (λ names. map S.text names.now) self.old.subset) self.old.root_chain
@@ -488,14 +489,14 @@ impl<T: Transport, K: Keeper, C: Clock + Drop, F: Files> Future for CacheMetadat
         (λ c. IsSomeAnd c.work (λ w. Needs T.Stream.needs w n)) };
 
     // Some calls and some keeper's steps lead to what it may give.
-    ghost gives = { λ m r. (calls : List Told) × (next : K)
+    ghost gives = { λ m r. (calls : List Told) × (next : Keeping K)
         × GoesOnMetadata T.refuses T.serves T.Stream.yields T.Stream.can_poll K.keeps F.tells
         m.caching m.repository.now m.folders m.root_chain (F.calls m.files.now) calls next r };
 
     fn poll(&mut self, cx: &mut Context<'_>) -> Poll<Result<(), Error>>
         requires { IfSome self.old.caching (λ c. IfSome c.work (IsPollable T.Stream.can_poll)) }
         ensures value { IfReady result
-            (λ r. (calls : List Told) × (next : K)
+            (λ r. (calls : List Told) × (next : Keeping K)
             × GoesOnMetadata T.refuses T.serves T.Stream.yields T.Stream.can_poll K.keeps F.tells
             self.old.caching self.old.repository.now self.old.folders self.old.root_chain
             (F.calls self.old.files.now) calls next r) }
@@ -503,15 +504,15 @@ impl<T: Transport, K: Keeper, C: Clock + Drop, F: Files> Future for CacheMetadat
             (GoesOnMetadata T.refuses T.serves T.Stream.yields T.Stream.can_poll K.keeps F.tells
             self.old.caching self.old.repository.now self.old.folders self.old.root_chain
             (F.calls self.old.files.now) (F.calls self.new.files.now)
-            (keeper_of self.new.repository.now)) }
+            (keeping_of self.new.repository.now)) }
         ensures again { OnPending result
             (IfSome self.new.caching (λ c. IfSome c.work (IsPollable T.Stream.can_poll))) }
         ensures same { OnPending result ((r : _)
-            → ((calls : List Told) × (next : K)
+            → ((calls : List Told) × (next : Keeping K)
             × GoesOnMetadata T.refuses T.serves T.Stream.yields T.Stream.can_poll K.keeps F.tells
             self.new.caching self.new.repository.now self.new.folders self.new.root_chain
             (F.calls self.new.files.now) calls next r)
-            → ((calls : List Told) × (next : K)
+            → ((calls : List Told) × (next : Keeping K)
             × GoesOnMetadata T.refuses T.serves T.Stream.yields T.Stream.can_poll K.keeps F.tells
             self.old.caching self.old.repository.now self.old.folders self.old.root_chain
             (F.calls self.old.files.now) calls next r)) }

@@ -35,7 +35,7 @@ impl From<NameError> for Error {
 }
 
 impl From<Refusal> for Error {
-    ghost use Rattle.tough_vault.specs.Checks.{reason_of};
+    ghost use Rattle.tough_checks.specs.Checks.{reason_of};
     ghost use Rattle.tough_trust.specs.Failure.{Checked};
 
     ghost from_gives = { λ r e. failure_in e ≡ Some (Checked (reason_of r)) };

@@ -6,7 +6,7 @@ ghost use Rattle.std.specs.Path.{path_join};
 ghost use Rattle.tough_roles.specs.Names.{file_name};
 ghost use Rattle.tough_roles.specs.Timestamp.{metafile_doc, metafiles_doc};
 ghost use Rattle.tough_schema.specs.Targets.{delegated_file};
-ghost use Rattle.tough_vault.specs.Documents.{metafile_in};
+ghost use Rattle.tough_checks.specs.Documents.{metafile_in};
 ghost use Rattle.tough_trust.specs.Requests.{root_request, timestamp_request};
 ghost use Rattle.tough_update.specs.View.{loaded_doc, received_doc};
 ghost use Rattle.tough_trust.specs.View.{request_doc};

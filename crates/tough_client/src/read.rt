@@ -5,10 +5,10 @@ ghost use Rattle.futures.specs.Poll.{IfReady, OnPending};
 ghost use Rattle.futures.specs.Task.{Covers, Keeps};
 ghost use Rattle.tough_schema.specs.Target.{target_doc};
 ghost use Rattle.tough_client.specs.Futures.{repository_in, name_in};
-ghost use Rattle.tough_trust.specs.Timely.{expiry_doc};
+ghost use Rattle.tough_trust.specs.Timely.{expiry_doc, Keeping};
 ghost use Rattle.tough_client.specs.Reading.{InTime, NotInTime, IsStreamOf, IsUnfetched, Reads, target_at};
 ghost use Rattle.tough_client.specs.Reading as spec;
-ghost use Rattle.tough_client.specs.Repositories.{IsKept, documents_of, transport_of, keeper_of, targets_base_of, enforced_of};
+ghost use Rattle.tough_client.specs.Repositories.{IsKept, documents_of, transport_of, keeping_of, targets_base_of, enforced_of};
 
 use crate::error::Error;
 use crate::failure::unfetched;
@@ -21,11 +21,11 @@ use tough_names::TargetName;
 use tough_net::Transport;
 use tough_save::{TargetStream, fetch_target, file_name};
 use tough_schema::Target;
-use tough_trust::{Dated, earliest, listed_target, note_timely};
+use tough_trust::{Expiry, earliest, listed_target, note_timely};
 
 impl<T: Transport, K: Keeper, C: Clock + Drop> Repository<T, K, C> {
     // The role whose document expires first, and when.
-    fn earliest(&self) -> Dated
+    fn earliest(&self) -> Expiry
         ensures { expiry_doc result ≡ spec.earliest (documents_of self.now) }
     {
         earliest(
@@ -40,10 +40,10 @@ impl<T: Transport, K: Keeper, C: Clock + Drop> Repository<T, K, C> {
     fn be_in_time(&mut self) -> Result<(), Error>
         ensures timely { OnOk result
             (InTime K.keeps (enforced_of self.old) (documents_of self.old)
-            (keeper_of self.old) (keeper_of self.new)) }
+            (keeping_of self.old) (keeping_of self.new)) }
         ensures late { IfErr result
             (λ e. NotInTime K.keeps (enforced_of self.old) (documents_of self.old)
-            (keeper_of self.old) e (keeper_of self.new)) }
+            (keeping_of self.old) e (keeping_of self.new)) }
         ensures kept { IsKept self.old self.new }
     {
         match self.enforcement {
@@ -105,7 +105,7 @@ impl<T: Transport, K: Keeper, C: Clock + Drop> Repository<T, K, C> {
         name: &TargetName,
     ) -> Result<Option<TargetStream<T::Stream>>, Error>
         ensures reads { Reads T.refuses T.serves T.Stream.yields T.Stream.can_poll K.keeps self.old
-            name.now result (keeper_of self.new) }
+            name.now result (keeping_of self.new) }
         ensures kept { IsKept self.old self.new }
     {
         if let Err(error) = self.be_in_time() {
@@ -148,25 +148,25 @@ pub struct ReadTarget<'a, T, K, C> {
 impl<T: Transport, K: Keeper, C: Clock + Drop> Future for ReadTarget<'_, T, K, C> {
     type Output = Result<Option<TargetStream<T::Stream>>, Error>;
 
-    ghost gives = { λ m r. (next : K)
+    ghost gives = { λ m r. (next : Keeping K)
         × Reads T.refuses T.serves T.Stream.yields T.Stream.can_poll K.keeps
         m.repository.now m.name.now r next };
 
     fn poll(&mut self, _cx: &mut Context<'_>) -> Poll<Self::Output>
         ensures value { IfReady result
-            (λ r. (next : K)
+            (λ r. (next : Keeping K)
             × Reads T.refuses T.serves T.Stream.yields T.Stream.can_poll K.keeps
             (repository_in self.old).now (name_in self.old) r next) }
         ensures reads { IfReady result
             (λ r. Reads T.refuses T.serves T.Stream.yields T.Stream.can_poll K.keeps
             (repository_in self.old).now (name_in self.old) r
-            (keeper_of (repository_in self.new).now)) }
+            (keeping_of (repository_in self.new).now)) }
         ensures again { OnPending result ⊤ }
         ensures same { OnPending result ((x : _)
-            → ((next : K)
+            → ((next : Keeping K)
             × Reads T.refuses T.serves T.Stream.yields T.Stream.can_poll K.keeps
             (repository_in self.new).now (name_in self.new) x next)
-            → ((next : K)
+            → ((next : Keeping K)
             × Reads T.refuses T.serves T.Stream.yields T.Stream.can_poll K.keeps
             (repository_in self.old).now (name_in self.old) x next)) }
         ensures registered { OnPending result (Covers _cx.new (λ _. ⊥)) }

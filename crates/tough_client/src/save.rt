@@ -6,7 +6,8 @@ ghost use Rattle.futures.specs.Task.{Covers, Keeps};
 ghost use Rattle.tough_net.specs.Checking.{checked};
 ghost use Rattle.tough_net.specs.Limiting.{limited};
 ghost use Rattle.tough_save.specs.Savings.{Saves, Tells, stream_of, temp_of, target_of};
-ghost use Rattle.tough_client.specs.Repositories.{IsKept, documents_of, keeper_of};
+ghost use Rattle.tough_trust.specs.Timely.{Keeping};
+ghost use Rattle.tough_client.specs.Repositories.{IsKept, documents_of, keeping_of};
 ghost use Rattle.tough_files.specs.Calls.{Told};
 ghost use Rattle.tough_client.specs.Futures.{saved_from, files_in, saved_name_in, outdir_in, prefix_in, saving_in};
 ghost use Rattle.tough_client.specs.Saving.{TellsUnlisted, TellsMissing, IsUnlisted, IsSavedAs, Places, Opened, Readies, Starts, CanGoOn, ComesOut, Continues, Finishes, GoesOnSaving};
@@ -85,7 +86,7 @@ impl<T: Transport, K: Keeper, C: Clock + Drop> Repository<T, K, C> {
     // The stream of a target that is listed.
     fn open_listed(&mut self, name: &TargetName) -> Result<TargetStream<T::Stream>, Error>
         ensures opened { Opened T.refuses T.serves T.Stream.yields T.Stream.can_poll K.keeps
-            self.old name.now result (keeper_of self.new) }
+            self.old name.now result (keeping_of self.new) }
         ensures kept { IsKept self.old self.new }
     {
         match self.open_target(name) {
@@ -108,7 +109,7 @@ impl<T: Transport, K: Keeper, C: Clock + Drop> Repository<T, K, C> {
     ) -> Result<Saving<TargetStream<T::Stream>>, Error>
         ensures readies { Readies T.refuses T.serves T.Stream.yields T.Stream.can_poll K.keeps
             F.tells self.old name.now folder.now place (F.calls files.old) (F.calls files.new)
-            (keeper_of self.new) result }
+            (keeping_of self.new) result }
         ensures kept { IsKept self.old self.new }
     {
         let stream = match self.open_listed(name) {
@@ -131,7 +132,7 @@ impl<T: Transport, K: Keeper, C: Clock + Drop> Repository<T, K, C> {
     ) -> Result<Saving<TargetStream<T::Stream>>, Error>
         ensures starts { Starts T.refuses T.serves T.Stream.yields T.Stream.can_poll K.keeps F.tells
             self.old name.now outdir.now prefix (F.calls files.old) (F.calls files.new)
-            (keeper_of self.new) result }
+            (keeping_of self.new) result }
         ensures kept { IsKept self.old self.new }
     {
         let folder = match open_folder(self.alloc, files, outdir) {
@@ -278,14 +279,14 @@ impl<T: Transport, K: Keeper, C: Clock + Drop, F: Files> Future for SaveTarget<'
         (λ s. T.Stream.needs (limited (checked (stream_of s))) n) };
 
     // Some calls and some keeper's steps lead to what it may give.
-    ghost gives = { λ m r. (calls : List Told) × (next : K)
+    ghost gives = { λ m r. (calls : List Told) × (next : Keeping K)
         × GoesOnSaving T.refuses T.serves T.Stream.yields T.Stream.can_poll K.keeps F.tells m.saving
         m.repository.now m.name.now m.outdir.now m.prefix (F.calls m.files.now) calls next r };
 
     fn poll(&mut self, cx: &mut Context<'_>) -> Poll<Result<(), Error>>
         requires { IfSome self.old.saving (CanGoOn T.Stream.can_poll) }
         ensures value { IfReady result
-            (λ r. (calls : List Told) × (next : K)
+            (λ r. (calls : List Told) × (next : Keeping K)
             × GoesOnSaving T.refuses T.serves T.Stream.yields T.Stream.can_poll K.keeps F.tells
             self.old.saving self.old.repository.now self.old.name.now self.old.outdir.now
             self.old.prefix (F.calls self.old.files.now) calls next r) }
@@ -293,14 +294,14 @@ impl<T: Transport, K: Keeper, C: Clock + Drop, F: Files> Future for SaveTarget<'
             (GoesOnSaving T.refuses T.serves T.Stream.yields T.Stream.can_poll K.keeps F.tells
             self.old.saving self.old.repository.now self.old.name.now self.old.outdir.now
             self.old.prefix (F.calls self.old.files.now) (F.calls self.new.files.now)
-            (keeper_of self.new.repository.now)) }
+            (keeping_of self.new.repository.now)) }
         ensures again { OnPending result (IfSome self.new.saving (CanGoOn T.Stream.can_poll)) }
         ensures same { OnPending result ((r : _)
-            → ((calls : List Told) × (next : K)
+            → ((calls : List Told) × (next : Keeping K)
             × GoesOnSaving T.refuses T.serves T.Stream.yields T.Stream.can_poll K.keeps F.tells
             self.new.saving self.new.repository.now self.new.name.now self.new.outdir.now
             self.new.prefix (F.calls self.new.files.now) calls next r)
-            → ((calls : List Told) × (next : K)
+            → ((calls : List Told) × (next : Keeping K)
             × GoesOnSaving T.refuses T.serves T.Stream.yields T.Stream.can_poll K.keeps F.tells
             self.old.saving self.old.repository.now self.old.name.now self.old.outdir.now
             self.old.prefix (F.calls self.old.files.now) calls next r)) }

@@ -1,7 +1,7 @@
 -- The parts of a loader, and the load that it makes of them.
 use Rattle.std.specs.Prelude.{◌≡◌, ◌*◌, ◌^◌, ℕ, List, [], None, Ok, Bool}
 use Rattle.url.specs.Parts.{Parts}
-use Rattle.tough_vault.specs.Checks.{enforces}
+use Rattle.tough_checks.specs.Checks.{enforces}
 use Rattle.tough_trust.specs.declared.limits.Limits.{Limits}
 use Rattle.tough_update.specs.Stages.{CoreDoc, new_core}
 use Rattle.tough_update.specs.Counts.{none_yet}

@@ -1,6 +1,6 @@
 -- A load that is taken apart.
 use Rattle.std.specs.Prelude.{◌≡◌}
-use Rattle.tough_vault.specs.Checks.{enforces}
+use Rattle.tough_checks.specs.Checks.{enforces}
 use Rattle.tough_load.specs.declared.load.Load.{Load}
 use Rattle.tough_load.specs.declared.load.LoadParts.{LoadParts}
 use Rattle.tough_load.specs.Words.{transport_of, keeper_of, clock_of, base_of, settings_of, receipts_of}

@@ -1,7 +1,7 @@
 //! What a load is made from.
 
 ghost use Rattle.std.specs.Prelude.{◌≡◌, ◌⊎◌, true, Ok, IfOk, IfErr};
-ghost use Rattle.tough_vault.specs.Checks.{enforces};
+ghost use Rattle.tough_checks.specs.Checks.{enforces};
 ghost use Rattle.tough_load.specs.Base.{with_slash, IsUnbegun};
 
 use crate::load::Load;

@@ -9,9 +9,9 @@ use Rattle.tough_roles.specs.declared.role_type.RoleType.{RoleType}
 use Rattle.tough_roles.specs.Verdict.{Refused}
 use Rattle.tough_roles.specs.declared.error.Error as schema
 use Rattle.tough_roles.specs.declared.error.Error.TheVariants as schemas
-use Rattle.tough_vault.specs.Checks.{Reason, refused, reason_of}
-use Rattle.tough_vault.specs.declared.checks.StepError.{StepError}
-use Rattle.tough_vault.specs.declared.checks.StepError.TheVariants as steps
+use Rattle.tough_checks.specs.Checks.{Reason, refused, reason_of}
+use Rattle.tough_checks.specs.declared.checks.StepError.{StepError}
+use Rattle.tough_checks.specs.declared.checks.StepError.TheVariants as steps
 use Rattle.tough_trust.specs.declared.error.UpdateError.{UpdateError}
 use Rattle.tough_trust.specs.declared.error.UpdateError.TheVariants as error
 

@@ -16,8 +16,8 @@ use Rattle.tough_delegated.specs.Bare.{bare}
 use Rattle.tough_delegated.specs.Growing.{WorkDoc, holder_of}
 use Rattle.tough_names.specs.Named.{Named}
 use Rattle.tough_schema.specs.Tree.{Entry}
-use Rattle.tough_vault.specs.Checks.{Reason, VersionMismatch, first_of, refuse, verified, expiry}
-use Rattle.tough_vault.specs.Documents.{stored_text}
+use Rattle.tough_checks.specs.Checks.{Reason, VersionMismatch, first_of, refuse, verified, expiry}
+use Rattle.tough_checks.specs.Documents.{stored_text}
 use Rattle.tough_trust.specs.Failure.{Failure, ParseMetadata, InvalidPath}
 use Rattle.tough_trust.specs.Outcomes.{if_read, holds_json, unrefused}
 

@@ -1,7 +1,7 @@
 -- Checks one after another.
 use Rattle.std.specs.Prelude.{ℕ, List, Bool, is_some, Option, Some, None, Result, Ok, Err, if◌then◌else◌}
 use Rattle.tough_json.specs.Results.{json_of}
-use Rattle.tough_vault.specs.Checks.{Reason}
+use Rattle.tough_checks.specs.Checks.{Reason}
 use Rattle.tough_trust.specs.Failure.{Failure, Checked}
 
 abbrev pub unless : {A : Type 0} → Failure → Bool → Result A Failure → Result A Failure

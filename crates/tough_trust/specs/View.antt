@@ -6,10 +6,10 @@ use Rattle.tough_roles.specs.Snapshot.{snapshot_doc}
 use Rattle.tough_schema.specs.Targets.{targets_doc}
 use Rattle.tough_vault.specs.Act.{Act as ActDoc}
 use Rattle.tough_vault.specs.Act as act
-use Rattle.tough_vault.specs.Checks.{enforces}
-use Rattle.tough_vault.specs.DocumentName.{name_of}
-use Rattle.tough_vault.specs.Files.{targets_file}
-use Rattle.tough_vault.specs.declared.checks.StepError.{StepError}
+use Rattle.tough_checks.specs.Checks.{enforces}
+use Rattle.tough_checks.specs.DocumentName.{name_of}
+use Rattle.tough_checks.specs.Files.{targets_file}
+use Rattle.tough_checks.specs.declared.checks.StepError.{StepError}
 use Rattle.tough_roles.specs.Root.{root_doc}
 use Rattle.tough_schema.specs.Delegations.{delegations_doc}
 use Rattle.tough_trust.specs.declared.request.Request.{Request}

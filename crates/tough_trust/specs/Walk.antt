@@ -7,8 +7,8 @@ use Rattle.tough_roles.specs.Policy.{policy}
 use Rattle.tough_roles.specs.Verdict.{Refused, verdict}
 use Rattle.tough_roles.specs.Chain.{text_by}
 use Rattle.tough_roles.specs.declared.role_type.RoleType.TheVariants as role
-use Rattle.tough_vault.specs.Checks.{Reason, OlderMetadata, first_of, refuse, verified}
-use Rattle.tough_vault.specs.Documents.{root_in}
+use Rattle.tough_checks.specs.Checks.{Reason, OlderMetadata, first_of, refuse, verified}
+use Rattle.tough_checks.specs.Documents.{root_in}
 use Rattle.tough_trust.specs.declared.limits.Limits.{Limits}
 use Rattle.tough_trust.specs.Failure.{Failure, ParseTrustedMetadata, VerifyTrustedMetadata, ParseMetadata, MaxUpdatesExceeded}
 use Rattle.tough_trust.specs.Outcomes.{unless, unrefused, if_read, holds_json, and_then}

@@ -4,7 +4,7 @@ ghost use Rattle.std.specs.Prelude.{◌≡◌, OnOk, OnErr, Result};
 ghost use Rattle.tough_keys.specs.Same.{Verifies};
 ghost use Rattle.tough_vault.specs.Vault.{parts_of};
 ghost use Rattle.tough_vault.specs.declared.entry.Receipt.{Receipt as Told};
-ghost use Rattle.tough_vault.specs.declared.checks.StepError.{StepError as Refused};
+ghost use Rattle.tough_checks.specs.declared.checks.StepError.{StepError as Refused};
 ghost use Rattle.tough_vault.specs.Act.{Act as ActDoc, CheckedIfOk, Acts};
 ghost use Rattle.tough_vault.specs.Checking.{checked};
 ghost use Rattle.tough_trust.specs.Steps.{Steps, PutsBy};

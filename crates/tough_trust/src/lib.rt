@@ -25,5 +25,5 @@ pub use request::{
     Request, role_request, root_request, snapshot_request, targets_request, timestamp_request,
 };
 pub use rotation::is_rotated;
-pub use timely::{Dated, earliest, note_timely};
+pub use timely::{Expiry, earliest, note_timely};
 pub use walk::{first_root, next_request, next_root, next_version};

@@ -14,7 +14,7 @@ use tough_vault::{Receipt, Refusal, StepError};
 
 /// A role, and when its document expires.
 #[derive(Clone, Copy, Drop)]
-pub struct Dated {
+pub struct Expiry {
     /// The role.
     pub role: RoleType,
     /// The expiry of its document.
@@ -22,7 +22,7 @@ pub struct Dated {
 }
 
 // The one that comes first; of two that come at once, the first of them.
-fn sooner(first: Dated, second: Dated) -> Dated
+fn sooner(first: Expiry, second: Expiry) -> Expiry
     ensures { expiry_doc result ≡ spec.sooner (expiry_doc first) (expiry_doc second) }
 {
     if second.expires < first.expires {
@@ -33,15 +33,15 @@ fn sooner(first: Dated, second: Dated) -> Dated
 }
 
 // A role whose document expires then.
-fn expiring(role: RoleType, expires: Instant) -> Dated
+fn expiring(role: RoleType, expires: Instant) -> Expiry
     ensures { expiry_doc result ≡ record { role = role; time = expires.nanosecond } }
 {
-    Dated { role, expires }
+    Expiry { role, expires }
 }
 
 /// The role whose document expires first, by the expiries of the four: of two that expire at once, the first of root, timestamp, snapshot
 /// and targets.
-pub fn earliest(root: Instant, timestamp: Instant, snapshot: Instant, targets: Instant) -> Dated
+pub fn earliest(root: Instant, timestamp: Instant, snapshot: Instant, targets: Instant) -> Expiry
     ensures { expiry_doc result ≡ spec.earliest root.nanosecond timestamp.nanosecond
         snapshot.nanosecond targets.nanosecond }
 {
@@ -63,20 +63,21 @@ impl Verify for Unverified {
     }
 }
 
-/// Has the keeper note the moment, and puts its receipt by. The moment must be before the expiry, or else `ExpiredMetadata` tells that
-/// role; the other refusals are the keeper's own.
+/// Has the keeper note the moment, and puts its receipt by, after those before it. The moment must be before the expiry, or else
+/// `ExpiredMetadata` tells that role; the other refusals are the keeper's own, and put no receipt by.
 pub fn note_timely<K: Keeper>(
     alloc: Global,
     keeper: &mut K,
     receipts: &mut Vec<Receipt>,
     now: Instant,
-    first: Dated,
+    first: Expiry,
 ) -> Result<(), StepError>
-    ensures { NotesTimely K.keeps (expiry_doc first) now.nanosecond keeper.old
-        (step_doc result) keeper.new }
+    ensures { NotesTimely K.keeps (expiry_doc first) now.nanosecond
+        (record { keeper = keeper.old; receipts = receipts.old.items }) (step_doc result)
+        (record { keeper = keeper.new; receipts = receipts.new.items }) }
 {
     take_step(alloc, keeper, &Unverified, receipts, &Act::NoteTime(now))?;
-    let Dated { role, expires } = first;
+    let Expiry { role, expires } = first;
     if now < expires {
         return Ok(());
     }

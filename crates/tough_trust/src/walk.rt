@@ -5,7 +5,7 @@ ghost use Rattle.tough_roles.specs.Signature.{SignedDoc, signed_doc};
 ghost use Rattle.tough_roles.specs.Root.{RootDoc, root_doc, root_json};
 ghost use Rattle.tough_roles.specs.Chain.{ReachesUnder, IsNext};
 ghost use Rattle.tough_roles.specs.declared.role_type.RoleType.TheVariants as types;
-ghost use Rattle.tough_vault.specs.Checks.{Checked, RefusedBy, OlderMetadata, refuse};
+ghost use Rattle.tough_checks.specs.Checks.{Checked, RefusedBy, OlderMetadata, refuse};
 ghost use Rattle.tough_trust.specs.Failure.{Gives, MaxUpdatesExceeded, failure_of};
 ghost use Rattle.tough_trust.specs.Walk.{first_root, next_root, root_refusal, next_version, next_request};
 ghost use Rattle.tough_trust.specs.View.{request_doc};

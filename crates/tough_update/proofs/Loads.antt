@@ -19,12 +19,12 @@ use Rattle.tough_roles.specs.declared.role_type.RoleType.{RoleType}
 use Rattle.tough_roles.specs.declared.role_type.RoleType.TheVariants as role
 use Rattle.tough_roles.proofs.lemmas.Reached.{reaches-to}
 use Rattle.tough_schema.specs.Targets.{TargetsDoc, targets_json}
-use Rattle.tough_vault.specs.Checks.{Reason, VersionMismatch, TimestampMetaLength, MissingSnapshotMeta, SnapshotTargetsMetaMissing, ExpiredMetadata, refuse, or_else, is_expired, expiry, verified, timestamp_form, snapshot_form}
-use Rattle.tough_vault.specs.Documents.{root_text, snapshot_verdict, metafile_in}
+use Rattle.tough_checks.specs.Checks.{Reason, VersionMismatch, TimestampMetaLength, MissingSnapshotMeta, SnapshotTargetsMetaMissing, ExpiredMetadata, refuse, or_else, is_expired, expiry, verified, timestamp_form, snapshot_form}
+use Rattle.tough_checks.specs.Documents.{root_text, snapshot_verdict, metafile_in}
 use Rattle.tough_vault.specs.Steps.{time_text, needs}
 use Rattle.tough_vault.specs.Act.{Act}
 use Rattle.tough_vault.specs.Act as act
-use Rattle.tough_vault.specs.Files.{snapshot_file, targets_file}
+use Rattle.tough_checks.specs.Files.{snapshot_file, targets_file}
 use Rattle.tough_trust.specs.Failure.{Failure, ParseTrustedMetadata, VerifyTrustedMetadata, ParseMetadata, MaxUpdatesExceeded, Checked}
 use Rattle.tough_trust.specs.Walk.{if_trusted, root_verdict, first_root}
 use Rattle.tough_trust.specs.Outcomes.{holds_json, if_read}

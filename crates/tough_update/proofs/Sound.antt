@@ -15,9 +15,9 @@ use Rattle.tough_roles.specs.Chain.{text_by, ReachesUnder, IsNext}
 use Rattle.tough_roles.specs.declared.role_type.RoleType.{RoleType}
 use Rattle.tough_roles.specs.declared.role_type.RoleType.TheVariants as role
 use Rattle.tough_roles.proofs.lemmas.Reached.{reaches-from, ok-reaches}
-use Rattle.tough_vault.specs.Checks.{Reason, refuse, or_else, VersionMismatch, VerifyMetadata, OlderMetadata, TimestampMetaLength, expiry, is_expired, ExpiredMetadata, verified, timestamp_first, timestamp_form, snapshot_first, snapshot_form}
-use Rattle.tough_vault.specs.Documents.{root_in, timestamp_in, snapshot_in, metafile_in, timestamp_verdict, snapshot_verdict}
-use Rattle.tough_vault.specs.Files.{snapshot_file, targets_file}
+use Rattle.tough_checks.specs.Checks.{Reason, refuse, or_else, VersionMismatch, VerifyMetadata, OlderMetadata, TimestampMetaLength, expiry, is_expired, ExpiredMetadata, verified, timestamp_first, timestamp_form, snapshot_first, snapshot_form}
+use Rattle.tough_checks.specs.Documents.{root_in, timestamp_in, snapshot_in, metafile_in, timestamp_verdict, snapshot_verdict}
+use Rattle.tough_checks.specs.Files.{snapshot_file, targets_file}
 use Rattle.tough_trust.specs.Failure.{Failure, ParseTrustedMetadata, VerifyTrustedMetadata, ParseMetadata, MaxUpdatesExceeded, Checked}
 use Rattle.tough_trust.specs.Walk.{first_root, next_root}
 use Rattle.tough_trust.specs.Outcomes.{holds_json, if_read}

@@ -15,14 +15,14 @@ use Rattle.tough_schema.specs.Delegations.{DelegationsDoc}
 use Rattle.tough_schema.specs.Verify.{ReachesDelegated}
 use Rattle.tough_schema.specs.Fresh.{carriers_below}
 use Rattle.tough_schema.specs.Whole.{TreeDoc}
-use Rattle.tough_vault.specs.Checks.{Reason, or_else, is_expired}
-use Rattle.tough_vault.specs.Documents.{root_in, root_text, timestamp_in, snapshot_in, metafile_in}
+use Rattle.tough_checks.specs.Checks.{Reason, or_else, is_expired}
+use Rattle.tough_checks.specs.Documents.{root_in, root_text, timestamp_in, snapshot_in, metafile_in}
 use Rattle.tough_vault.specs.Journal.{Last}
 use Rattle.tough_vault.specs.Step.{Step}
 use Rattle.tough_vault.specs.Steps.{time_text, time_step, root_step, timestamp_step, snapshot_step, document_step}
 use Rattle.tough_vault.specs.Act.{Act}
 use Rattle.tough_vault.specs.Act as act
-use Rattle.tough_vault.specs.Files.{snapshot_file, targets_file}
+use Rattle.tough_checks.specs.Files.{snapshot_file, targets_file}
 use Rattle.tough_trust.specs.Requests.{RequestDoc, fits_request, root_request, timestamp_request, snapshot_request, targets_request, role_request}
 use Rattle.tough_schema.specs.Entries.{first_missing}
 use Rattle.tough_delegated.specs.Bare.{top_page}

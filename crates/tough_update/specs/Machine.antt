@@ -6,9 +6,9 @@ use Rattle.tough_roles.specs.Signature.{SignedDoc}
 use Rattle.tough_roles.specs.Timestamp.{TimestampDoc, MetafileDoc}
 use Rattle.tough_roles.specs.Snapshot.{SnapshotDoc}
 use Rattle.tough_roles.specs.declared.role_type.RoleType.TheVariants as role
-use Rattle.tough_vault.specs.Checks.{MissingSnapshotMeta, SnapshotTargetsMetaMissing, ExpiredMetadata, is_expired}
-use Rattle.tough_vault.specs.Documents.{timestamp_in, snapshot_in, metafile_in}
-use Rattle.tough_vault.specs.Files.{snapshot_file, targets_file}
+use Rattle.tough_checks.specs.Checks.{MissingSnapshotMeta, SnapshotTargetsMetaMissing, ExpiredMetadata, is_expired}
+use Rattle.tough_checks.specs.Documents.{timestamp_in, snapshot_in, metafile_in}
+use Rattle.tough_checks.specs.Files.{snapshot_file, targets_file}
 use Rattle.tough_vault.specs.Act.{Act}
 use Rattle.tough_vault.specs.Act as act
 use Rattle.tough_trust.specs.declared.limits.Limits.{Limits}

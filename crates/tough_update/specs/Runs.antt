@@ -5,7 +5,7 @@ use Rattle.tough_net.specs.Errors.{error_kind}
 use Rattle.tough_keys.specs.Same.{Verifies}
 use Rattle.tough_roles.specs.Signature.{SignedDoc}
 use Rattle.tough_roles.specs.Root.{RootDoc}
-use Rattle.tough_vault.specs.Checks.{is_expired}
+use Rattle.tough_checks.specs.Checks.{is_expired}
 use Rattle.tough_vault.specs.Act.{NoteTime, ClearRotated, HasChecked}
 use Rattle.tough_trust.specs.declared.fault.Fault.TheVariants as fault
 use Rattle.tough_trust.specs.Requests.{fits_request, root_request, timestamp_request}
@@ -16,7 +16,7 @@ use Rattle.tough_update.specs.Questions as ask
 use Rattle.tough_update.specs.Answered.{AnswerDoc}
 use Rattle.tough_update.specs.Answered as got
 use Rattle.tough_update.specs.Machine.{question, answered}
-use Rattle.tough_vault.specs.Documents.{root_in}
+use Rattle.tough_checks.specs.Documents.{root_in}
 use Rattle.tough_trust.specs.Rotation.{is_rotated}
 use Rattle.tough_update.specs.Trusted.{Chain, Trusted, Unexpired}
 

@@ -8,7 +8,7 @@ use Rattle.tough_roles.specs.Timestamp.{MetafileDoc, timestamp_json}
 use Rattle.tough_roles.specs.Snapshot.{snapshot_json}
 use Rattle.tough_roles.specs.Chain.{ReachesUnder, IsNext}
 use Rattle.tough_roles.specs.declared.role_type.RoleType.TheVariants as role
-use Rattle.tough_vault.specs.Documents.{root_in, metafile_in, snapshot_in}
+use Rattle.tough_checks.specs.Documents.{root_in, metafile_in, snapshot_in}
 use Rattle.tough_schema.specs.Targets.{TargetsDoc, targets_json}
 use Rattle.tough_schema.specs.Delegations.{DelegationsDoc}
 use Rattle.tough_schema.specs.Verify.{ReachesDelegated}
@@ -18,7 +18,7 @@ use Rattle.tough_schema.specs.Entries.{IsValid}
 use Rattle.tough_delegated.specs.Bare.{top_page}
 use Rattle.tough_delegated.specs.Once.{Distinct}
 use Rattle.tough_delegated.specs.Under.{Below}
-use Rattle.tough_vault.specs.Files.{snapshot_file, targets_file}
+use Rattle.tough_checks.specs.Files.{snapshot_file, targets_file}
 use Rattle.tough_trust.specs.Requests.{stated_digest}
 use Rattle.tough_trust.specs.Listed.{targets_in}
 use Rattle.tough_update.specs.Stages.{KnownDoc}

@@ -1,7 +1,7 @@
 //! The update as a machine: what it wants next, and what it makes of an answer.
 
 ghost use Rattle.std.specs.Prelude.{◌≡◌, IsSome, IsNone, option_map, option_copied};
-ghost use Rattle.tough_vault.specs.Checks.{enforces};
+ghost use Rattle.tough_checks.specs.Checks.{enforces};
 ghost use Rattle.tough_update.specs.Counts.{none_yet, with_fetch, with_tree};
 ghost use Rattle.tough_update.specs.Stages.{handed_out, new_core};
 ghost use Rattle.tough_update.specs.Machine.{question, stage_after};

@@ -2,8 +2,8 @@
 
 ghost use Rattle.std.specs.Prelude.{◌≡◌, ◌++◌, ◌∷◌, [], OnOk, string_bytes};
 ghost use Rattle.tough_roles.specs.Signature.{signed_doc};
-ghost use Rattle.tough_vault.specs.Checks.{enforces};
-ghost use Rattle.tough_vault.specs.DocumentName.{name_of};
+ghost use Rattle.tough_checks.specs.Checks.{enforces};
+ghost use Rattle.tough_checks.specs.DocumentName.{name_of};
 ghost use Rattle.tough_schema.specs.Whole.{tree_doc};
 ghost use Rattle.tough_delegated.specs.Growing.{wants, go_on};
 ghost use Rattle.tough_delegated.specs.View.{work_doc};

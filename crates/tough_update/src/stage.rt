@@ -1,7 +1,7 @@
 //! The stages of an update.
 
 ghost use Rattle.std.specs.Prelude.{◌≡◌};
-ghost use Rattle.tough_vault.specs.Checks.{enforces};
+ghost use Rattle.tough_checks.specs.Checks.{enforces};
 ghost use Rattle.tough_update.specs.Machine.{base_of, act_at};
 ghost use Rattle.tough_trust.specs.View.{act_of};
 ghost use Rattle.tough_update.specs.View.{latest, walk_doc, base_doc, pending_doc, root_of, timestamp_of, snapshot_of, targets_of, received_of};

@@ -8,7 +8,7 @@ use Rattle.tough_roles.specs.Readable.{NestsWithin, IsTextOf}
 use Rattle.tough_roles.specs.Signature.{SignedDoc, signed_at, signed_json, signed_doc}
 use Rattle.tough_roles.specs.declared.signed.Signed.{Signed}
 use Rattle.tough_roles.proofs.lemmas.Signed.{signed-read}
-use Rattle.tough_vault.specs.Documents.{stored_text, ReadsBack}
+use Rattle.tough_checks.specs.Documents.{stored_text, ReadsBack}
 
 pub reads-back : {T A : Type 0} (f : Data → Option A) (doc : T → A) (json : A → Option Data) (s : Signed T) (text : List ℕ)
     → option_and_then stored_text (signed_json json (signed_doc doc s)) ≡ Some text

@@ -12,14 +12,16 @@ use Rattle.tough_keys.specs.Same.{Verifies}
 use Rattle.tough_roles.specs.declared.role_type.RoleType.TheVariants as role
 use Rattle.tough_vault.specs.declared.entry.Receipt.{Receipt}
 use Rattle.tough_vault.specs.declared.parts.Prepared.{Prepared}
-use Rattle.tough_vault.specs.declared.checks.StepError.{StepError}
+use Rattle.tough_checks.specs.declared.checks.StepError.{StepError}
 use Rattle.tough_vault.specs.Stored.{Files}
-use Rattle.tough_vault.specs.Files.{IsFree}
-use Rattle.tough_vault.specs.Journal.{Pair, PairAtMost, Item, Roles, KeepsNames, RolesAtMost, has_at_least, version_in}
-use Rattle.tough_vault.specs.Checks.{Reason, SnapshotRoleRollback, fallen_at, fallen, items_in, snapshot_older, snapshot_against, snapshot_tip, snapshot_after, SystemTimeSteppedBackward, later, time_after, OlderMetadata, OlderSnapshotInTimestamp, refuse, or_else, first_of, snapshot_version, expiry, timestamp_older, timestamp_below, timestamp_against, timestamp_tip, timestamp_after}
-use Rattle.tough_vault.specs.Documents.{root_text, root_in, timestamp_text, timestamp_in, snapshot_text, snapshot_in, ReadsBack}
+use Rattle.tough_checks.specs.Files.{IsFree}
+use Rattle.tough_checks.specs.Versions.{Pair, Item, Roles, version_in}
+use Rattle.tough_vault.specs.Journal.{PairAtMost, KeepsNames, RolesAtMost, has_at_least}
+use Rattle.tough_checks.specs.Checks.{Reason, SnapshotRoleRollback, fallen_at, fallen, items_in, snapshot_older, snapshot_against, snapshot_tip, snapshot_after, SystemTimeSteppedBackward, later, time_after, OlderMetadata, OlderSnapshotInTimestamp, refuse, or_else, first_of, snapshot_version, expiry, timestamp_older, timestamp_below, timestamp_against, timestamp_tip, timestamp_after, versions_in, roles_in}
+use Rattle.tough_checks.specs.Documents.{root_text, root_in, timestamp_text, timestamp_in, snapshot_text, snapshot_in, ReadsBack}
 use Rattle.tough_vault.specs.Step.{Step, Parts, Passes, Takes}
-use Rattle.tough_vault.specs.Steps.{versions_in, roles_in, stored_snapshot, snapshot_step, stored_time, stored_timestamp, time_text, needs, time_step, root_step, timestamp_step, document_step}
+use Rattle.tough_checks.specs.StoredDocuments.{stored_snapshot, stored_time, stored_timestamp}
+use Rattle.tough_vault.specs.Steps.{snapshot_step, time_text, needs, time_step, root_step, timestamp_step, document_step}
 use Rattle.tough_vault.specs.Parts.{NamesFree, Prepares, Concludes}
 use Rattle.tough_vault.proofs.Holding.{holds_noted, holds_root, holds_timestamp, holds_snapshot, holds_document}
 use Rattle.tough_vault.proofs.Journals.{some_inj}

@@ -6,10 +6,13 @@ use Rattle.tough_roles.specs.Signature.{SignedDoc, signed_json}
 use Rattle.tough_roles.specs.Root.{RootDoc, AreOwn, root_json}
 use Rattle.tough_roles.specs.Timestamp.{TimestampDoc, timestamp_json}
 use Rattle.tough_roles.specs.Snapshot.{SnapshotDoc, snapshot_json}
-use Rattle.tough_vault.specs.Files.{time_file, root_file, timestamp_file, snapshot_file, IsFree}
-use Rattle.tough_vault.specs.Documents.{root_text, root_in, timestamp_text, timestamp_in, snapshot_text, snapshot_in, ReadsBack}
-use Rattle.tough_vault.specs.Steps.{time_text, stored_time, versions_in, roles_in}
-use Rattle.tough_vault.specs.Journal.{Pair, Note, Noted, Root, Timestamp, Snapshot, Cleared, Document, Last, Roles, applied, last_root}
+use Rattle.tough_checks.specs.Files.{time_file, root_file, timestamp_file, snapshot_file, IsFree}
+use Rattle.tough_checks.specs.Documents.{root_text, root_in, timestamp_text, timestamp_in, snapshot_text, snapshot_in, ReadsBack}
+use Rattle.tough_checks.specs.StoredDocuments.{stored_time}
+use Rattle.tough_checks.specs.Checks.{versions_in, roles_in}
+use Rattle.tough_vault.specs.Steps.{time_text}
+use Rattle.tough_checks.specs.Versions.{Pair, Roles}
+use Rattle.tough_vault.specs.Journal.{Note, Noted, Root, Timestamp, Snapshot, Cleared, Document, Last, applied, last_root}
 use Rattle.tough_vault.specs.Parts.{Holds, HoldsTime, HoldsTimestamp, HoldsSnapshot, HoldsRoot, NamesFree}
 use Rattle.tough_vault.proofs.Journals.{some_inj, last_root-append, get_append}
 

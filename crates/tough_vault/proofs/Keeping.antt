@@ -4,10 +4,10 @@ use Rattle.std.proofs.Math.Logic.{∥∥₁_map}
 use Rattle.tough_vault.specs.Stored.{Files, SameElsewhere}
 use Rattle.tough_vault.specs.declared.store.StoreError.{StoreError}
 use Rattle.tough_vault.specs.declared.entry.Receipt.{Receipt}
-use Rattle.tough_vault.specs.declared.checks.StepError.{StepError}
-use Rattle.tough_vault.specs.declared.checks.StepError.TheVariants.{Refused, DatastoreOpen, DatastoreCreate, DatastoreRemove, Memory}
+use Rattle.tough_checks.specs.declared.checks.StepError.{StepError}
+use Rattle.tough_checks.specs.declared.checks.StepError.TheVariants.{Refused, DatastoreOpen, DatastoreCreate, DatastoreRemove, Memory}
 use Rattle.tough_vault.specs.Journal.{Note, Cleared, Broken, Last, no_tip, applied, replay, Follows, Rises, has_broken}
-use Rattle.tough_vault.specs.Files.{timestamp_file, snapshot_file}
+use Rattle.tough_checks.specs.Files.{timestamp_file, snapshot_file}
 use Rattle.tough_vault.specs.Step.{Step, Parts, IsNoted, Passes, Takes, EndsRemoval, Clears}
 use Rattle.tough_vault.specs.Parts.{Holds, NamesFree}
 use Rattle.tough_vault.proofs.Journals.{replay-append, rises-append, broken-append, unbroken-before, free-append, FreeNote}

@@ -2,9 +2,9 @@
 use Rattle.std.proofs.Common.{◌≡◌, ℕ, List, Option, None, Some, Result, Ok, Err, Bool, true, ap, ◌∙◌, inr, subst, is_some}
 use Rattle.tough_vault.specs.Stored.{Files, SameFiles}
 use Rattle.tough_vault.specs.declared.parts.Prepared.{Prepared}
-use Rattle.tough_vault.specs.declared.checks.StepError.{StepError}
-use Rattle.tough_vault.specs.declared.checks.StepError.TheVariants.{Refused, DatastoreOpen, DatastoreCreate, DatastoreRemove, Memory}
-use Rattle.tough_vault.specs.Checks.{Reason, Checked, or_else, timestamp_where, snapshot_where}
+use Rattle.tough_checks.specs.declared.checks.StepError.{StepError}
+use Rattle.tough_checks.specs.declared.checks.StepError.TheVariants.{Refused, DatastoreOpen, DatastoreCreate, DatastoreRemove, Memory}
+use Rattle.tough_checks.specs.Checks.{Reason, Checked, or_else, timestamp_where, snapshot_where}
 use Rattle.tough_roles.specs.declared.timestamp.Timestamp.{Timestamp as TimestampFile}
 use Rattle.tough_roles.specs.Timestamp.{TimestampDoc}
 use Rattle.tough_roles.specs.declared.snapshot.Snapshot.{Snapshot as SnapshotFile}

@@ -14,8 +14,8 @@ use Rattle.tough_roles.specs.Verdict.{Refused, verdict}
 use Rattle.tough_roles.specs.declared.role_type.RoleType.{RoleType}
 use Rattle.tough_roles.specs.declared.role_type.RoleType.TheVariants as role
 use Rattle.tough_roles.proofs.lemmas.Written.{verified-text, verified-written}
-use Rattle.tough_vault.specs.Checks.{Reason, VersionMismatch, refuse, verified, first_of, timestamp_first, timestamp_form, snapshot_first, snapshot_form}
-use Rattle.tough_vault.specs.Documents.{timestamp_text, timestamp_verdict, snapshot_text, snapshot_verdict}
+use Rattle.tough_checks.specs.Checks.{Reason, VersionMismatch, refuse, verified, first_of, timestamp_first, timestamp_form, snapshot_first, snapshot_form}
+use Rattle.tough_checks.specs.Documents.{timestamp_text, timestamp_verdict, snapshot_text, snapshot_verdict}
 use Rattle.tough_vault.proofs.Fitting.{or_else_none}
 
 ok_of : (type : RoleType) (answer : Result Unit Refused) → verified type answer ≡ None → answer ≡ Ok tt

@@ -7,9 +7,9 @@ use Rattle.tough_roles.specs.Timestamp.{TimestampDoc}
 use Rattle.tough_roles.specs.Snapshot.{SnapshotDoc}
 use Rattle.tough_roles.specs.declared.role_type.RoleType.TheVariants as role
 use Rattle.tough_vault.specs.declared.entry.Receipt.{Receipt}
-use Rattle.tough_vault.specs.declared.checks.StepError.{StepError}
-use Rattle.tough_vault.specs.Checks.{timestamp_first, snapshot_first, expiry}
-use Rattle.tough_vault.specs.Documents.{timestamp_verdict, snapshot_verdict}
+use Rattle.tough_checks.specs.declared.checks.StepError.{StepError}
+use Rattle.tough_checks.specs.Checks.{timestamp_first, snapshot_first, expiry}
+use Rattle.tough_checks.specs.Documents.{timestamp_verdict, snapshot_verdict}
 use Rattle.tough_vault.specs.Stored.{Files}
 use Rattle.tough_vault.specs.Step.{Parts, Takes, Clears}
 use Rattle.tough_vault.specs.Steps.{time_step, root_step, timestamp_step, snapshot_step, document_step}

@@ -1,29 +1,10 @@
 -- The journal of a vault, and its tip.
-use Rattle.std.specs.Prelude.{◌≡◌, ℕ, ℤ, ◌≤◌, ◌≤ℤ◌, List, [], ◌∷◌, ◌++◌, map, Option, None, Some, Bool, true, false, nat_le, string_bytes, if◌then◌else◌}
-use Rattle.std.specs.Str.{bytes_eq}
-use Rattle.jiff.specs.declared.timestamp.Timestamp.{Timestamp as Instant}
-use Rattle.tough_vault.specs.declared.entry.ListedVersion.{ListedVersion}
-use Rattle.tough_vault.specs.declared.entry.TimestampVersions.{TimestampVersions}
-use Rattle.tough_vault.specs.declared.entry.SnapshotVersions.{SnapshotVersions}
+use Rattle.std.specs.Prelude.{◌≡◌, ℕ, ℤ, ◌≤◌, ◌≤ℤ◌, List, [], ◌∷◌, ◌++◌, map, Option, None, Some, Bool, true, false, nat_le, string_bytes}
+use Rattle.tough_checks.specs.Versions.{Pair, Roles, Item, time_where, pair_of, pair_where, roles_of, roles_where, version_in}
 use Rattle.tough_vault.specs.declared.entry.Tip.{Tip}
 use Rattle.tough_vault.specs.declared.entry.Receipt.{Receipt}
 use Rattle.tough_vault.specs.declared.entry.Entry.{Entry}
 use Rattle.tough_vault.specs.declared.entry.Entry.TheVariants as entry
-
--- a timestamp's version, with the version of the snapshot that it names
-pub record Pair : Type 0 where
-  pub version : ℕ
-  pub snapshot : ℕ
-
--- a name with the version that a snapshot lists for it
-pub record Item : Type 0 where
-  pub name : List ℕ
-  pub version : ℕ
-
--- a snapshot's version, with the names and versions that it lists
-pub record Roles : Type 0 where
-  pub version : ℕ
-  pub items : List Item
 
 -- an entry of the journal; an instant is in nanoseconds since 1970
 pub data Note : Type 0 where
@@ -41,18 +22,6 @@ pub record Last : Type 0 where
   pub timestamp : Option Pair
   pub snapshot : Option Roles
 
-abbrev pub item_of : ListedVersion → Item
-item_of l = record { name = string_bytes l.name; version = l.version }
-
-abbrev pub items_of : List ListedVersion → List Item
-items_of ls = map item_of ls
-
-abbrev pub pair_of : TimestampVersions → Pair
-pair_of p = record { version = p.version; snapshot = p.snapshot }
-
-abbrev pub roles_of : SnapshotVersions → Roles
-roles_of v = record { version = v.version; items = items_of v.roles.items }
-
 abbrev pub note_of : Entry → Note
 note_of (entry.Noted t) = Noted t.nanosecond
 note_of (entry.Root v) = Root v
@@ -64,18 +33,6 @@ note_of entry.Broken = Broken
 
 abbrev pub notes_of : List Entry → List Note
 notes_of es = map note_of es
-
-abbrev pub time_where : Option Instant → Option ℤ
-time_where None = None
-time_where (Some t) = Some t.nanosecond
-
-abbrev pub pair_where : Option TimestampVersions → Option Pair
-pair_where None = None
-pair_where (Some p) = Some (pair_of p)
-
-abbrev pub roles_where : Option SnapshotVersions → Option Roles
-roles_where None = None
-roles_where (Some v) = Some (roles_of v)
 
 abbrev pub tip_of : Tip → Last
 tip_of t = record { time = time_where t.time; timestamp = pair_where t.timestamp; snapshot = roles_where t.snapshot }
@@ -103,11 +60,6 @@ applied tip Broken = tip
 abbrev pub replay : Last → List Note → Last
 replay tip [] = tip
 replay tip (n ∷ ns) = replay (applied tip n) ns
-
--- the version that is listed for a name: that of the first item of the name
-abbrev pub version_in : List Item → List ℕ → Option ℕ
-version_in [] name = None
-version_in (item ∷ items) name = if bytes_eq name item.name then Some item.version else version_in items name
 
 -- a version is there, and is no lower
 abbrev pub has_at_least : ℕ → Option ℕ → Bool

@@ -1,15 +1,11 @@
 pub mod Stored
 pub mod Memory
-pub mod Files
-pub mod Documents
 pub mod Journal
-pub mod Checks
 pub mod Step
 pub mod Steps
 pub mod Parts
 pub mod Props
 pub mod Vault
-pub mod DocumentName
 pub mod Act
 pub mod Checking
 pub mod Folder

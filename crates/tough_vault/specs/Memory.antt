@@ -1,5 +1,6 @@
 use Rattle.std.specs.BTreeMap.{get_by_text}
-use Rattle.tough_vault.specs.Stored.{Files, content}
+use Rattle.tough_checks.specs.StoredDocuments.{content}
+use Rattle.tough_vault.specs.Stored.{Files}
 use Rattle.tough_vault.specs.declared.memory.MemoryStore.{MemoryStore}
 
 abbrev pub memory_files : MemoryStore → Files

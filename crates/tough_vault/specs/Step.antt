@@ -4,11 +4,11 @@ use Rattle.tough_vault.specs.Stored.{Files, SameFiles, SameElsewhere, HasCause}
 use Rattle.tough_vault.specs.declared.store.StoreError.{StoreError}
 use Rattle.tough_vault.specs.declared.store.StoreError.TheVariants as device
 use Rattle.tough_vault.specs.declared.entry.Receipt.{Receipt}
-use Rattle.tough_vault.specs.declared.checks.StepError.{StepError}
-use Rattle.tough_vault.specs.declared.checks.StepError.TheVariants.{Refused, DatastoreOpen, DatastoreCreate, DatastoreRemove, Memory}
-use Rattle.tough_vault.specs.Files.{timestamp_file, snapshot_file}
+use Rattle.tough_checks.specs.declared.checks.StepError.{StepError}
+use Rattle.tough_checks.specs.declared.checks.StepError.TheVariants.{Refused, DatastoreOpen, DatastoreCreate, DatastoreRemove, Memory}
+use Rattle.tough_checks.specs.Files.{timestamp_file, snapshot_file}
 use Rattle.tough_vault.specs.Journal.{Note, Cleared, Broken, Last, applied, note_of, number_of, entry_of}
-use Rattle.tough_vault.specs.Checks.{Reason, reason_of}
+use Rattle.tough_checks.specs.Checks.{Reason, reason_of}
 
 -- A step that writes one file.
 pub record Step : Type 0 where

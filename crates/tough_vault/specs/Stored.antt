@@ -1,6 +1,5 @@
 -- Files by name, and what a call on a device does to them.
-use Rattle.std.specs.Prelude.{◌≡◌, ◌≢◌, ℕ, ◌+◌, ◌%◌, ◌^◌, List, Option, None, Some, Result, IsErrOf, Vec}
-use Rattle.std.specs.declared.alloc.Global.{Global}
+use Rattle.std.specs.Prelude.{◌≡◌, ◌≢◌, ℕ, ◌+◌, ◌%◌, ◌^◌, List, Option, Some, Result, IsErrOf}
 use Rattle.tough_vault.specs.declared.store.StoreError.{StoreError}
 use Rattle.tough_vault.specs.declared.store.StoreError.TheVariants.{Failed}
 
@@ -11,11 +10,6 @@ Files = List ℕ → Option (List ℕ)
 -- the file has these bytes
 abbrev pub Is : List ℕ → Option (List ℕ)
 Is bytes = Some bytes
-
--- what a read found
-abbrev pub content : Option (Vec ℕ Global) → Option (List ℕ)
-content None = None
-content (Some v) = Some v.items
 
 abbrev pub SameFiles : Files → Files → Type 0
 SameFiles old new = (name : List ℕ) → new name ≡ old name

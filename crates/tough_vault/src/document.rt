@@ -3,7 +3,7 @@
 ghost use Rattle.std.specs.Prelude.{◌≡◌, option_and_then};
 ghost use Rattle.tough_json.specs.Results.{Writes};
 ghost use Rattle.tough_roles.specs.Document.{document_json};
-ghost use Rattle.tough_vault.specs.Documents.{stored_text};
+ghost use Rattle.tough_checks.specs.Documents.{stored_text};
 
 use std::alloc::Global;
 use tough_json::Form;

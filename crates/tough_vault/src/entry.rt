@@ -1,37 +1,11 @@
 //! What a vault notes of its steps.
 
 ghost use Rattle.std.specs.Prelude.{◌≡◌, IfOk};
-ghost use Rattle.tough_vault.specs.Journal.{no_tip, tip_of, applied, note_of, roles_of, number_of, entry_of};
+ghost use Rattle.tough_vault.specs.Journal.{no_tip, tip_of, applied, note_of, number_of, entry_of};
 
 use jiff::Timestamp;
 use std::alloc::{AllocError, Global};
-
-/// A name, with the version that a snapshot lists for it.
-#[derive(Debug, Drop)]
-pub struct ListedVersion {
-    /// The file name, as `targets.json`.
-    pub name: String,
-    /// The version.
-    pub version: u64,
-}
-
-/// A timestamp's version, with the version of the snapshot that it names.
-#[derive(Clone, Copy, Debug, PartialEq, Eq, Drop)]
-pub struct TimestampVersions {
-    /// The timestamp's version.
-    pub version: u64,
-    /// The snapshot's version.
-    pub snapshot: u64,
-}
-
-/// A snapshot's version, with the versions that it lists.
-#[derive(Debug, Drop)]
-pub struct SnapshotVersions {
-    /// The snapshot's version.
-    pub version: u64,
-    /// The listed names, in order.
-    pub roles: Vec<ListedVersion>,
-}
+use tough_checks::{SnapshotVersions, TimestampVersions};
 
 /// One step that was taken.
 #[derive(Debug, Drop)]
@@ -68,24 +42,6 @@ pub struct Tip {
 pub struct Receipt {
     number: u64,
     entry: Entry,
-}
-
-impl SnapshotVersions {
-    // A copy.
-    fn copy(&self, alloc: Global) -> Result<SnapshotVersions, AllocError>
-        ensures { IfOk result (λ copy. roles_of copy ≡ roles_of self.now) }
-    {
-        let mut roles = Vec::new(alloc);
-        for role in &self.roles {
-            let name = String::from_str(alloc, role.name.as_str())?;
-            let version = role.version;
-            roles.push(ListedVersion { name, version })?;
-        }
-        Ok(SnapshotVersions {
-            version: self.version,
-            roles,
-        })
-    }
 }
 
 impl Entry {

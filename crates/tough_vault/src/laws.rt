@@ -6,7 +6,7 @@ ghost use Rattle.tough_roles.specs.Root.{RootDoc};
 ghost use Rattle.tough_roles.specs.Signature.{SignedDoc, AreSpelled};
 ghost use Rattle.tough_roles.specs.Snapshot.{SnapshotDoc};
 ghost use Rattle.tough_roles.specs.Timestamp.{TimestampDoc};
-ghost use Rattle.tough_vault.specs.Documents.{timestamp_text, timestamp_verdict, snapshot_text, snapshot_verdict};
+ghost use Rattle.tough_checks.specs.Documents.{timestamp_text, timestamp_verdict, snapshot_text, snapshot_verdict};
 
 /// A timestamp or a snapshot that a root verifies has a text in the store.
 pub fn verified_is_stored()

@@ -5,9 +5,9 @@ ghost use Rattle.tough_vault.specs.Journal.{note_of, notes_of};
 ghost use Rattle.tough_vault.specs.Step.{IsReceipt};
 ghost use Rattle.tough_vault.specs.Parts.{parts, Concludes};
 
-use crate::checks::StepError;
 use crate::entry::{Entry, Receipt, Tip};
 use crate::store::{Store, StoreError};
+use tough_checks::StepError;
 
 /// What the first part of a step makes for the last: the bytes to be written, and the entry to be noted.
 #[derive(Drop)]

@@ -4,31 +4,32 @@ ghost use Rattle.std.specs.Prelude.{◌≡◌, IfOk, IfErr, OnOk, Some, true};
 ghost use Rattle.tough_roles.specs.Signature.{signed_doc, signed_json};
 ghost use Rattle.tough_roles.specs.Root.{AreOwn, root_doc, root_json};
 ghost use Rattle.tough_roles.specs.Timestamp.{timestamp_doc, timestamp_json};
-ghost use Rattle.tough_vault.specs.Stored.{content, SameFiles};
+ghost use Rattle.tough_checks.specs.StoredDocuments.{content, stored_timestamp, stored_time, time_in};
+ghost use Rattle.tough_vault.specs.Stored.{SameFiles};
 ghost use Rattle.tough_vault.specs.Step.{Finds};
-ghost use Rattle.tough_vault.specs.Journal.{tip_of, time_where};
-ghost use Rattle.tough_vault.specs.Checks.{timestamp_where, enforces};
-ghost use Rattle.tough_vault.specs.Documents.{role_text, root_text, root_in, timestamp_text, timestamp_in, ReadsBack};
-ghost use Rattle.tough_vault.specs.DocumentName.{name_of};
-ghost use Rattle.tough_vault.specs.Steps.{time_step, root_step, timestamp_step, document_step, stored_timestamp, stored_time, time_text, time_in};
+ghost use Rattle.tough_checks.specs.Versions.{time_where};
+ghost use Rattle.tough_vault.specs.Journal.{tip_of};
+ghost use Rattle.tough_checks.specs.Checks.{timestamp_where, enforces};
+ghost use Rattle.tough_checks.specs.Documents.{role_text, root_text, root_in, timestamp_text, timestamp_in, ReadsBack};
+ghost use Rattle.tough_checks.specs.DocumentName.{name_of};
+ghost use Rattle.tough_vault.specs.Steps.{time_step, root_step, timestamp_step, document_step, time_text};
 ghost use Rattle.tough_json.specs.Results.{Writes};
 ghost use Rattle.tough_vault.specs.Parts.{Prepares, IsReadFault};
 
-use crate::checks::{
-    ExpirationEnforcement, Refusal, StepError, check_time, check_timestamp, check_timestamp_late,
-    snapshot_version,
-};
 use crate::document::document_bytes;
-use crate::document_name::DocumentName;
-use crate::entry::{Entry, TimestampVersions, Tip};
+use crate::entry::{Entry, Tip};
 use crate::parts::Prepared;
 use crate::store::{Store, StoreError};
 use jiff::Timestamp as Instant;
 use serde_json::Value;
-use std::alloc::{AllocError, Global};
-use tough_json::text::{bytes_of, value_of};
+use std::alloc::Global;
+use tough_checks::{
+    DocumentName, ExpirationEnforcement, Refusal, StepError, TimestampVersions, check_time,
+    check_timestamp, check_timestamp_late, read_time, read_timestamp, snapshot_version,
+};
+use tough_json::text::bytes_of;
 use tough_json::{MomentError, moment_text};
-use tough_roles::{Error, ReadError, Role, Root, Signed, Timestamp, Verify, WriteError};
+use tough_roles::{Role, Root, Signed, Timestamp, Verify, WriteError};
 
 pub(crate) const TIME: &str = "latest_known_time.json";
 
@@ -58,49 +59,6 @@ pub(crate) fn read_file<S: Store>(
             Err(_) => Err(StepError::Memory),
         },
         Err(StoreError::Memory) => Err(StepError::Memory),
-    }
-}
-
-// The stored timestamp, where the file reads and the root verifies it. The only refusal is want of memory.
-fn read_timestamp<V: Verify>(
-    alloc: Global,
-    verifier: &V,
-    root: &Root,
-    found: &Option<Vec<u8>>,
-) -> Result<Option<Timestamp>, AllocError>
-    ensures { IfOk result (λ old. timestamp_where old
-        ≡ stored_timestamp (V.verifies verifier.now) (root_doc root.now) (content found.now)) }
-{
-    let Some(bytes) = found else {
-        return Ok(None);
-    };
-    let signed = match Signed::<Timestamp>::read(alloc, bytes.as_slice()) {
-        Ok(signed) => signed,
-        Err(ReadError::Memory) => return Err(AllocError),
-        Err(_) => return Ok(None),
-    };
-    match root.verify_role(alloc, &signed, verifier) {
-        Ok(()) => Ok(Some(signed.signed)),
-        Err(Error::Memory) => Err(AllocError),
-        Err(_) => Ok(None),
-    }
-}
-
-// The stored instant, where the file reads as one. The only refusal is want of memory.
-fn read_time(alloc: Global, found: &Option<Vec<u8>>) -> Result<Option<Instant>, AllocError>
-    ensures { IfOk result (λ time. time_where time ≡ stored_time (content found.now)) }
-{
-    let Some(bytes) = found else {
-        return Ok(None);
-    };
-    match value_of(alloc, bytes.as_slice()) {
-        Ok(Value::String(text)) => match text.as_str().parse::<Instant>() {
-            Ok(instant) => Ok(Some(instant)),
-            Err(_) => Ok(None),
-        },
-        Ok(_) => Ok(None),
-        Err(ReadError::Memory) => Err(AllocError),
-        Err(_) => Ok(None),
     }
 }
 

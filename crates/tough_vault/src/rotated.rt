@@ -4,11 +4,11 @@ ghost use Rattle.std.specs.Prelude.{◌≡◌, string_bytes};
 ghost use Rattle.tough_vault.specs.Step.{RemovesBoth, Clears, TellsRemoval};
 ghost use Rattle.tough_vault.specs.Parts.{parts};
 
-use crate::checks::StepError;
 use crate::entry::{Entry, Receipt, Tip};
 use crate::parts::note;
 use crate::prepare::{SNAPSHOT, TIMESTAMP};
 use crate::store::{Store, StoreError};
+use tough_checks::StepError;
 
 // Tries both removals. The outcomes are those of the timestamp's and of the snapshot's.
 fn remove_both<S: Store>(store: &mut S) -> (Result<(), StoreError>, Result<(), StoreError>)

@@ -4,47 +4,24 @@ ghost use Rattle.std.specs.Prelude.{◌≡◌, IfOk, OnOk};
 ghost use Rattle.tough_roles.specs.Signature.{signed_doc, signed_json};
 ghost use Rattle.tough_roles.specs.Root.{root_doc};
 ghost use Rattle.tough_roles.specs.Snapshot.{snapshot_doc, snapshot_json};
-ghost use Rattle.tough_vault.specs.Documents.{snapshot_text, snapshot_in, ReadsBack};
-ghost use Rattle.tough_vault.specs.Stored.{content};
+ghost use Rattle.tough_checks.specs.Documents.{snapshot_text, snapshot_in, ReadsBack};
+ghost use Rattle.tough_checks.specs.StoredDocuments.{content, stored_snapshot};
 ghost use Rattle.tough_vault.specs.Journal.{tip_of};
-ghost use Rattle.tough_vault.specs.Checks.{snapshot_where, enforces};
-ghost use Rattle.tough_vault.specs.Steps.{snapshot_step, stored_snapshot};
+ghost use Rattle.tough_checks.specs.Checks.{snapshot_where, enforces};
+ghost use Rattle.tough_vault.specs.Steps.{snapshot_step};
 ghost use Rattle.tough_vault.specs.Parts.{Prepares};
 
-use crate::checks::{ExpirationEnforcement, StepError};
 use crate::entry::{Entry, Tip};
 use crate::parts::Prepared;
 use crate::prepare::{SNAPSHOT, read_file};
-use crate::snapshot_checks::{check_snapshot, check_snapshot_late, versions_of};
 use crate::store::Store;
 use jiff::Timestamp as Instant;
-use std::alloc::{AllocError, Global};
-use tough_roles::{Error, ReadError, Root, Signed, Snapshot, Verify, WriteError};
-
-// The stored snapshot, where the file reads and the root verifies it. The only refusal is want of memory.
-fn read_snapshot<V: Verify>(
-    alloc: Global,
-    verifier: &V,
-    root: &Root,
-    found: &Option<Vec<u8>>,
-) -> Result<Option<Snapshot>, AllocError>
-    ensures { IfOk result (λ old. snapshot_where old
-        ≡ stored_snapshot (V.verifies verifier.now) (root_doc root.now) (content found.now)) }
-{
-    let Some(bytes) = found else {
-        return Ok(None);
-    };
-    let signed = match Signed::<Snapshot>::read(alloc, bytes.as_slice()) {
-        Ok(signed) => signed,
-        Err(ReadError::Memory) => return Err(AllocError),
-        Err(_) => return Ok(None),
-    };
-    match root.verify_role(alloc, &signed, verifier) {
-        Ok(()) => Ok(Some(signed.signed)),
-        Err(Error::Memory) => Err(AllocError),
-        Err(_) => Ok(None),
-    }
-}
+use std::alloc::Global;
+use tough_checks::{
+    ExpirationEnforcement, StepError, check_snapshot, check_snapshot_late, read_snapshot,
+    versions_of,
+};
+use tough_roles::{Root, Signed, Snapshot, Verify, WriteError};
 
 pub(crate) fn prepare_snapshot<S: Store, V: Verify>(
     alloc: Global,

@@ -1,6 +1,7 @@
 //! Where documents are kept: files by name, as a device of the caller's.
 ghost use Rattle.std.specs.Prelude.{◌≡◌, ℕ, List, Option, Bool, true, IfOk, OnOk, IsErrOf};
-ghost use Rattle.tough_vault.specs.Stored.{Files, Is, content, SameFiles, SameElsewhere, HasCause};
+ghost use Rattle.tough_checks.specs.StoredDocuments.{content};
+ghost use Rattle.tough_vault.specs.Stored.{Files, Is, SameFiles, SameElsewhere, HasCause};
 
 use std::alloc::Global;
 

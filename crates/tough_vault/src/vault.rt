@@ -5,17 +5,15 @@ ghost use Rattle.tough_roles.specs.Signature.{signed_doc};
 ghost use Rattle.tough_roles.specs.Root.{root_doc};
 ghost use Rattle.tough_roles.specs.Timestamp.{timestamp_doc};
 ghost use Rattle.tough_roles.specs.Snapshot.{snapshot_doc};
-ghost use Rattle.tough_vault.specs.Checks.{enforces};
+ghost use Rattle.tough_checks.specs.Checks.{enforces};
 ghost use Rattle.tough_vault.specs.Journal.{no_tip, replay, Rises, Legal, NothingGoesBack, has_broken, notes_of, tip_of};
 ghost use Rattle.tough_vault.specs.Step.{Takes, Clears};
 ghost use Rattle.tough_vault.specs.Steps.{time_step, root_step, timestamp_step, snapshot_step, document_step};
-ghost use Rattle.tough_vault.specs.Documents.{role_text};
-ghost use Rattle.tough_vault.specs.DocumentName.{name_of};
+ghost use Rattle.tough_checks.specs.Documents.{role_text};
+ghost use Rattle.tough_checks.specs.DocumentName.{name_of};
 ghost use Rattle.tough_vault.specs.Parts.{Holds, NamesFree};
 ghost use Rattle.tough_vault.specs.Props.{Rises-prop, replays-prop};
 
-use crate::checks::{ExpirationEnforcement, StepError};
-use crate::document_name::DocumentName;
 use crate::entry::{Entry, Receipt, Tip};
 use crate::parts::conclude;
 use crate::prepare::{
@@ -27,6 +25,7 @@ use crate::snapshot_step::prepare_snapshot;
 use crate::store::Store;
 use jiff::Timestamp as Instant;
 use std::alloc::Global;
+use tough_checks::{DocumentName, ExpirationEnforcement, StepError};
 use tough_roles::{Role, Root, Signed, Snapshot, Timestamp, Verify};
 
 /// A store, what was accepted from it, and the tip of that.

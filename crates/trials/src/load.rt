@@ -8,8 +8,8 @@ use serde_json::Value;
 use std::alloc::Global;
 use tough::schema::DemoVerify;
 use tough::{
-    Error, FixedClock, Limits, Loaded, MemoryStore, MemoryTransport, RepositoryLoader, TargetName,
-    Vault, drive,
+    Error, FixedClock, Keeper, Limits, Loaded, MemoryTransport, Repository, RepositoryLoader,
+    TargetName, Transport, Vault, drive,
 };
 use trials_calls::case::{flag, list, number, text_of_either};
 use trials_calls::shelf::Shelf;
@@ -51,6 +51,31 @@ pub(crate) fn limits(case: &Value) -> Limits {
     limits
 }
 
+/// Loads a repository whose metadata and targets lie below two URLs, with the root, the moment, the limits and the enforcement of the load, or
+/// those of the case.
+pub(crate) fn open<T: Transport, K: Keeper>(
+    rt: &HostRuntime,
+    load: &Value,
+    case: &Value,
+    [metadata, targets]: [&str; 2],
+    transport: T,
+    keeper: K,
+) -> anyhow::Result<Result<Repository<T, K, FixedClock>, Error>> {
+    let alloc = rt.alloc();
+    let now = text_of_either(load, case, "now").parse()?;
+    let metadata = Url::parse(alloc, metadata)?;
+    let targets = Url::parse(alloc, targets)?;
+    let trusted = text_of_either(load, case, "root").as_bytes();
+    let loader = RepositoryLoader::new(alloc, trusted, metadata, targets)
+        .transport(transport)
+        .verifier(DemoVerify)
+        .clock(FixedClock(now))
+        .keeper(keeper)
+        .limits(limits(load))
+        .expiration_enforcement(enforcement(load));
+    Ok(drive(rt, loader.load()?)?)
+}
+
 // Loads the repository that is served, on the vault.
 fn run(
     rt: &HostRuntime,
@@ -58,20 +83,9 @@ fn run(
     load: &Value,
     vault: &mut Vault<Shelf>,
 ) -> anyhow::Result<Result<Loaded, Error>> {
-    let alloc = rt.alloc();
-    let now = text_of_either(load, case, "now").parse()?;
-    let metadata = Url::parse(alloc, text_of_either(load, case, "base"))?;
-    let targets = Url::parse(alloc, "http://h/t/")?;
-    let transport = served(alloc, case, load)?;
-    let trusted = text_of_either(load, case, "root").as_bytes();
-    let loader = RepositoryLoader::new(alloc, trusted, metadata, targets)
-        .transport(transport)
-        .verifier(DemoVerify)
-        .clock(FixedClock(now))
-        .keeper(vault)
-        .limits(limits(load))
-        .expiration_enforcement(enforcement(load));
-    match drive(rt, loader.load()?)? {
+    let transport = served(rt.alloc(), case, load)?;
+    let urls = [text_of_either(load, case, "base"), "http://h/t/"];
+    match open(rt, load, case, urls, transport, vault)? {
         Ok(repository) => Ok(Ok(repository.into_parts().documents)),
         Err(error) => Ok(Err(error)),
     }
@@ -166,8 +180,8 @@ pub(crate) fn loads(rt: &HostRuntime, case: &Value) -> anyhow::Result<String> {
 }
 
 /// What a load has counted before it runs.
-pub(crate) fn counts(alloc: Global) -> anyhow::Result<String> {
-    let mut vault = Vault::new(alloc, MemoryStore::new(alloc));
+pub(crate) fn counts(alloc: Global, case: &Value) -> anyhow::Result<String> {
+    let mut vault = Vault::new(alloc, Shelf::new(alloc, case)?);
     let metadata = Url::parse(alloc, "http://h/m/")?;
     let targets = Url::parse(alloc, "http://h/t/")?;
     let load = RepositoryLoader::new(alloc, b"", metadata, targets)

@@ -36,7 +36,7 @@ fn of_updates(rt: &HostRuntime, call: &str, case: &Value) -> Result<String> {
         "update" => update::play(rt.alloc(), case),
         "update over files" => update::serve(rt.alloc(), case),
         "Core::counts" => update::counts(rt.alloc(), case),
-        "Load::core" => load::counts(rt.alloc()),
+        "Load::core" => load::counts(rt.alloc(), case),
         "Limits::default" => update::limits_by_default(rt.alloc()),
         "save_target" | "cache" | "cache_metadata" => saves::play(rt, case),
         "Target::from_path of the system" => errors::measured(rt, case),

@@ -1,20 +1,18 @@
 //! Targets that are saved, and repositories that are cached, over files in memory.
 
-use crate::load::limits;
+use crate::load::open;
 use crate::outcome::told;
 use anyhow::Result;
 use bytes::Bytes;
 use serde_json::Value;
 use std::alloc::{AllocError, Global};
 use tough::files::{Call, Request};
-use tough::schema::DemoVerify;
 use tough::{
-    Clock, Error, Files, FixedClock, Keeper, MemoryFiles, MemoryStore, MemoryTransport, Prefix,
-    Repository, RepositoryLoader, TargetName, Transport, Vault, drive, finish,
+    Clock, Error, Files, Keeper, MemoryFiles, MemoryTransport, Prefix, Repository, TargetName,
+    Transport, Vault, finish,
 };
 use trials_calls::case::{flag, list, number, text};
-use trials_calls::vault::enforcement;
-use url::Url;
+use trials_calls::shelf::Shelf;
 
 // Adds the files of a member of the case, below the URL.
 fn serve(alloc: Global, case: &Value, member: &str, transport: &mut MemoryTransport) -> Result<()> {
@@ -200,19 +198,9 @@ fn served(alloc: Global, case: &Value) -> Result<MemoryTransport> {
 
 // Loads the repository of the case by this keeper, saves a target of it or caches it, and tells what that came to.
 fn play_by<K: Keeper>(rt: &HostRuntime, case: &Value, keeper: K) -> Result<String> {
-    let alloc = rt.alloc();
-    let now = text(case, "now").parse()?;
-    let metadata = Url::parse(alloc, "http://h/metadata/")?;
-    let targets = Url::parse(alloc, "http://h/targets")?;
-    let transport = served(alloc, case)?;
-    let loader = RepositoryLoader::new(alloc, text(case, "root").as_bytes(), metadata, targets)
-        .transport(transport)
-        .verifier(DemoVerify)
-        .clock(FixedClock(now))
-        .keeper(keeper)
-        .limits(limits(case))
-        .expiration_enforcement(enforcement(case));
-    let mut repository = drive(rt, loader.load()?)??;
+    let transport = served(rt.alloc(), case)?;
+    let urls = ["http://h/metadata/", "http://h/targets"];
+    let mut repository = open(rt, case, case, urls, transport, keeper)??;
     let told = tell_anew(rt, case, &mut repository);
     drop(repository);
     told
@@ -220,7 +208,7 @@ fn play_by<K: Keeper>(rt: &HostRuntime, case: &Value, keeper: K) -> Result<Strin
 
 /// Loads the repository of the case, saves a target of it or caches it, and tells what that came to, and which calls the files were given.
 pub(crate) fn play(rt: &HostRuntime, case: &Value) -> Result<String> {
-    let mut vault = Vault::new(rt.alloc(), MemoryStore::new(rt.alloc()));
+    let mut vault = Vault::new(rt.alloc(), Shelf::new(rt.alloc(), case)?);
     let told = play_by(rt, case, &mut vault);
     drop(vault);
     told

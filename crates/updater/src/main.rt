@@ -9,7 +9,7 @@ use std::{env, fs, rt};
 use tough::schema::DemoVerify;
 use tough::{
     DefaultTransport, DirStore, LocalRuntime, OsFiles, Prefix, RepositoryLoader, SystemClock,
-    TargetName, Url, Vault, open_on,
+    TargetName, Transport, Url, Vault, open_on,
 };
 
 const USAGE: &str = "usage: updater ROOT METADATA TARGETS STORE NAME OUTDIR";
@@ -26,46 +26,63 @@ fn main(rt: HostRuntime) -> anyhow::Result<()> {
     };
     let trusted = fs::read(&rt, root.as_str())?;
     let name = TargetName::from_str(alloc, name.as_str())?;
-    update(
-        &rt,
-        trusted.as_slice(),
-        Url::parse(alloc, metadata.as_str())?,
-        Url::parse(alloc, targets.as_str())?,
-        store.as_str(),
-        &name,
-        outdir.as_str(),
-    )?;
+    let wanted = Wanted {
+        trusted: trusted.as_slice(),
+        metadata: Url::parse(alloc, metadata.as_str())?,
+        targets: Url::parse(alloc, targets.as_str())?,
+        store: store.as_str(),
+        name: &name,
+        outdir: outdir.as_str(),
+    };
+    update(&rt, wanted)?;
     println!(&rt; "saved {} in {outdir}", name.resolved())?;
     Ok(())
 }
 
-// Loads the repository, whose metadata and targets lie below two URLs, into the store, and saves the target.
-fn update<R>(
-    rt: &R,
-    trusted: &[u8],
+// What is loaded, where it is kept, and what is saved where.
+#[derive(Drop)]
+struct Wanted<'a> {
+    trusted: &'a [u8],
     metadata: Url,
     targets: Url,
-    store: &str,
-    name: &TargetName,
-    outdir: &str,
-) -> anyhow::Result<()>
+    store: &'a str,
+    name: &'a TargetName,
+    outdir: &'a str,
+}
+
+// Loads the repository over files or HTTP, and saves the target.
+fn update<R>(rt: &R, wanted: Wanted<'_>) -> anyhow::Result<()>
 where
     R: rt::Files + Net + Wait + rt::Clock + RandomSource + AllocGlobal + Clone + Drop,
 {
-    let alloc = rt.alloc();
     let mut runtime = LocalRuntime::new(rt)?;
     let transport = DefaultTransport::new(rt.clone()?, runtime.handle().clone()?)?;
-    let folder = String::from_str(alloc, store)?;
+    update_by(rt, &mut runtime, transport, wanted)
+}
+
+// The same by any transport that the runtime serves.
+fn update_by<R, T>(
+    rt: &R,
+    runtime: &mut LocalRuntime,
+    transport: T,
+    wanted: Wanted<'_>,
+) -> anyhow::Result<()>
+where
+    R: rt::Files + Wait + rt::Clock + RandomSource + AllocGlobal + Clone + Drop,
+    T: Transport,
+{
+    let alloc = rt.alloc();
+    let folder = String::from_str(alloc, wanted.store)?;
     let mut vault = Vault::new(alloc, DirStore::new(rt.clone()?, folder));
     let mut files = OsFiles::new(rt.clone()?);
-    let load = RepositoryLoader::new(alloc, trusted, metadata, targets)
+    let load = RepositoryLoader::new(alloc, wanted.trusted, wanted.metadata, wanted.targets)
         .transport(transport)
         .verifier(DemoVerify) // put your own verifier here: this one proves nothing
         .clock(SystemClock::new(rt.clone()?))
         .keeper(&mut vault)
         .load()?;
-    let mut repository = open_on(rt, &mut runtime, load)??;
-    let saving = repository.save_target(&mut files, name, outdir, Prefix::None);
+    let mut repository = open_on(rt, runtime, load)??;
+    let saving = repository.save_target(&mut files, wanted.name, wanted.outdir, Prefix::None);
     runtime.block_on(rt, saving)??;
     Ok(())
 }

@@ -14,7 +14,7 @@ use Rattle.tough_schema.specs.Targets.{TargetsDoc, targets_json}
 use Rattle.tough_schema.specs.Verify.{delegated_policy, ReachesDelegated}
 use Rattle.tough_schema.specs.Whole.{TreeDoc}
 use Rattle.tough_delegated.specs.Bare.{bare}
-use Rattle.tough_vault.specs.Checks.{refuse, or_else, VersionMismatch, expiry, is_expired, verified}
+use Rattle.tough_checks.specs.Checks.{refuse, or_else, VersionMismatch, expiry, is_expired, verified}
 use Rattle.tough_trust.specs.Failure.{ParseMetadata}
 use Rattle.tough_trust.specs.Outcomes.{if_read, holds_json, unrefused}
 use Rattle.tough_trust.specs.Listed.{targets_in, HolderDoc, targets_verdict, targets_refusal, judged}

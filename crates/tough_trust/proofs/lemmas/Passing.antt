@@ -14,8 +14,8 @@ use Rattle.tough_roles.specs.Chain.{ReachesUnder}
 use Rattle.tough_roles.specs.declared.role_type.RoleType.{RoleType}
 use Rattle.tough_roles.specs.declared.role_type.RoleType.TheVariants as role
 use Rattle.tough_roles.proofs.lemmas.Reached.{ok-reaches}
-use Rattle.tough_vault.specs.Checks.{Reason, refuse, or_else, VersionMismatch, TimestampMetaLength, expiry, is_expired, ExpiredMetadata, verified, timestamp_first, timestamp_form, snapshot_first, snapshot_form}
-use Rattle.tough_vault.specs.Documents.{timestamp_verdict, snapshot_verdict}
+use Rattle.tough_checks.specs.Checks.{Reason, refuse, or_else, VersionMismatch, TimestampMetaLength, expiry, is_expired, ExpiredMetadata, verified, timestamp_first, timestamp_form, snapshot_first, snapshot_form}
+use Rattle.tough_checks.specs.Documents.{timestamp_verdict, snapshot_verdict}
 use Rattle.tough_trust.specs.Failure.{Failure}
 use Rattle.tough_trust.specs.Outcomes.{if_read, unrefused}
 use Rattle.tough_trust.specs.Requests.{bound, has_digest}

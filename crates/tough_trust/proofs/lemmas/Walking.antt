@@ -8,8 +8,8 @@ use Rattle.tough_roles.specs.Root.{RootDoc, root_json}
 use Rattle.tough_roles.specs.Chain.{ReachesUnder, IsNext}
 use Rattle.tough_roles.specs.declared.role_type.RoleType.TheVariants as role
 use Rattle.tough_roles.proofs.lemmas.Reached.{ok-reaches}
-use Rattle.tough_vault.specs.Checks.{or_else, refuse, verified, OlderMetadata}
-use Rattle.tough_vault.specs.Documents.{root_in}
+use Rattle.tough_checks.specs.Checks.{or_else, refuse, verified, OlderMetadata}
+use Rattle.tough_checks.specs.Documents.{root_in}
 use Rattle.tough_roles.specs.Verdict.{Refused}
 use Rattle.tough_trust.specs.Failure.{ParseTrustedMetadata, ParseMetadata}
 use Rattle.tough_trust.specs.Outcomes.{holds_json, unrefused}

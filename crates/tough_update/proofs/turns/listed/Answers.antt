@@ -1,6 +1,6 @@
 use Rattle.std.proofs.Common.{option_map, sym, ap, ◌∙◌}
 use Rattle.tough_roles.specs.Timestamp.{metafile_doc}
-use Rattle.tough_vault.proofs.lemmas.Looking.{looked}
+use Rattle.tough_checks.proofs.lemmas.Looking.{looked}
 use Rattle.tough_update.proofs.turns.listed.Goals as goal
 
 pub returns : goal.returns

@@ -1,6 +1,6 @@
 use Rattle.std.proofs.Common.{refl, ap, ◌∙◌}
 use Rattle.tough_vault.specs.Journal.{Document}
-use Rattle.tough_vault.specs.DocumentName.{name_of}
+use Rattle.tough_checks.specs.DocumentName.{name_of}
 use Rattle.tough_vault.proofs.Preparing.{prepared, needs_none}
 use Rattle.tough_vault.proofs.prepare.prepare_document.Goals as goal
 

@@ -1,6 +1,6 @@
 use Rattle.std.proofs.Common.{ap, refl}
 use Rattle.tough_roles.specs.Root.{root_at, root_doc, root_json}
-use Rattle.tough_vault.specs.Files.{root_file}
+use Rattle.tough_checks.specs.Files.{root_file}
 use Rattle.tough_vault.specs.Journal.{Root}
 use Rattle.tough_vault.proofs.Backs.{reads-back}
 use Rattle.tough_vault.proofs.Preparing.{prepared, needs_none}

@@ -1,10 +1,10 @@
 use Rattle.std.proofs.Common.{[], ◌∷◌, refl, sym, ap, ◌∙◌}
-use Rattle.tough_vault.specs.Stored.{content}
-use Rattle.tough_vault.specs.declared.checks.Refusal.TheVariants.{DatastoreSerialize}
-use Rattle.tough_vault.specs.declared.checks.StepError.TheVariants.{Refused}
-use Rattle.tough_vault.specs.Checks.{time_after, first_of}
-use Rattle.tough_vault.specs.Journal.{time_where}
-use Rattle.tough_vault.specs.Steps.{needs, stored_time}
+use Rattle.tough_checks.specs.StoredDocuments.{content, stored_time}
+use Rattle.tough_checks.specs.declared.checks.Refusal.TheVariants.{DatastoreSerialize}
+use Rattle.tough_checks.specs.declared.checks.StepError.TheVariants.{Refused}
+use Rattle.tough_checks.specs.Checks.{time_after, first_of}
+use Rattle.tough_checks.specs.Versions.{time_where}
+use Rattle.tough_vault.specs.Steps.{needs}
 use Rattle.tough_vault.proofs.Preparing.{prepared, refused_after, checked_more, checked_at, or_none, or_second}
 use Rattle.tough_vault.proofs.prepare.prepare_time.Goals as goal
 

@@ -2,10 +2,10 @@ use Rattle.std.proofs.Common.{Err, sym, ap, ◌∙◌}
 use Rattle.tough_roles.specs.Root.{root_doc}
 use Rattle.tough_roles.specs.Signature.{signed_doc}
 use Rattle.tough_roles.specs.Timestamp.{timestamp_at, timestamp_doc, timestamp_json}
-use Rattle.tough_vault.specs.Stored.{content}
-use Rattle.tough_vault.specs.Journal.{pair_where}
-use Rattle.tough_vault.specs.Checks.{timestamp_after, enforces}
-use Rattle.tough_vault.specs.declared.checks.StepError.TheVariants.{Refused}
+use Rattle.tough_checks.specs.StoredDocuments.{content}
+use Rattle.tough_checks.specs.Versions.{pair_where}
+use Rattle.tough_checks.specs.Checks.{timestamp_after, enforces}
+use Rattle.tough_checks.specs.declared.checks.StepError.TheVariants.{Refused}
 use Rattle.tough_vault.proofs.Backs.{reads-back}
 use Rattle.tough_vault.proofs.Preparing.{prepared, refused_after, checked_at, same_pair, had_old}
 use Rattle.tough_vault.proofs.Verified.{timestamp-unwritten}

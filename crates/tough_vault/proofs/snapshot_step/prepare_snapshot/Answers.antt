@@ -2,10 +2,10 @@ use Rattle.std.proofs.Common.{Err, sym, ap, ◌∙◌}
 use Rattle.tough_roles.specs.Root.{root_doc}
 use Rattle.tough_roles.specs.Signature.{signed_doc}
 use Rattle.tough_roles.specs.Snapshot.{snapshot_at, snapshot_doc, snapshot_json}
-use Rattle.tough_vault.specs.Stored.{content}
-use Rattle.tough_vault.specs.Journal.{Snapshot, roles_where}
-use Rattle.tough_vault.specs.Checks.{snapshot_after, enforces}
-use Rattle.tough_vault.specs.Steps.{roles_in}
+use Rattle.tough_checks.specs.StoredDocuments.{content}
+use Rattle.tough_checks.specs.Versions.{roles_where}
+use Rattle.tough_vault.specs.Journal.{Snapshot}
+use Rattle.tough_checks.specs.Checks.{snapshot_after, enforces, roles_in}
 use Rattle.tough_vault.proofs.Backs.{reads-back}
 use Rattle.tough_vault.proofs.Preparing.{prepared, refused_after, checked_at, had_snapshot}
 use Rattle.tough_vault.proofs.Verified.{snapshot-unwritten}

@@ -1,6 +1,6 @@
 use Rattle.std.proofs.Common.{rules, ◌≡◌, Some, None, map, option_map}
 use Rattle.tough_client.specs.Caching.{AreMade, PlansAll}
-use Rattle.tough_client.specs.Repositories.{documents_of, keeper_of}
+use Rattle.tough_client.specs.Repositories.{documents_of, keeping_of}
 use Rattle.tough_client.proofs.Turns.{goes_value, unbegun, unbegun_value}
 use Rattle.tough_client.proofs.cache.CacheFuture.poll.Goals as goal
 
@@ -11,7 +11,7 @@ returns-in-Some-clause-value g c =
     goes_value g.T.Transport.refuses g.T.Transport.serves g.T.Stream.Stream.yields g.T.Stream.Stream.can_poll g.K.Keeper.keeps g.F.Files.tells
     (AreMade g.F.Files.tells m.folders) (PlansAll (documents_of m.repository.now) (option_map (λ names. map g.S.AsStr.text names.now) m.subset) m.root_chain)
     m.repository.now m.folders (g.F.Files.calls m.files.now) (g.F.Files.calls m.files.now) m.caching c.in-Some.caching is
-    (g.F.Files.calls c.go_on_caching.new.files) (keeper_of c.go_on_caching.new.self) c.go_on_caching.result c.go_on_caching.ensures.done
+    (g.F.Files.calls c.go_on_caching.new.files) (keeping_of c.go_on_caching.new.self) c.go_on_caching.result c.go_on_caching.ensures.done
 
 pub returns-in-Err-clause-value : goal.returns-in-Err-clause-value
 returns-in-Err-clause-value g c =

@@ -1,7 +1,7 @@
 use Rattle.std.proofs.Common.{rules, ◌≡◌, Some, None}
 use Rattle.tough_client.specs.Caching.{all_metadata}
 use Rattle.tough_client.specs.Copying.{IsMade}
-use Rattle.tough_client.specs.Repositories.{documents_of, keeper_of}
+use Rattle.tough_client.specs.Repositories.{documents_of, keeping_of}
 use Rattle.tough_client.proofs.Turns.{goes_value, unbegun, unbegun_value}
 use Rattle.tough_client.proofs.cache.CacheMetadataFuture.poll.Goals as goal
 
@@ -12,7 +12,7 @@ returns-in-Some-clause-value g c =
     goes_value g.T.Transport.refuses g.T.Transport.serves g.T.Stream.Stream.yields g.T.Stream.Stream.can_poll g.K.Keeper.keeps g.F.Files.tells
     (IsMade g.F.Files.tells m.folders.metadata.now) (λ turns. turns ≡ all_metadata m.root_chain (documents_of m.repository.now))
     m.repository.now m.folders (g.F.Files.calls m.files.now) (g.F.Files.calls m.files.now) m.caching c.in-Some.caching is
-    (g.F.Files.calls c.go_on_caching.new.files) (keeper_of c.go_on_caching.new.self) c.go_on_caching.result c.go_on_caching.ensures.done
+    (g.F.Files.calls c.go_on_caching.new.files) (keeping_of c.go_on_caching.new.self) c.go_on_caching.result c.go_on_caching.ensures.done
 
 pub returns-in-Err-clause-value : goal.returns-in-Err-clause-value
 returns-in-Err-clause-value g c =

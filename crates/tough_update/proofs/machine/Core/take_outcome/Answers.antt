@@ -1,5 +1,5 @@
 use Rattle.std.proofs.Common.{refl, ap, ◌∙◌}
-use Rattle.tough_vault.specs.Checks.{enforces}
+use Rattle.tough_checks.specs.Checks.{enforces}
 use Rattle.tough_update.specs.Promises.{ended}
 use Rattle.tough_update.specs.Stages.{CoreDoc, SettingDoc}
 use Rattle.tough_update.specs.View.{stage_doc}

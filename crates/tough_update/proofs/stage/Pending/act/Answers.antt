@@ -1,8 +1,8 @@
 use Rattle.std.proofs.Common.{ap, sym, ◌∙◌}
 use Rattle.tough_vault.specs.Act.{PutDocument}
-use Rattle.tough_vault.specs.Checks.{enforces}
-use Rattle.tough_vault.specs.DocumentName.{name_of}
-use Rattle.tough_vault.specs.Files.{targets_file}
+use Rattle.tough_checks.specs.Checks.{enforces}
+use Rattle.tough_checks.specs.DocumentName.{name_of}
+use Rattle.tough_checks.specs.Files.{targets_file}
 use Rattle.tough_delegated.proofs.lemmas.Bare.{page-tells}
 use Rattle.tough_trust.specs.Listed.{targets_text}
 use Rattle.tough_update.specs.Machine.{act_at}

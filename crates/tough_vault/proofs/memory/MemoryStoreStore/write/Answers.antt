@@ -1,7 +1,7 @@
 use Rattle.std.proofs.Common.{◌≡◌, ap, arith}
 use Rattle.std.specs.BTreeMap.{get_by_text}
 use Rattle.std.proofs.lemmas.Map.Text.{text_keys}
-use Rattle.tough_vault.specs.Stored.{content}
+use Rattle.tough_checks.specs.StoredDocuments.{content}
 use Rattle.tough_vault.proofs.memory.MemoryStoreStore.write.Goals as goal
 
 pub returns-in-Ok-insert-clause-elsewhere : goal.returns-in-Ok-insert-clause-elsewhere

@@ -1,7 +1,7 @@
 use Rattle.tough_roles.specs.Signature.{signed_doc}
 use Rattle.tough_roles.specs.Root.{root_doc}
 use Rattle.tough_roles.specs.Timestamp.{timestamp_doc}
-use Rattle.tough_vault.specs.Checks.{enforces}
+use Rattle.tough_checks.specs.Checks.{enforces}
 use Rattle.tough_vault.specs.Journal.{tip_of}
 use Rattle.tough_vault.specs.Steps.{timestamp_step}
 use Rattle.tough_vault.specs.Parts.{parts}

@@ -1,5 +1,5 @@
-use Rattle.tough_vault.specs.DocumentName.{name_of}
-use Rattle.tough_vault.specs.Documents.{role_text}
+use Rattle.tough_checks.specs.DocumentName.{name_of}
+use Rattle.tough_checks.specs.Documents.{role_text}
 use Rattle.tough_vault.specs.Steps.{document_step}
 use Rattle.tough_vault.specs.Parts.{parts}
 use Rattle.tough_vault.proofs.Taking.{takes}

@@ -1,0 +1,42 @@
+-- What a store holds, as the steps see it.
+use Rattle.std.specs.Prelude.{ℕ, ℤ, List, Option, None, Some, option_and_then, Result, Ok, Err, Vec}
+use Rattle.std.specs.declared.alloc.Global.{Global}
+use Rattle.tough_roles.specs.Root.{RootDoc}
+use Rattle.tough_roles.specs.Timestamp.{TimestampDoc}
+use Rattle.tough_roles.specs.Snapshot.{SnapshotDoc}
+use Rattle.tough_keys.specs.Same.{Verifies}
+use Rattle.tough_roles.specs.Verdict.{Refused}
+use Rattle.tough_json.specs.Results.{json_of}
+use Rattle.tough_json.specs.Reading.{instant, ◌>>=◌}
+use Rattle.tough_checks.specs.Documents.{timestamp_in, timestamp_verdict, snapshot_in, snapshot_verdict}
+
+-- what a read found
+abbrev pub content : Option (Vec ℕ Global) → Option (List ℕ)
+content None = None
+content (Some v) = Some v.items
+
+-- the instant that bytes are
+abbrev pub time_in : List ℕ → Option ℤ
+time_in bytes = option_and_then instant (json_of bytes)
+
+abbrev pub stored_time : Option (List ℕ) → Option ℤ
+stored_time None = None
+stored_time (Some bytes) = time_in bytes
+
+-- what verification answered, on a document that reads
+abbrev pub if_verified : {A : Type 0} → Result Unit Refused → A → Option A
+if_verified (Ok u) a = Some a
+if_verified (Err r) a = None
+
+-- the stored document, where the file reads and the root verifies it
+abbrev pub stored_timestamp : Verifies → RootDoc → Option (List ℕ) → Option TimestampDoc
+stored_timestamp verifies root found = do
+  bytes ← found
+  d ← timestamp_in bytes
+  if_verified (timestamp_verdict verifies root d) d.role
+
+abbrev pub stored_snapshot : Verifies → RootDoc → Option (List ℕ) → Option SnapshotDoc
+stored_snapshot verifies root found = do
+  bytes ← found
+  d ← snapshot_in bytes
+  if_verified (snapshot_verdict verifies root d) d.role

@@ -1,0 +1,18 @@
+//! What is checked before a document is stored: the versions, the expiry and the lists, against what the store holds and what was accepted
+//! last (TUF specification 5.3 to 5.6).
+#![tactic(auto)]
+
+mod checks;
+mod document_name;
+mod snapshot_checks;
+mod stored;
+mod versions;
+
+pub use checks::{
+    ExpirationEnforcement, Refusal, StepError, check_expiry, check_signed, check_time,
+    check_timestamp, check_timestamp_late, check_version, snapshot_version,
+};
+pub use document_name::DocumentName;
+pub use snapshot_checks::{check_snapshot, check_snapshot_late, read_snapshot, versions_of};
+pub use stored::{read_time, read_timestamp};
+pub use versions::{ListedVersion, SnapshotVersions, TimestampVersions};

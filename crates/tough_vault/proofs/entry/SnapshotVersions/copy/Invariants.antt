@@ -1,6 +1,0 @@
-use Rattle.std.proofs.Common.{◌≡◌, take}
-use Rattle.tough_vault.specs.Journal.{items_of}
-use Rattle.tough_vault.proofs.entry.SnapshotVersions.copy.Given as goal
-
-abbrev pub invariant-loop-role : goal.invariant-loop-role
-invariant-loop-role l = items_of l.roles.items ≡ items_of (take l.role-index l.self.roles.items)
