@@ -10,9 +10,8 @@ use Rattle.tough_vault.specs.Act.{Act}
 use Rattle.tough_net.specs.declared.error.TransportError.{TransportError}
 use Rattle.tough_net.specs.Items.{Item}
 use Rattle.tough_trust.specs.declared.error.UpdateError.{UpdateError}
-use Rattle.tough_trust.specs.Failure.{Failure, failure_of}
+use Rattle.tough_trust.specs.Failure.{failure_of}
 use Rattle.tough_update.specs.declared.stage.Loaded.{Loaded}
-use Rattle.tough_update.specs.Stages.{LoadedDoc}
 use Rattle.tough_update.specs.View.{loaded_doc, outcome_doc}
 use Rattle.tough_load.specs.declared.load.Load.{Load}
 use Rattle.tough_load.specs.Advancing.{Finishes}
@@ -20,7 +19,7 @@ use Rattle.tough_client.specs.declared.error.Error.{Error}
 use Rattle.tough_client.specs.declared.repository.Repository.{Repository}
 use Rattle.tough_client.specs.Failures.{failure_in}
 use Rattle.tough_client.specs.Opening.{Opens}
-use Rattle.tough_client.specs.Repositories.{IsMadeOf, loaded_of, documents_of}
+use Rattle.tough_client.specs.Repositories.{IsMadeOf, documents_of}
 
 module _ {T K C V S : Type 0} (refuses : T → Parts → TransportError → Type 0) (serves : T → Parts → Runs Item) (keeps : Verifies → K → Act → Result Receipt StepError → K → Type 0) (yields : S → Runs Item)
     (verifies : V → Verifies) (old : Load T K C V S) (o : Result Loaded UpdateError) (l : Load T K C V S) (finishes : Finishes refuses serves keeps yields verifies old (outcome_doc o) l) where

@@ -1,5 +1,5 @@
 -- What is left of what is planned, turn by turn.
-use Rattle.std.proofs.Common.{◌≡◌, ℕ, ◌+◌, ◌<◌, ◌≤◌, List, [], ◌∷◌, ◌++◌, length, map, drop, get_or, append_assoc, append-nil, cond, Option, Some, None, String, string_bytes, Bor, bytes_eq, if◌then◌else◌, Bool, subst, refl, sym, ap, ◌∙◌}
+use Rattle.std.proofs.Common.{◌≡◌, ℕ, ◌+◌, ◌<◌, ◌≤◌, List, [], ◌∷◌, ◌++◌, length, map, drop, get_or, append_assoc, append-nil, Option, Some, None, String, string_bytes, Bor, Bool, subst, refl, sym, ap, ◌∙◌}
 use Rattle.std.specs.declared.alloc.Global.{Global}
 use Rattle.tough_names.specs.Named.{Named}
 use Rattle.std.specs.BTreeMap.{BTreeMap, UpdatesBy, get_by}

@@ -48,6 +48,16 @@ module _ {T K C S : Type 0} (refuses : T → Parts → TransportError → Type 0
     some_value new (Ready x) h = may new (keeping_of r) x (rw is (h, refl))
     some_value new Pending h = h
 
+    some_later : (o' : Option (Saving (DigestCheck (MaxSize S)))) (done : List Told) → IsSomeAnd o' (Continues yields tells name s old done) → (x : Result (Unit {0}) Error)
+        → ((calls : List Told) × (k : Keeping K) × GoesOnSaving refuses serves yields can_poll keeps tells o' r name outdir p done calls k x) → May x
+    some_later None done w x h = absurd w
+    some_later (Some later) done w x h = may h.0 h.1 x (rw is (w x h.0 h.2.0, h.2.1))
+
+    pub some_same : (o' : Option (Saving (DigestCheck (MaxSize S)))) (done : List Told) (result : Poll (Result (Unit {0}) Error)) → OnPending result (IsSomeAnd o' (Continues yields tells name s old done))
+        → OnPending result ((x : Result (Unit {0}) Error) → ((calls : List Told) × (k : Keeping K) × GoesOnSaving refuses serves yields can_poll keeps tells o' r name outdir p done calls k x) → May x)
+    some_same o' done (Ready x) h = h
+    some_same o' done Pending h = some_later o' done h
+
   -- it couldn't start
   pub none_failed : (new : List Told) (next : Keeping K) (e : Error) → o ≡ None → Starts refuses serves yields can_poll keeps tells r name outdir p old new next (Err e)
       → GoesOnSaving refuses serves yields can_poll keeps tells o r name outdir p old new next (Err e)

@@ -1,7 +1,7 @@
 -- How a saving starts, of its parts.
-use Rattle.std.specs.Prelude.{◌≡◌, ◌⊎◌, ℕ, Bool, true, List, Option, Some, None, Result, Ok, Err, String, string_bytes}
+use Rattle.std.specs.Prelude.{◌≡◌, ℕ, Bool, true, List, Result, Ok, Err, String, string_bytes}
 use Rattle.std.specs.declared.alloc.Global.{Global}
-use Rattle.std.proofs.Common.{refl, sym, inl, inr, subst}
+use Rattle.std.proofs.Common.{sym, inl, inr, subst}
 use Rattle.url.specs.Parts.{Parts}
 use Rattle.futures.specs.Runs.{Runs}
 use Rattle.tough_files.specs.Calls.{Told}
@@ -15,19 +15,17 @@ use Rattle.tough_vault.specs.Act.{Act}
 use Rattle.tough_checks.specs.declared.checks.StepError.{StepError}
 use Rattle.tough_vault.specs.declared.entry.Receipt.{Receipt}
 use Rattle.tough_trust.specs.Timely.{Keeping}
-use Rattle.tough_update.specs.Stages.{LoadedDoc}
 use Rattle.tough_client.specs.declared.error.Error.{Error}
-use Rattle.tough_client.specs.declared.error.Error.TheVariants as error
 use Rattle.tough_save.specs.declared.error.SaveError.{SaveError}
 use Rattle.tough_save.specs.declared.place.Place.{Place}
 use Rattle.tough_save.specs.declared.saving.Saving.{Saving}
 use Rattle.tough_save.specs.Folders.{Opens, MakesTemp}
-use Rattle.tough_save.specs.Places.{IsPlace, IsMisplaced, parent_of, path_of}
+use Rattle.tough_save.specs.Places.{parent_of, path_of}
 use Rattle.tough_save.specs.Savings.{stream_of, temp_of, target_of}
 use Rattle.tough_client.specs.declared.repository.Repository.{Repository}
 use Rattle.tough_client.specs.declared.save.Prefix.{Prefix}
 use Rattle.tough_client.specs.Repositories.{documents_of, keeping_of}
-use Rattle.tough_client.specs.Saving.{TellsSave, IsSavedAs, IsUnlisted, Places, Opened, Readies, Starts}
+use Rattle.tough_client.specs.Saving.{TellsSave, Places, Opened, Readies, Starts}
 
 module _ {T K C S : Type 0} (refuses : T → Parts → TransportError → Type 0) (serves : T → Parts → Runs Item) (yields : S → Runs Item) (can_poll : S → Type 0)
     (keeps : Verifies → K → Act → Result Receipt StepError → K → Type 0) (tells : Bool) (r : Repository T K C) (name : Named) where

@@ -163,6 +163,11 @@ module _ {T K C S : Type 0} (refuses : T → Parts → TransportError → Type 0
           let P : Option (Caching S) → Type 0 = λ x. GoesOnPlan refuses serves yields can_poll keeps tells makes plans x r dirs mid g.0 g.1 result in
           (g.0, g.1, from_begun c h g.0 g.1 result (subst P is' g.2))
 
+      pub begun_same : (c : Caching S) → HasBegun (makes old mid) plans (Ok c) → (o' : Option (Caching S)) → o' ≡ Some c → (result : Poll (Result (Unit {0}) Error))
+          → OnPending result ((x : Result (Unit {0}) Error) → ((calls : List Told) × (k : Keeping K) × GoesOnPlan refuses serves yields can_poll keeps tells makes plans o' r dirs mid calls k x) → May x)
+      begun_same c h o' is' (Ready x) = tt
+      begun_same c h o' is' Pending = begun c h o' is'
+
     module _ (c : Caching S) (is : o ≡ Some c) where
       pub goes : (new : List Told) (next : Keeping K) (result : Result (Unit {0}) Error) → GoesOnCaching refuses serves yields can_poll keeps tells c.work (left_in c.plan) r dirs old new next result
           → GoesOnPlan refuses serves yields can_poll keeps tells makes plans o r dirs old new next result
@@ -179,3 +184,9 @@ module _ {T K C S : Type 0} (refuses : T → Parts → TransportError → Type 0
       continues plans' later c' h o' is' result g =
           let P : Option (Caching S) → Type 0 = λ x. GoesOnPlan refuses serves yields can_poll keeps tells makes plans' x later dirs mid g.0 g.1 result in
           (g.0, g.1, goes g.0 g.1 result (h result g.0 g.1 (subst P is' g.2)))
+
+      pub continues_same : (plans' : List Turn → Type 0) (later : Repository T K C) (c' : Caching S) (o' : Option (Caching S)) → o' ≡ Some c' → (result : Poll (Result (Unit {0}) Error))
+          → OnPending result (Continues refuses serves yields can_poll keeps tells c r dirs old mid later c')
+          → OnPending result ((x : Result (Unit {0}) Error) → ((calls : List Told) × (k : Keeping K) × GoesOnPlan refuses serves yields can_poll keeps tells makes plans' o' later dirs mid calls k x) → May x)
+      continues_same plans' later c' o' is' (Ready x) h = h
+      continues_same plans' later c' o' is' Pending h = continues plans' later c' h o' is'

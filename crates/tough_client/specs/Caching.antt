@@ -1,5 +1,5 @@
 -- How a repository is cached: turn by turn, and the calls by which that is done.
-use Rattle.std.specs.Prelude.{◌≡◌, ◌⊎◌, ℕ, Bool, List, [], ◌∷◌, ◌++◌, Option, Some, None, Result, Ok, Err, Vec, length, ◌≤◌, string_bytes, if◌then◌else◌, ⊤}
+use Rattle.std.specs.Prelude.{◌≡◌, ◌⊎◌, ℕ, Bool, List, [], ◌∷◌, ◌++◌, Option, Some, None, Result, Ok, Err, Vec, length, ◌≤◌, string_bytes, if◌then◌else◌}
 use Rattle.std.specs.declared.alloc.Global.{Global}
 use Rattle.std.specs.Path.{path_join}
 use Rattle.url.specs.Parts.{Parts}

@@ -5,7 +5,7 @@ use Rattle.serde_json.specs.Read.{max_depth}
 use Rattle.tough_json.specs.Results.{json_of}
 use Rattle.tough_json.proofs.lemmas.Write.{some-inj}
 use Rattle.tough_roles.specs.Readable.{NestsWithin, IsTextOf}
-use Rattle.tough_roles.specs.Signature.{SignedDoc, signed_at, signed_json, signed_doc}
+use Rattle.tough_roles.specs.Signature.{signed_at, signed_json, signed_doc}
 use Rattle.tough_roles.specs.declared.signed.Signed.{Signed}
 use Rattle.tough_roles.proofs.lemmas.Signed.{signed-read}
 use Rattle.tough_checks.specs.Documents.{stored_text, ReadsBack}

@@ -1,5 +1,5 @@
 -- What a vault keeps through a step.
-use Rattle.std.proofs.Common.{◌≡◌, ◌≢◌, None, ℕ, List, [], ◌∷◌, ◌++◌, Option, Result, Ok, Err, Bool, true, false, refl, sym, ap, ◌∙◌, subst, inl, inr}
+use Rattle.std.proofs.Common.{◌≡◌, ◌≢◌, None, ℕ, List, [], ◌∷◌, ◌++◌, Option, Result, Ok, Err, Bool, true, false, sym, ap, ◌∙◌, subst, inl, inr}
 use Rattle.std.proofs.Math.Logic.{∥∥₁_map}
 use Rattle.tough_vault.specs.Stored.{Files, SameElsewhere}
 use Rattle.tough_vault.specs.declared.store.StoreError.{StoreError}

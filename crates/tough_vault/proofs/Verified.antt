@@ -1,5 +1,5 @@
 -- What was verified can be written.
-use Rattle.std.proofs.Common.{◌≡◌, ◌≢◌, ℕ, not, ◌==◌, is_some, List, [], ◌∷◌, Option, Some, None, Result, Ok, Err, option_and_then, refl, sym, ◌∙◌}
+use Rattle.std.proofs.Common.{◌≡◌, ◌≢◌, ℕ, not, ◌==◌, List, [], ◌∷◌, Option, Some, None, Result, Ok, Err, option_and_then, refl}
 use Rattle.serde_json.specs.Data.{Data}
 use Rattle.tough_json.specs.CanonicalText.{canonical_of}
 use Rattle.tough_json.specs.Pieces.{text_in}
@@ -14,7 +14,7 @@ use Rattle.tough_roles.specs.Verdict.{Refused, verdict}
 use Rattle.tough_roles.specs.declared.role_type.RoleType.{RoleType}
 use Rattle.tough_roles.specs.declared.role_type.RoleType.TheVariants as role
 use Rattle.tough_roles.proofs.lemmas.Written.{verified-text, verified-written}
-use Rattle.tough_checks.specs.Checks.{Reason, VersionMismatch, refuse, verified, first_of, timestamp_first, timestamp_form, snapshot_first, snapshot_form}
+use Rattle.tough_checks.specs.Checks.{VersionMismatch, refuse, verified, first_of, timestamp_first, timestamp_form, snapshot_first, snapshot_form}
 use Rattle.tough_checks.specs.Documents.{timestamp_text, timestamp_verdict, snapshot_text, snapshot_verdict}
 use Rattle.tough_vault.proofs.Fitting.{or_else_none}
 

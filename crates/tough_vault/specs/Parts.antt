@@ -11,12 +11,11 @@ use Rattle.tough_vault.specs.declared.entry.Tip.{Tip}
 use Rattle.tough_vault.specs.declared.parts.Prepared.{Prepared}
 use Rattle.tough_checks.specs.declared.checks.StepError.{StepError}
 use Rattle.tough_checks.specs.declared.checks.StepError.TheVariants.{DatastoreOpen, DatastoreCreate, Memory}
-use Rattle.tough_vault.specs.declared.store.StoreError.{StoreError}
 use Rattle.tough_checks.specs.Files.{time_file, root_file, timestamp_file, snapshot_file, IsFree}
 use Rattle.tough_checks.specs.Documents.{root_text, root_in, timestamp_text, timestamp_in, snapshot_text, snapshot_in, ReadsBack}
 use Rattle.tough_checks.specs.Versions.{Pair, Roles}
 use Rattle.tough_vault.specs.Journal.{Note, Document, Broken, Last, note_of, notes_of, tip_of, last_root}
-use Rattle.tough_vault.specs.Step.{Step, Parts, IsNoted, IsReceipt, Finds, IsUnwritten, Passes, Why}
+use Rattle.tough_vault.specs.Step.{Step, Parts, IsNoted, IsReceipt, IsUnwritten, Passes, Why}
 use Rattle.tough_checks.specs.StoredDocuments.{stored_time}
 use Rattle.tough_checks.specs.Checks.{versions_in, roles_in}
 use Rattle.tough_vault.specs.Steps.{time_text}

@@ -1,7 +1,7 @@
-use Rattle.std.proofs.Common.{rules, ◌≡◌, Some, None, map, option_map}
+use Rattle.std.proofs.Common.{rules, refl, ◌≡◌, Some, None, map, option_map}
 use Rattle.tough_client.specs.Caching.{AreMade, PlansAll}
 use Rattle.tough_client.specs.Repositories.{documents_of, keeping_of}
-use Rattle.tough_client.proofs.Turns.{goes_value, unbegun, unbegun_value}
+use Rattle.tough_client.proofs.Turns.{goes_value, continues_same, begun_same, unbegun, unbegun_value}
 use Rattle.tough_client.proofs.cache.CacheFuture.poll.Goals as goal
 
 pub returns-in-Some-clause-value : goal.returns-in-Some-clause-value
@@ -12,6 +12,25 @@ returns-in-Some-clause-value g c =
     (AreMade g.F.Files.tells m.folders) (PlansAll (documents_of m.repository.now) (option_map (λ names. map g.S.AsStr.text names.now) m.subset) m.root_chain)
     m.repository.now m.folders (g.F.Files.calls m.files.now) (g.F.Files.calls m.files.now) m.caching c.in-Some.caching is
     (g.F.Files.calls c.go_on_caching.new.files) (keeping_of c.go_on_caching.new.self) c.go_on_caching.result c.go_on_caching.ensures.done
+
+pub returns-in-Some-clause-same : goal.returns-in-Some-clause-same
+returns-in-Some-clause-same g c =
+    let m = c.args.self.now in
+    let is : m.caching ≡ Some c.in-Some.caching = search rules in
+    continues_same g.T.Transport.refuses g.T.Transport.serves g.T.Stream.Stream.yields g.T.Stream.Stream.can_poll g.K.Keeper.keeps g.F.Files.tells
+    (AreMade g.F.Files.tells m.folders) (PlansAll (documents_of m.repository.now) (option_map (λ names. map g.S.AsStr.text names.now) m.subset) m.root_chain)
+    m.repository.now m.folders (g.F.Files.calls m.files.now) (g.F.Files.calls c.go_on_caching.new.files) m.caching c.in-Some.caching is
+    (PlansAll (documents_of c.go_on_caching.new.self) (option_map (λ names. map g.S.AsStr.text names.now) m.subset) m.root_chain) c.go_on_caching.new.self c.go_on_caching.new.caching
+    (Some c.go_on_caching.new.caching) refl c.go_on_caching.result c.go_on_caching.ensures.continues
+
+pub returns-in-Ok-clause-same : goal.returns-in-Ok-clause-same
+returns-in-Ok-clause-same g c =
+    let m = c.args.self.now in
+    let is : m.caching ≡ None = search rules in
+    begun_same g.T.Transport.refuses g.T.Transport.serves g.T.Stream.Stream.yields g.T.Stream.Stream.can_poll g.K.Keeper.keeps g.F.Files.tells
+    (AreMade g.F.Files.tells m.folders) (PlansAll (documents_of m.repository.now) (option_map (λ names. map g.S.AsStr.text names.now) m.subset) m.root_chain)
+    m.repository.now m.folders (g.F.Files.calls m.files.now) (g.F.Files.calls c.begin_all.new.files) m.caching is
+    c.in-Ok.caching c.in-Ok.ensures.begins (Some c.in-Ok.caching) refl c.yield_now.result
 
 pub returns-in-Err-clause-value : goal.returns-in-Err-clause-value
 returns-in-Err-clause-value g c =

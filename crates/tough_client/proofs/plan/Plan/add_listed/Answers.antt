@@ -1,4 +1,4 @@
-use Rattle.std.proofs.Common.{rules, sym, ap, ◌∙◌, ◌++◌, map}
+use Rattle.std.proofs.Common.{sym, ap, ◌∙◌, ◌++◌, map}
 use Rattle.std.specs.Map.{keys_of}
 use Rattle.tough_client.specs.Plans.{turns_in}
 use Rattle.tough_client.specs.declared.plan.Turn.TheVariants as turn

@@ -1,4 +1,4 @@
-use Rattle.std.proofs.Common.{rules, [], ◌∷◌, map, ap, sym, ◌∙◌}
+use Rattle.std.proofs.Common.{rules, [], ◌∷◌, map, ap, ◌∙◌}
 use Rattle.tough_client.specs.Plans.{turns_in}
 use Rattle.tough_client.proofs.Planned.{named_next, named_end, added_named, all_named}
 use Rattle.tough_client.specs.declared.plan.Turn.TheVariants as turn

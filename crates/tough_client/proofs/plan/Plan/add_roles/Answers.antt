@@ -3,7 +3,7 @@ use Rattle.std.specs.BTreeMap.{get_by}
 use Rattle.std.specs.Ordering.{nat_cmp}
 use Rattle.std.specs.Cmp.Lexicographic.{slice_cmp}
 use Rattle.tough_update.specs.View.{received_docs}
-use Rattle.tough_client.specs.Plans.{turns_in, role_turns}
+use Rattle.tough_client.specs.Plans.{turns_in}
 use Rattle.tough_client.proofs.Planned.{role_next}
 use Rattle.tough_client.proofs.plan.Plan.add_roles.Goals as goal
 

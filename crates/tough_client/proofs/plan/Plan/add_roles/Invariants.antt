@@ -1,4 +1,4 @@
-use Rattle.std.proofs.Common.{◌≡◌, ◌++◌, List, map, drop}
+use Rattle.std.proofs.Common.{◌≡◌, ◌++◌, map, drop}
 use Rattle.tough_update.specs.View.{received_docs}
 use Rattle.tough_client.specs.Plans.{role_turns, roots_in, turns_in}
 use Rattle.tough_client.proofs.plan.Plan.add_roles.Given as goal

@@ -1,4 +1,4 @@
-use Rattle.std.proofs.Common.{rules, refl, Err}
+use Rattle.std.proofs.Common.{refl, Err}
 use Rattle.tough_client.proofs.repository.Repository.begin_named.Goals as goal
 
 pub returns-in-Err-clause-begins : goal.returns-in-Err-clause-begins

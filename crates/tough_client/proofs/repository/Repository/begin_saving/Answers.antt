@@ -1,4 +1,4 @@
-use Rattle.std.proofs.Common.{rules, refl, inl, ◌∙◌}
+use Rattle.std.proofs.Common.{refl, inl, ◌∙◌}
 use Rattle.tough_client.specs.Repositories.{keeping_of}
 use Rattle.tough_client.proofs.Starting.{ready, unmade}
 use Rattle.tough_client.proofs.repository.Repository.begin_saving.Goals as goal

@@ -1,4 +1,4 @@
-use Rattle.std.proofs.Common.{rules, refl}
+use Rattle.std.proofs.Common.{refl}
 use Rattle.tough_client.specs.Repositories.{keeping_of}
 use Rattle.tough_client.proofs.Starting.{nowhere, goes_on}
 use Rattle.tough_client.proofs.repository.Repository.start_saving.Goals as goal

@@ -1,6 +1,6 @@
 use Rattle.std.proofs.Common.{rules}
 use Rattle.tough_client.specs.Repositories.{keeping_of}
-use Rattle.tough_client.proofs.Savings.{some_value, none_saves, none_value, none_same, none_failed}
+use Rattle.tough_client.proofs.Savings.{some_value, some_same, none_saves, none_value, none_same, none_failed}
 use Rattle.tough_client.proofs.save.SaveTargetFuture.poll.Goals as goal
 
 pub returns-in-Some-clause-value : goal.returns-in-Some-clause-value
@@ -9,6 +9,13 @@ returns-in-Some-clause-value g c =
     some_value g.T.Transport.refuses g.T.Transport.serves g.T.Stream.Stream.yields g.T.Stream.Stream.can_poll g.K.Keeper.keeps g.F.Files.tells
     m.saving m.repository.now m.name.now m.outdir.now m.prefix (g.F.Files.calls m.files.now)
     c.in-Some.saving (search rules) (g.F.Files.calls c.go_on.new.files) c.go_on.result c.go_on.ensures.done
+
+pub returns-in-Some-clause-same : goal.returns-in-Some-clause-same
+returns-in-Some-clause-same g c =
+    let m = c.args.self.now in
+    some_same g.T.Transport.refuses g.T.Transport.serves g.T.Stream.Stream.yields g.T.Stream.Stream.can_poll g.K.Keeper.keeps g.F.Files.tells
+    m.saving m.repository.now m.name.now m.outdir.now m.prefix (g.F.Files.calls m.files.now)
+    c.in-Some.saving (search rules) c.go_on.new.waiting (g.F.Files.calls c.go_on.new.files) c.go_on.result c.go_on.ensures.waits
 
 pub returns-in-Ok-clause-value : goal.returns-in-Ok-clause-value
 returns-in-Ok-clause-value g c =
