@@ -1,2 +1,9 @@
 pub mod lemmas
 pub mod Rotated
+pub mod Listing
+pub mod Dressing
+pub mod Setting
+pub mod Noding
+pub mod Sizing
+pub mod NodeSteps
+pub mod Turning

@@ -1,3 +1,4 @@
+pub mod delegations
 pub mod Failure
 pub mod Outcomes
 pub mod Faults

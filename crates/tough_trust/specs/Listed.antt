@@ -12,8 +12,8 @@ use Rattle.tough_schema.specs.Delegations.{DelegationsDoc}
 use Rattle.tough_schema.specs.Targets.{TargetsDoc, targets_at, targets_json}
 use Rattle.tough_schema.specs.Verify.{delegated_policy}
 use Rattle.tough_schema.specs.Whole.{TreeDoc}
-use Rattle.tough_delegated.specs.Bare.{bare}
-use Rattle.tough_delegated.specs.Growing.{WorkDoc, holder_of}
+use Rattle.tough_trust.specs.delegations.Bare.{bare}
+use Rattle.tough_trust.specs.delegations.Growing.{WorkDoc, holder_of}
 use Rattle.tough_names.specs.Named.{Named}
 use Rattle.tough_schema.specs.Tree.{Entry}
 use Rattle.tough_checks.specs.Checks.{Reason, VersionMismatch, first_of, refuse, verified, expiry}

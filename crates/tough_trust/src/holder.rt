@@ -8,15 +8,15 @@ ghost use Rattle.tough_checks.specs.Checks.{Checked, enforces};
 ghost use Rattle.tough_schema.specs.Targets.{targets_doc};
 ghost use Rattle.tough_schema.specs.Whole.{tree_doc};
 ghost use Rattle.tough_schema.specs.Entries.{first_missing};
-ghost use Rattle.tough_delegated.specs.View.{work_doc};
+ghost use Rattle.tough_trust.specs.delegations.View.{work_doc};
 ghost use Rattle.tough_trust.specs.Failure.{Gives};
 ghost use Rattle.tough_trust.specs.Listed.{wanted_name, holder_in, targets_verdict, targets_refusal, judged, all_found};
 ghost use Rattle.tough_trust.specs.View.{holder_doc};
 
+use crate::delegations::Growth;
 use crate::error::UpdateError;
 use jiff::Timestamp as Instant;
 use std::alloc::Global;
-use tough_delegated::Growth;
 use tough_roles::{self as schema, ReadError, RoleType, Root, Signed, Verify};
 use tough_schema::{Delegations, Targets};
 use tough_vault::{ExpirationEnforcement, StepError, check_expiry, check_signed, check_version};

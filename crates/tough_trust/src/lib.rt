@@ -3,6 +3,7 @@
 #![tactic(auto)]
 
 mod act;
+pub mod delegations;
 mod error;
 mod fault;
 mod holder;
@@ -15,6 +16,7 @@ mod timely;
 mod walk;
 
 pub use act::Act;
+pub use delegations::{Growth, Progress};
 pub use error::UpdateError;
 pub use fault::Fault;
 pub use holder::{Holder, check_tree, holder_of, judge, wanted_name};

@@ -20,8 +20,8 @@ use Rattle.tough_trust.specs.Listed.{role_holder}
 use Rattle.tough_names.specs.Named.{Named}
 use Rattle.tough_schema.specs.Whole.{TreeDoc}
 use Rattle.tough_schema.specs.Entries.{first_missing}
-use Rattle.tough_delegated.specs.Growing.{Progress, wants, grown, go_on, begun}
-use Rattle.tough_delegated.specs.Bare.{held_as}
+use Rattle.tough_trust.specs.delegations.Growing.{Progress, wants, grown, go_on, begun}
+use Rattle.tough_trust.specs.delegations.Bare.{held_as}
 use Rattle.tough_update.specs.Stages.{WalkDoc, BaseDoc, KnownDoc, WantedDoc, PendingDoc, ReceivedDoc, RolesDoc, LoadedDoc, StageDoc, SettingDoc, CoreDoc}
 use Rattle.tough_update.specs.Stages as at
 use Rattle.tough_update.specs.Questions as ask

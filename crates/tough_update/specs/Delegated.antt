@@ -6,8 +6,8 @@ use Rattle.tough_keys.specs.Same.{Verifies}
 use Rattle.tough_roles.specs.Signature.{SignedDoc}
 use Rattle.tough_schema.specs.Whole.{TreeDoc}
 use Rattle.tough_schema.specs.Entries.{first_missing}
-use Rattle.tough_delegated.specs.Growing.{Metas, WorkDoc, Progress, wants, grown, first_work, with_taken, go_on}
-use Rattle.tough_delegated.specs.Bare.{held_as}
+use Rattle.tough_trust.specs.delegations.Growing.{Metas, WorkDoc, Progress, wants, grown, first_work, with_taken, go_on}
+use Rattle.tough_trust.specs.delegations.Bare.{held_as}
 use Rattle.tough_checks.specs.Files.{time_file, root_file, timestamp_file, snapshot_file, targets_file}
 use Rattle.tough_trust.specs.declared.limits.Limits.{Limits}
 use Rattle.tough_trust.specs.Failure.{Failure}

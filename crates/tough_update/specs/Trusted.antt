@@ -15,9 +15,9 @@ use Rattle.tough_schema.specs.Verify.{ReachesDelegated}
 use Rattle.tough_schema.specs.Whole.{TreeDoc}
 use Rattle.tough_schema.specs.Fresh.{carriers_below}
 use Rattle.tough_schema.specs.Entries.{IsValid}
-use Rattle.tough_delegated.specs.Bare.{top_page}
-use Rattle.tough_delegated.specs.Once.{Distinct}
-use Rattle.tough_delegated.specs.Under.{Below}
+use Rattle.tough_trust.specs.delegations.Bare.{top_page}
+use Rattle.tough_trust.specs.delegations.Once.{Distinct}
+use Rattle.tough_trust.specs.delegations.Under.{Below}
 use Rattle.tough_checks.specs.Files.{snapshot_file, targets_file}
 use Rattle.tough_trust.specs.Requests.{stated_digest}
 use Rattle.tough_trust.specs.Listed.{targets_in}

@@ -5,8 +5,8 @@ ghost use Rattle.tough_roles.specs.Signature.{signed_doc};
 ghost use Rattle.tough_checks.specs.Checks.{enforces};
 ghost use Rattle.tough_checks.specs.DocumentName.{name_of};
 ghost use Rattle.tough_schema.specs.Whole.{tree_doc};
-ghost use Rattle.tough_delegated.specs.Growing.{wants, go_on};
-ghost use Rattle.tough_delegated.specs.View.{work_doc};
+ghost use Rattle.tough_trust.specs.delegations.Growing.{wants, go_on};
+ghost use Rattle.tough_trust.specs.delegations.View.{work_doc};
 ghost use Rattle.tough_trust.specs.Failure.{Gives};
 ghost use Rattle.tough_trust.specs.Listed.{wanted_name, role_holder, judged};
 ghost use Rattle.tough_update.specs.Delegated.{metas_in, with_received, finished, grown_on, roles_begun, role_given, role_stored, new_role};
@@ -15,10 +15,11 @@ ghost use Rattle.tough_update.specs.View.{known_doc, roles_doc, received_docs, s
 use crate::stage::{Known, Loaded, Pending, Received, Roles, Stage, Wanted};
 use crate::turns::Setting;
 use std::alloc::{AllocError, Global};
-use tough_delegated::{Growth, Progress};
 use tough_roles::{Signed, Verify};
 use tough_schema::Targets;
-use tough_trust::{Limits, UpdateError, check_tree, holder_of, judge, role_request, wanted_name};
+use tough_trust::{
+    Growth, Limits, Progress, UpdateError, check_tree, holder_of, judge, role_request, wanted_name,
+};
 use tough_vault::DocumentName;
 
 // The tree is complete: each name that it lists must be found.

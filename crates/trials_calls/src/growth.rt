@@ -4,8 +4,8 @@ use crate::case::text;
 use anyhow::Result;
 use serde_json::Value;
 use std::alloc::Global;
-use tough_delegated::{Growth, Progress};
 use tough_schema::{DelegatedTargets, Signed, Snapshot, Targets};
+use tough_trust::{Growth, Progress};
 
 // The text of a document without signatures.
 fn document_text(alloc: Global, member: &str, value: &str) -> Result<String> {

@@ -13,7 +13,7 @@ use Rattle.tough_schema.specs.Delegations.{DelegationsDoc}
 use Rattle.tough_schema.specs.Targets.{TargetsDoc, targets_json}
 use Rattle.tough_schema.specs.Verify.{delegated_policy, ReachesDelegated}
 use Rattle.tough_schema.specs.Whole.{TreeDoc}
-use Rattle.tough_delegated.specs.Bare.{bare}
+use Rattle.tough_trust.specs.delegations.Bare.{bare}
 use Rattle.tough_checks.specs.Checks.{refuse, or_else, VersionMismatch, expiry, is_expired, verified}
 use Rattle.tough_trust.specs.Failure.{ParseMetadata}
 use Rattle.tough_trust.specs.Outcomes.{if_read, holds_json, unrefused}

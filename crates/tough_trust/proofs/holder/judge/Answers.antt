@@ -2,7 +2,7 @@ use Rattle.std.proofs.Common.{rules, ◌≡◌, Some, Ok, ap, sym, ◌∙◌}
 use Rattle.tough_checks.specs.Checks.{enforces}
 use Rattle.tough_roles.specs.Signature.{signed_doc}
 use Rattle.tough_schema.specs.Targets.{targets_doc}
-use Rattle.tough_delegated.proofs.lemmas.Bare.{signed-bare}
+use Rattle.tough_trust.proofs.lemmas.Bare.{signed-bare}
 use Rattle.tough_trust.specs.Listed.{targets_in}
 use Rattle.tough_trust.specs.View.{holder_doc}
 use Rattle.tough_trust.proofs.lemmas.Judging.{judged-to}

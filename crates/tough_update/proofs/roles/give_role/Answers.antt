@@ -1,9 +1,9 @@
 use Rattle.std.proofs.Common.{rules, ◌≡◌, string_bytes, ap, ◌∙◌, subst}
 use Rattle.tough_roles.specs.Signature.{signed_doc}
 use Rattle.tough_schema.specs.Whole.{tree_doc, held_doc}
-use Rattle.tough_delegated.specs.Bare.{held_as}
-use Rattle.tough_delegated.specs.Growing.{go_on, with_taken}
-use Rattle.tough_delegated.specs.View.{work_doc}
+use Rattle.tough_trust.specs.delegations.Bare.{held_as}
+use Rattle.tough_trust.specs.delegations.Growing.{go_on, with_taken}
+use Rattle.tough_trust.specs.delegations.View.{work_doc}
 use Rattle.tough_trust.specs.Failure.{Gives}
 use Rattle.tough_trust.specs.Listed.{wanted_name}
 use Rattle.tough_update.specs.Delegated.{metas_in, grown_on, given}

@@ -3,7 +3,7 @@ use Rattle.tough_vault.specs.Act.{PutDocument}
 use Rattle.tough_checks.specs.Checks.{enforces}
 use Rattle.tough_checks.specs.DocumentName.{name_of}
 use Rattle.tough_checks.specs.Files.{targets_file}
-use Rattle.tough_delegated.proofs.lemmas.Bare.{page-tells}
+use Rattle.tough_trust.proofs.lemmas.Bare.{page-tells}
 use Rattle.tough_trust.specs.Listed.{targets_text}
 use Rattle.tough_update.specs.Machine.{act_at}
 use Rattle.tough_update.specs.View.{pending_doc}

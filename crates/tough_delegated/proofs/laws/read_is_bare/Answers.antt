@@ -1,7 +1,0 @@
-use Rattle.tough_delegated.proofs.laws.read_is_bare.Goals as goal
-
-pub returns-clause-top : goal.returns-clause-top
-returns-clause-top c = λ s h. h
-
-pub returns-clause-document : goal.returns-clause-document
-returns-clause-document c = λ s h. h.0

@@ -1,5 +1,0 @@
-use Rattle.tough_delegated.proofs.NodeSteps.{last-there}
-use Rattle.tough_delegated.proofs.nodes.Nodes.last.Goals as goal
-
-pub returns-in-Some : goal.returns-in-Some
-returns-in-Some c = last-there c.args.self.now c.deref.result.now c.in-Some.node.now c.deref.ensures.value c.in-Some.ensures.item.3.0 c.in-Some.ensures.item.1

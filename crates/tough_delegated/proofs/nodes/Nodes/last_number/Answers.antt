@@ -1,6 +1,0 @@
-use Rattle.std.proofs.Common.{◌∙◌}
-use Rattle.tough_delegated.proofs.NodeSteps.{number-is}
-use Rattle.tough_delegated.proofs.nodes.Nodes.last_number.Goals as goal
-
-pub returns : goal.returns
-returns c = c.len.ensures ∙ number-is c.args.self.now

@@ -1,5 +1,0 @@
-use Rattle.tough_delegated.proofs.NodeSteps.{nodes-more}
-use Rattle.tough_delegated.proofs.nodes.Nodes.push.Goals as goal
-
-pub returns : goal.returns
-returns c = nodes-more c.args.self.now.top c.args.self.now.others.items c.push.new.self.items c.args.node c.in_ok-push.ensures.items

@@ -1,0 +1,7 @@
+use Rattle.tough_trust.proofs.delegations.laws.read_is_bare.Goals as goal
+
+pub returns-clause-top : goal.returns-clause-top
+returns-clause-top c = λ s h. h
+
+pub returns-clause-document : goal.returns-clause-document
+returns-clause-document c = λ s h. h.0

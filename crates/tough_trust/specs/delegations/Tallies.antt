@@ -1,0 +1,13 @@
+-- How many roles are listed by the targets and the documents that have their place in a tree, as far as it has grown
+-- (TUF specification 1.0, section 5.6.7).
+use Rattle.std.specs.Prelude.{ℕ, ◌+◌, length}
+use Rattle.tough_schema.specs.Update.{listed_roles}
+use Rattle.tough_trust.specs.delegations.Numbered.{Nodes, targets, also}
+use Rattle.tough_trust.specs.delegations.Growing.{WorkDoc}
+
+abbrev pub tally : Nodes → ℕ
+tally (targets h) = length (listed_roles h.below)
+tally (also ns n) = length (listed_roles n.document.below) + tally ns
+
+abbrev pub tally_work : WorkDoc → ℕ
+tally_work w = tally w.nodes

@@ -1,0 +1,97 @@
+-- The tree that grows, seen as plain data.
+use Rattle.std.specs.Prelude.{ℕ, List, [], ◌∷◌, map, drop, Option, Some, None, String, string_bytes}
+use Rattle.std.specs.Borrow.{Bor}
+use Rattle.std.specs.declared.alloc.Global.{Global}
+use Rattle.tough_roles.specs.Signature.{signed_doc, signatures_doc}
+use Rattle.tough_roles.specs.Timestamp.{metafile_doc, metafiles_doc}
+use Rattle.tough_roles.specs.declared.signed.Signed.{Signed}
+use Rattle.tough_roles.specs.declared.snapshot.Snapshot.{Snapshot}
+use Rattle.tough_roles.specs.declared.timestamp.Metafile.{Metafile}
+use Rattle.tough_schema.specs.declared.targets.Targets.{Targets}
+use Rattle.tough_schema.specs.declared.targets.DelegatedTargets.{DelegatedTargets, out-DelegatedTargets}
+use Rattle.tough_schema.specs.declared.delegations.DelegatedRole.{DelegatedRole}
+use Rattle.tough_schema.specs.Tree.{Entry}
+use Rattle.tough_schema.specs.Whole.{HeldDoc, tree_doc, role_tree, held_doc}
+use Rattle.tough_schema.specs.Update.{listed_roles, roles_within}
+use Rattle.tough_schema.specs.Search.{Names}
+use Rattle.tough_schema.specs.Walk.{names_in}
+use Rattle.tough_trust.specs.declared.delegations.look.Look.{Look}
+use Rattle.tough_trust.specs.declared.delegations.look.Look.TheVariants as seen
+use Rattle.tough_trust.specs.declared.delegations.nodes.Node.{Node}
+use Rattle.tough_trust.specs.declared.delegations.nodes.Nodes.{Nodes}
+use Rattle.tough_trust.specs.declared.delegations.turns.Task.{Task}
+use Rattle.tough_trust.specs.declared.delegations.turns.Stop.{Stop}
+use Rattle.tough_trust.specs.declared.delegations.growth.Growth.{Growth}
+use Rattle.tough_trust.specs.declared.delegations.growth.Progress.{Progress}
+use Rattle.tough_trust.specs.declared.delegations.growth.Progress.TheVariants as step
+use Rattle.tough_trust.specs.delegations.Numbered as numbered
+use Rattle.tough_trust.specs.delegations.Numbered.{NodeDoc, last_document}
+use Rattle.tough_trust.specs.delegations.Growing as plain
+use Rattle.tough_trust.specs.delegations.Growing.{Metas, Fetched, TaskDoc, WorkDoc}
+
+-- ---- documents and their roles
+
+abbrev pub metas_of : Snapshot → Metas
+metas_of s = metafiles_doc s.meta.entries
+
+-- the targets, as the document of a role without a name
+abbrev pub top_held : Signed Targets → HeldDoc
+top_held s = record { name = []; signatures = signatures_doc s.signatures.items; below = tree_doc s.signed }
+
+-- the roles that a document lists
+abbrev pub listed_in : Signed DelegatedTargets → List DelegatedRole
+listed_in s = roles_within (out-DelegatedTargets s.signed).targets
+
+abbrev pub entries_of : List DelegatedRole → List Entry
+entries_of rs = map (λ r. (role_tree r).0) rs
+
+abbrev pub fetched_doc : List (String Global × Signed DelegatedTargets) → Fetched
+fetched_doc es = map (λ e. (string_bytes e.0, held_doc e.1)) es
+
+-- ---- documents by numbers
+
+abbrev pub node_doc : Node → NodeDoc
+node_doc n = record { parent = n.parent; at = n.at; document = held_doc n.document }
+
+-- these, after those
+abbrev pub all_also : numbered.Nodes → List NodeDoc → numbered.Nodes
+all_also ns [] = ns
+all_also ns (n ∷ rest) = all_also (numbered.also ns n) rest
+
+abbrev pub nodes_doc : Nodes → numbered.Nodes
+nodes_doc ns = all_also (numbered.targets (held_doc ns.top)) (map node_doc ns.others.items)
+
+-- the roles of the last document, from this place on
+abbrev pub waiting_in : numbered.Nodes → ℕ → List Entry
+waiting_in ns at = drop at (listed_roles (last_document ns).below)
+
+-- ---- the parts of the work
+
+abbrev pub look_doc : List Entry → Look → plain.Look
+look_doc es seen.Through = plain.through
+look_doc es (seen.Unlisted name) = plain.unlisted (string_bytes name)
+look_doc es (seen.Wanted at m) = plain.wanted (drop at es) (metafile_doc m.now)
+
+abbrev pub task_doc : Task → TaskDoc
+task_doc t = record { node = t.node; at = t.at; fetched = fetched_doc t.fetched.entries }
+
+abbrev pub turn_doc : numbered.Nodes → Names → Option (ℕ × Bor Metafile) → plain.Turn
+turn_doc ns loaded None = plain.past ns loaded
+turn_doc ns loaded (Some (at, m)) = plain.stopped ns (waiting_in ns at) (metafile_doc m.now) loaded
+
+abbrev pub turns_doc : numbered.Nodes → Names → Option Stop → plain.Turns
+turns_doc ns loaded None = plain.all_past ns loaded
+turns_doc ns loaded (Some s) = plain.stopped_at ns (task_doc s.task) (waiting_in ns s.at) (metafile_doc s.entry.now) loaded
+
+abbrev pub work_doc : Growth → WorkDoc
+work_doc g = record {
+  nodes = nodes_doc g.nodes;
+  outer = map task_doc g.outer.items;
+  loaded = names_in g.loaded;
+  fetched = fetched_doc g.fetched.entries;
+  waiting = waiting_in (nodes_doc g.nodes) g.at;
+}
+
+abbrev pub progress_doc : Progress → plain.Progress
+progress_doc (step.Wants g m) = plain.wants (work_doc g) (metafile_doc m.now)
+progress_doc (step.Grown s) = plain.grown (signed_doc tree_doc s)

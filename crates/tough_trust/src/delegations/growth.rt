@@ -1,0 +1,199 @@
+//! The tree as it grows.
+
+ghost use Rattle.std.specs.Prelude.{◌≡◌, [], ◌∷◌, IfOk, map, option_map};
+ghost use Rattle.tough_roles.specs.Timestamp.{metafile_doc};
+ghost use Rattle.tough_schema.specs.Delegations.{delegations_doc};
+ghost use Rattle.tough_schema.specs.Walk.{names_in};
+ghost use Rattle.tough_schema.specs.Whole.{role_tree, held_doc};
+ghost use Rattle.tough_trust.specs.delegations.Growing.{wants, first_work, settle, give, go_on, first_of, holder_of, with_taken};
+ghost use Rattle.tough_trust.specs.delegations.View.{metas_of, top_held, waiting_in, nodes_doc, task_doc, work_doc, progress_doc};
+
+use crate::delegations::list::roles_of;
+use crate::delegations::look::{Look, look_from};
+use crate::delegations::nodes::Nodes;
+use crate::delegations::turns::{Stop, Task, take_turns};
+use std::alloc::{AllocError, Global};
+use std::collections::{BTreeMap, BTreeSet, VecDeque};
+use tough_roles::{Metafile, Signed, Snapshot};
+use tough_schema::{DelegatedRole, DelegatedTargets, Delegations, Targets};
+
+/// A tree of delegated roles that grows: the documents that have their place, and the role whose document is wanted next.
+#[derive(Drop)]
+pub struct Growth {
+    // The documents that have their place; the list of the last one is being fetched.
+    nodes: Nodes,
+    // The lists whose roles get their documents, the innermost first.
+    outer: VecDeque<Task>,
+    // The names that were loaded, or aren't in the snapshot.
+    loaded: BTreeSet<String>,
+    // What was fetched for the list, by the names of its roles.
+    fetched: BTreeMap<String, Signed<DelegatedTargets>>,
+    // The place of the role whose document is wanted.
+    at: usize,
+}
+
+/// How far a tree has grown.
+#[derive(Drop)]
+pub enum Progress<'a> {
+    /// A document is wanted, as the snapshot's entry describes it.
+    Wants(Growth, &'a Metafile),
+    /// The tree is complete.
+    Grown(Signed<Targets>),
+}
+
+// The list of the last document is to be fetched, before the turns of those that stop for it.
+fn stop_at<'a>(
+    alloc: Global,
+    nodes: Nodes,
+    mut outer: VecDeque<Task>,
+    loaded: BTreeSet<String>,
+    stop: Stop<'a>,
+) -> Result<Progress<'a>, AllocError>
+    ensures { IfOk result (λ p. progress_doc p
+        ≡ wants (record {
+          nodes = nodes_doc nodes;
+          outer = task_doc stop.entry.task ∷ map task_doc outer.items;
+          loaded = names_in loaded;
+          fetched = [];
+          waiting = waiting_in (nodes_doc nodes) stop.entry.at;
+        })
+        (metafile_doc stop.entry.entry.now)) }
+{
+    let Stop { task, at, entry } = stop;
+    outer.push_front(task)?;
+    let growth = Growth {
+        nodes,
+        outer,
+        loaded,
+        fetched: BTreeMap::new(alloc),
+        at,
+    };
+    Ok(Progress::Wants(growth, entry))
+}
+
+// A list is done: those that stopped for it go on, and so on outwards.
+fn settle<'a>(
+    alloc: Global,
+    snapshot: &'a Snapshot,
+    mut nodes: Nodes,
+    mut outer: VecDeque<Task>,
+    mut loaded: BTreeSet<String>,
+) -> Result<Progress<'a>, AllocError>
+    ensures { IfOk result (λ p. progress_doc p
+        ≡ settle (metas_of snapshot.now) (names_in loaded) (nodes_doc nodes)
+        (map task_doc outer.items)) }
+{
+    while let Some(task) = outer.pop_front() {
+        if let Some(stop) = take_turns(alloc, snapshot, &mut nodes, &mut loaded, task)? {
+            return stop_at(alloc, nodes, outer, loaded, stop);
+        }
+    }
+    Ok(Progress::Grown(nodes.into_tree()))
+}
+
+// A list was fetched: its roles get their turns.
+fn give<'a>(
+    alloc: Global,
+    snapshot: &'a Snapshot,
+    growth: Growth,
+) -> Result<Progress<'a>, AllocError>
+    ensures { IfOk result (λ p. progress_doc p ≡ give (metas_of snapshot.now) (work_doc growth)) }
+{
+    let Growth {
+        nodes,
+        mut outer,
+        loaded,
+        fetched,
+        at: _,
+    } = growth;
+    let node = nodes.last_number();
+    outer.push_front(Task {
+        node,
+        at: 0,
+        fetched,
+    })?;
+    settle(alloc, snapshot, nodes, outer, loaded)
+}
+
+impl Growth {
+    /// Begins with the targets that the snapshot names.
+    pub fn new(alloc: Global, targets: Signed<Targets>) -> Growth
+        ensures { work_doc result ≡ first_work (top_held targets) }
+    {
+        Growth {
+            nodes: Nodes::new(alloc, Targets::named(targets, String::new(alloc))),
+            outer: VecDeque::new(alloc),
+            loaded: BTreeSet::new(alloc),
+            fetched: BTreeMap::new(alloc),
+            at: 0,
+        }
+    }
+
+    /// The role whose document is wanted.
+    pub fn role(&self) -> Option<&DelegatedRole>
+        ensures { option_map (λ r. (role_tree r.now).0) result
+            ≡ first_of (work_doc self.now).waiting }
+    {
+        roles_of(self.nodes.last()).get(self.at)
+    }
+
+    /// The delegations that the role stands in, under which its document must verify.
+    pub fn holder(&self) -> Option<&Delegations>
+        ensures { option_map (λ g. delegations_doc g.now) result ≡ holder_of (work_doc self.now) }
+    {
+        match &self.nodes.last().signed.targets.delegations {
+            Some(delegations) => Some(delegations),
+            None => None,
+        }
+    }
+
+    /// Takes the document that was wanted, under its role's name.
+    pub fn take(self, document: Signed<DelegatedTargets>) -> Result<Growth, AllocError>
+        ensures { IfOk result (λ g. work_doc g
+            ≡ with_taken (work_doc self) (work_doc self).waiting (held_doc document)) }
+    {
+        let mut growth = self;
+        let Some(role) = growth.role() else {
+            return Ok(growth);
+        };
+        let name = role.name.clone()?;
+        growth.fetched.insert(name, document)?;
+        growth.at += 1;
+        Ok(growth)
+    }
+
+    /// How far the tree grows without a further document: the list is looked at from the role on that is next. The snapshot is always the
+    /// same.
+    pub fn go_on<'a>(
+        mut self,
+        alloc: Global,
+        snapshot: &'a Snapshot,
+    ) -> Result<Progress<'a>, AllocError>
+        ensures { IfOk result (λ p. progress_doc p
+            ≡ go_on (metas_of snapshot.now) (work_doc self)) }
+    {
+        match look_from(
+            alloc,
+            snapshot,
+            &self.loaded,
+            roles_of(self.nodes.last()),
+            self.at,
+        )? {
+            Look::Through => give(alloc, snapshot, self),
+            Look::Unlisted(name) => {
+                let Growth {
+                    nodes,
+                    outer,
+                    mut loaded,
+                    ..
+                } = self;
+                loaded.insert(name)?;
+                settle(alloc, snapshot, nodes, outer, loaded)
+            }
+            Look::Wanted(at, entry) => {
+                self.at = at;
+                Ok(Progress::Wants(self, entry))
+            }
+        }
+    }
+}

@@ -1,0 +1,112 @@
+//! The turns of the roles of a list.
+
+ghost use Rattle.std.specs.Prelude.{◌≡◌, IfOk, option_map, string_bytes};
+ghost use Rattle.tough_schema.specs.Walk.{names_in};
+ghost use Rattle.tough_schema.specs.Whole.{role_tree};
+ghost use Rattle.tough_schema.specs.Search.{add};
+ghost use Rattle.tough_schema.specs.Update.{listed_roles};
+ghost use Rattle.tough_trust.specs.delegations.Numbered.{also};
+ghost use Rattle.tough_trust.specs.delegations.Growing.{look, entered, offered, fetched_for, fetched_after, resumed};
+ghost use Rattle.tough_trust.specs.delegations.View.{metas_of, fetched_doc, node_doc, nodes_doc, task_doc, turn_doc, turns_doc};
+
+use crate::delegations::list::roles_of;
+use crate::delegations::look::{Look, look_from};
+use crate::delegations::nodes::{Node, Nodes};
+use std::alloc::{AllocError, Global};
+use std::collections::{BTreeMap, BTreeSet};
+use tough_roles::{Metafile, Signed, Snapshot};
+use tough_schema::{DelegatedRole, DelegatedTargets};
+
+/// A list whose roles get their documents.
+#[derive(Drop)]
+pub(crate) struct Task {
+    /// The number of the document that lists them.
+    pub(crate) node: usize,
+    /// The place of the role whose turn is next.
+    pub(crate) at: usize,
+    /// What was fetched for the roles from that one on, by their names.
+    pub(crate) fetched: BTreeMap<String, Signed<DelegatedTargets>>,
+}
+
+/// Where the turns of a list stop: the list of the last document is to be fetched first.
+#[derive(Drop)]
+pub(crate) struct Stop<'a> {
+    /// What is left of the turns.
+    pub(crate) task: Task,
+    /// The place in the other list of the role whose document is wanted.
+    pub(crate) at: usize,
+    /// What the snapshot lists for it.
+    pub(crate) entry: &'a Metafile,
+}
+
+// The document that a role gets, with its place: the one that was fetched for its name, unless the name was loaded by then.
+fn take_offer(task: &mut Task, role: &DelegatedRole, loaded: &BTreeSet<String>) -> Option<Node>
+    ensures offer { option_map node_doc result
+        ≡ offered (names_in loaded.now) task.old.node task.old.at (role_tree role.now).0
+        (fetched_for (role_tree role.now).0 (fetched_doc task.old.fetched.entries)) }
+    ensures fetched { fetched_doc task.new.fetched.entries
+        ≡ fetched_after (role_tree role.now).0 (fetched_doc task.old.fetched.entries) }
+    ensures place { (task.new.node ≡ task.old.node) × (task.new.at ≡ task.old.at) }
+{
+    let document = task.fetched.remove(role.name.as_str())?;
+    if loaded.contains(role.name.as_str()) {
+        return None;
+    }
+    Some(Node {
+        parent: task.node,
+        at: task.at,
+        document,
+    })
+}
+
+// A document gets its place under a role of this name, unless its list is to be fetched.
+fn enter<'a>(
+    alloc: Global,
+    snapshot: &'a Snapshot,
+    nodes: &mut Nodes,
+    loaded: &mut BTreeSet<String>,
+    name: String,
+    node: Node,
+) -> Result<Option<(usize, &'a Metafile)>, AllocError>
+    ensures { IfOk result (λ o. turn_doc (nodes_doc nodes.new) (names_in loaded.new) o
+        ≡ entered (also (nodes_doc nodes.old) (node_doc node))
+        (add (string_bytes name) (names_in loaded.old))
+        (look (metas_of snapshot.now) (add (string_bytes name) (names_in loaded.old))
+        (listed_roles (node_doc node).document.below))) }
+{
+    loaded.insert(name)?;
+    nodes.push(node)?;
+    match look_from(alloc, snapshot, loaded, roles_of(nodes.last()), 0)? {
+        Look::Through => Ok(None),
+        Look::Unlisted(name) => {
+            loaded.insert(name)?;
+            Ok(None)
+        }
+        Look::Wanted(at, entry) => Ok(Some((at, entry))),
+    }
+}
+
+// The turns of the roles that are left, up to the one for whose document's list something is to be fetched.
+pub(crate) fn take_turns<'a>(
+    alloc: Global,
+    snapshot: &'a Snapshot,
+    nodes: &mut Nodes,
+    loaded: &mut BTreeSet<String>,
+    mut task: Task,
+) -> Result<Option<Stop<'a>>, AllocError>
+    ensures { IfOk result (λ s. turns_doc (nodes_doc nodes.new) (names_in loaded.new) s
+        ≡ resumed (metas_of snapshot.now) (names_in loaded.old) (nodes_doc nodes.old)
+        (task_doc task)) }
+{
+    while let Some(role) = nodes.role(task.node, task.at) {
+        let offer = take_offer(&mut task, role, loaded);
+        task.at += 1;
+        if let Some(node) = offer {
+            let name = role.name.clone()?;
+            if let Some((at, entry)) = enter(alloc, snapshot, nodes, loaded, name, node)? {
+                return Ok(Some(Stop { task, at, entry }));
+            }
+        }
+    }
+    Ok(None)
+}
