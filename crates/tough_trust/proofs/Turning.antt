@@ -12,12 +12,12 @@ use Rattle.tough_roles.specs.Timestamp.{MetafileDoc}
 use Rattle.tough_roles.specs.declared.signed.Signed.{Signed}
 use Rattle.tough_schema.specs.Tree.{Entry}
 use Rattle.tough_schema.specs.Update.{listed_roles}
-use Rattle.tough_schema.specs.Search.{Names, add}
+use Rattle.tough_schema.specs.Search.{Names}
 use Rattle.tough_schema.specs.Whole.{HeldDoc, role_tree, held_doc}
 use Rattle.tough_schema.specs.declared.delegations.DelegatedRole.{DelegatedRole, out-DelegatedRole}
 use Rattle.tough_schema.specs.declared.targets.DelegatedTargets.{DelegatedTargets}
-use Rattle.tough_trust.specs.delegations.Numbered.{NodeDoc, Nodes, also, last_document, roles_at}
-use Rattle.tough_trust.specs.delegations.Growing.{Metas, Look, through, unlisted, wanted, look, Turn, past, stopped, entered, offered, turn, by_turn, Turns, turns, Fetched, at_name, fetched_for, fetched_after, TaskDoc, WorkDoc, all_past, stopped_at, resumed, by_turns, settle, wants, first_of, with_taken}
+use Rattle.tough_trust.specs.delegations.Numbered.{NodeDoc, Nodes, also, last_number, last_document, roles_at}
+use Rattle.tough_trust.specs.delegations.Growing.{Metas, Index, put, names_of, Look, through, unlisted, wanted, look, Turn, past, stopped, entered, placed, offered, turn, by_turn, Turns, turns, Fetched, at_name, fetched_for, fetched_after, TaskDoc, WorkDoc, all_past, stopped_at, resumed, by_turns, settle, wants, first_of, with_taken}
 use Rattle.tough_trust.specs.delegations.View.{entries_of, listed_in, fetched_doc}
 use Rattle.tough_trust.proofs.Listing.{Held, query, role-name, listed-held, fetched-lookup, fetched-removed}
 use Rattle.tough_trust.proofs.Noding.{roles-kept}
@@ -72,10 +72,10 @@ some-there es at e h none = let lt : at < length es = some-within es at e h in l
 pub drop-next : (es : List Entry) (at : ℕ) → drop (at + 1) es ≡ drop 1 (drop at es)
 drop-next es at = sym (drop-drop 1 at es)
 
-pub entered-nodes : (ms ns : Nodes) (more names : Names) (l : Look) → past ms more ≡ entered ns names l → ms ≡ ns
-entered-nodes ms ns more names through h = cc
-entered-nodes ms ns more names (unlisted name) h = cc
-entered-nodes ms ns more names (wanted waiting m) h = absurd (cc (h))
+pub entered-nodes : (ms ns : Nodes) (more x : Index) (l : Look) → past ms more ≡ entered ns x l → ms ≡ ns
+entered-nodes ms ns more x through h = cc
+entered-nodes ms ns more x (unlisted name) h = cc
+entered-nodes ms ns more x (wanted waiting m) h = absurd (cc (h))
 
 -- ---- a document gets its place
 
@@ -83,18 +83,19 @@ entered-nodes ms ns more names (wanted waiting m) h = absurd (cc (h))
 pub listed-last : (ns : Nodes) (s : Signed DelegatedTargets) (rs : List DelegatedRole) → held_doc s ≡ last_document ns → rs ≡ listed_in s → entries_of rs ≡ listed_roles (last_document ns).below
 listed-last ns s rs is own = ap entries_of own ∙ listed-held s ∙ ap (λ (x : HeldDoc). listed_roles x.below) is
 
-module _ (metas : Metas) (names more : Names) (ns ms : Nodes) (n : NodeDoc) (s : Signed DelegatedTargets) (rs : List DelegatedRole) (name : List ℕ)
-    (marked : more ≡ add name names) (pushed : ms ≡ also ns n) (last : held_doc s ≡ last_document ms) (own : rs ≡ listed_in s) where
+module _ (metas : Metas) (x more : Index) (ns ms : Nodes) (n : NodeDoc) (s : Signed DelegatedTargets) (rs : List DelegatedRole) (name : List ℕ)
+    (marked : more ≡ put name (Some (last_number ms)) x) (pushed : ms ≡ also ns n) (last : held_doc s ≡ last_document ms) (own : rs ≡ listed_in s) where
   abbrev pub entry : Turn
-  entry = entered (also ns n) (add name names) (look metas (add name names) (listed_roles n.document.below))
+  entry = placed metas ns x name n
 
-  pub enters : (l : Look) → l ≡ look metas more (entries_of rs) → entered ms more l ≡ entry
+  pub enters : (l : Look) → l ≡ look metas (names_of more) (entries_of rs) → entered ms more l ≡ entry
   enters l seen =
-      let listed : entries_of rs ≡ listed_roles n.document.below = listed-last ms s rs last own ∙ ap (λ (x : Nodes). listed_roles (last_document x).below) pushed in
-      ap (entered ms more) (seen ∙ ap (look metas more) listed) ∙ ap (λ (x : Nodes). entered x more (look metas more (listed_roles n.document.below))) pushed
-      ∙ ap (λ (x : Names). entered (also ns n) x (look metas x (listed_roles n.document.below))) marked
+      let listed : entries_of rs ≡ listed_roles n.document.below = listed-last ms s rs last own ∙ ap (λ (y : Nodes). listed_roles (last_document y).below) pushed in
+      let numbered : more ≡ put name (Some (last_number (also ns n))) x = marked ∙ ap (λ (y : Nodes). put name (Some (last_number y)) x) pushed in
+      ap (entered ms more) (seen ∙ ap (look metas (names_of more)) listed) ∙ ap (λ (y : Nodes). entered y more (look metas (names_of more) (listed_roles n.document.below))) pushed
+      ∙ ap (λ (y : Index). entered (also ns n) y (look metas (names_of y) (listed_roles n.document.below))) numbered
 
-  pub enters-wanted : (at : ℕ) (m : MetafileDoc) → wanted (drop at (entries_of rs)) m ≡ look metas more (entries_of rs) → stopped ms (drop at (listed_roles (last_document ms).below)) m more ≡ entry
+  pub enters-wanted : (at : ℕ) (m : MetafileDoc) → wanted (drop at (entries_of rs)) m ≡ look metas (names_of more) (entries_of rs) → stopped ms (drop at (listed_roles (last_document ms).below)) m more ≡ entry
   enters-wanted at m seen = ap (λ (es : List Entry). stopped ms (drop at es) m more) (sym (listed-last ms s rs last own)) ∙ enters (wanted (drop at (entries_of rs)) m) seen
 
 -- ---- the turns of a list
@@ -109,36 +110,34 @@ next-is t e number place fetched a b c =
     let f : ℕ → ℕ → Fetched → TaskDoc = λ n p g. record { node = n; at = p + 1; fetched = g } in
     ap (λ n. f n place fetched) a ∙ ap (λ p. f t.node p fetched) b ∙ ap (f t.node t.at) c
 
-module _ (metas : Metas) (names : Names) (ns : Nodes) (t : TaskDoc) where
+module _ (metas : Metas) (x : Index) (ns : Nodes) (t : TaskDoc) where
   abbrev pub now : List Entry
   now = drop t.at (roles_at t.node ns)
 
   module _ (e : Entry) (there : Some e ≡ first_of now) where
     abbrev pub turned : Turn
-    turned = turn metas names ns e (offered names t.node t.at e (fetched_for e t.fetched))
+    turned = turn metas x ns e (offered (names_of x) t.node t.at e (fetched_for e t.fetched))
 
-    pub turn-none : None ≡ offered names t.node t.at e (fetched_for e t.fetched) → past ns names ≡ turned
-    turn-none h = ap (turn metas names ns e) h
+    pub turn-none : None ≡ offered (names_of x) t.node t.at e (fetched_for e t.fetched) → past ns x ≡ turned
+    turn-none h = ap (turn metas x ns e) h
 
-    pub turn-some : (n : NodeDoc) (name : List ℕ) (r : Turn) → Some n ≡ offered names t.node t.at e (fetched_for e t.fetched) → name ≡ e.name
-        → r ≡ entered (also ns n) (add name names) (look metas (add name names) (listed_roles n.document.below)) → r ≡ turned
-    turn-some n name r offer same h =
-        h ∙ ap (λ (x : List ℕ). entered (also ns n) (add x names) (look metas (add x names) (listed_roles n.document.below))) same ∙ ap (turn metas names ns e) offer
+    pub turn-some : (n : NodeDoc) (name : List ℕ) (r : Turn) → Some n ≡ offered (names_of x) t.node t.at e (fetched_for e t.fetched) → name ≡ e.name → r ≡ placed metas ns x name n → r ≡ turned
+    turn-some n name r offer same h = h ∙ ap (λ (q : List ℕ). placed metas ns x q n) same ∙ ap (turn metas x ns e) offer
 
     step : (r : Turn) → r ≡ turned
-        → by_turn (record { node = t.node; at = suc t.at; fetched = fetched_after e t.fetched }) r (λ ms l. turns metas l ms t.node (suc t.at) (fetched_after e t.fetched) (drop 1 now)) ≡ resumed metas names ns t
+        → by_turn (record { node = t.node; at = suc t.at; fetched = fetched_after e t.fetched }) r (λ ms y. turns metas y ms t.node (suc t.at) (fetched_after e t.fetched) (drop 1 now)) ≡ resumed metas x ns t
     step r h =
-        ap (λ (x : Turn). by_turn (record { node = t.node; at = suc t.at; fetched = fetched_after e t.fetched }) x (λ ms l. turns metas l ms t.node (suc t.at) (fetched_after e t.fetched) (drop 1 now))) h
-        ∙ sym (ap (turns metas names ns t.node t.at t.fetched) (first-some now e there))
+        ap (λ (u : Turn). by_turn (record { node = t.node; at = suc t.at; fetched = fetched_after e t.fetched }) u (λ ms y. turns metas y ms t.node (suc t.at) (fetched_after e t.fetched) (drop 1 now))) h
+        ∙ sym (ap (turns metas x ns t.node t.at t.fetched) (first-some now e there))
 
-    pub resumed-past : (ms : Nodes) (more : Names) → past ms more ≡ turned → roles_at t.node ms ≡ roles_at t.node ns → resumed metas more ms (next_task t e) ≡ resumed metas names ns t
+    pub resumed-past : (ms : Nodes) (more : Index) → past ms more ≡ turned → roles_at t.node ms ≡ roles_at t.node ns → resumed metas more ms (next_task t e) ≡ resumed metas x ns t
     resumed-past ms more h same =
         let next : t.at + 1 ≡ suc t.at = omega arith in
         ap (λ rs. turns metas more ms t.node (t.at + 1) (fetched_after e t.fetched) (drop (t.at + 1) rs)) same
         ∙ ap (λ rs. turns metas more ms t.node (t.at + 1) (fetched_after e t.fetched) rs) (drop-next (roles_at t.node ns) t.at)
         ∙ ap (λ (k : ℕ). turns metas more ms t.node k (fetched_after e t.fetched) (drop 1 now)) next ∙ step (past ms more) h
 
-    pub resumed-stopped : (ms : Nodes) (more : Names) (waiting : List Entry) (m : MetafileDoc) → stopped ms waiting m more ≡ turned → stopped_at ms (next_task t e) waiting m more ≡ resumed metas names ns t
+    pub resumed-stopped : (ms : Nodes) (more : Index) (waiting : List Entry) (m : MetafileDoc) → stopped ms waiting m more ≡ turned → stopped_at ms (next_task t e) waiting m more ≡ resumed metas x ns t
     resumed-stopped ms more waiting m h =
         let next : t.at + 1 ≡ suc t.at = omega arith in
         ap (λ (k : ℕ). stopped_at ms (record { node = t.node; at = k; fetched = fetched_after e t.fetched }) waiting m more) next ∙ step (stopped ms waiting m more) h
@@ -148,14 +147,14 @@ module _ (metas : Metas) (names : Names) (ns : Nodes) (t : TaskDoc) where
 
 -- ---- outwards
 
-pub settle-past : (metas : Metas) (names more : Names) (ns ms : Nodes) (t : TaskDoc) (outer : List TaskDoc) → all_past ms more ≡ resumed metas names ns t
-    → settle metas more ms outer ≡ settle metas names ns (t ∷ outer)
-settle-past metas names more ns ms t outer h = ap (λ (r : Turns). by_turns outer r (λ xs l. settle metas l xs outer)) h
+pub settle-past : (metas : Metas) (x more : Index) (ns ms : Nodes) (t : TaskDoc) (outer : List TaskDoc) → all_past ms more ≡ resumed metas x ns t
+    → settle metas more ms outer ≡ settle metas x ns (t ∷ outer)
+settle-past metas x more ns ms t outer h = ap (λ (r : Turns). by_turns outer r (λ xs y. settle metas y xs outer)) h
 
-pub settle-stopped : (metas : Metas) (names more : Names) (ns ms : Nodes) (t inner : TaskDoc) (outer : List TaskDoc) (waiting : List Entry) (m : MetafileDoc)
-    → stopped_at ms inner waiting m more ≡ resumed metas names ns t
-    → wants (record { nodes = ms; outer = inner ∷ outer; loaded = more; fetched = []; waiting = waiting }) m ≡ settle metas names ns (t ∷ outer)
-settle-stopped metas names more ns ms t inner outer waiting m h = ap (λ (r : Turns). by_turns outer r (λ xs l. settle metas l xs outer)) h
+pub settle-stopped : (metas : Metas) (x more : Index) (ns ms : Nodes) (t inner : TaskDoc) (outer : List TaskDoc) (waiting : List Entry) (m : MetafileDoc)
+    → stopped_at ms inner waiting m more ≡ resumed metas x ns t
+    → wants (record { nodes = ms; outer = inner ∷ outer; index = more; fetched = []; waiting = waiting }) m ≡ settle metas x ns (t ∷ outer)
+settle-stopped metas x more ns ms t inner outer waiting m h = ap (λ (r : Turns). by_turns outer r (λ xs y. settle metas y xs outer)) h
 
 -- ---- a document that is taken
 

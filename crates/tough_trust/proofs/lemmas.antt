@@ -7,6 +7,7 @@ pub mod Levels
 pub mod Once
 pub mod Under
 pub mod Listed
+pub mod Indexed
 pub mod Full
 pub mod Tallied
 pub mod Kept

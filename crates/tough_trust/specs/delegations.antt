@@ -5,5 +5,6 @@ pub mod Bare
 pub mod Once
 pub mod Under
 pub mod Listed
+pub mod Indexed
 pub mod Full
 pub mod Tallies

@@ -38,12 +38,11 @@ use Rattle.tough_trust.specs.Listed.{role_holder}
 use Rattle.tough_trust.specs.delegations.Bare.{bare, top_page, held_as}
 use Rattle.tough_trust.specs.delegations.Full.{fetch_order}
 use Rattle.tough_trust.specs.delegations.Numbered.{Nodes, last_document}
-use Rattle.tough_trust.specs.delegations.Growing.{Metas, listed_as, Fetched, TaskDoc, Progress, wants, grown, begun, go_on}
+use Rattle.tough_trust.specs.delegations.Growing.{Metas, Index, listed_as, Fetched, TaskDoc, Progress, wants, grown, begun, go_on}
 use Rattle.tough_trust.proofs.lemmas.Bare.{top-bare}
 use Rattle.tough_trust.proofs.lemmas.Laws.{work, grows-whole}
 use Rattle.tough_schema.specs.Delegations.{DelegationsDoc}
 use Rattle.tough_schema.specs.Tree.{Entry}
-use Rattle.tough_schema.specs.Search.{Names}
 use Rattle.tough_schema.specs.Verify.{ReachesDelegated}
 use Rattle.tough_schema.specs.Whole.{HeldDoc, top_doc}
 use Rattle.tough_schema.specs.Entries.{first_missing}
@@ -241,7 +240,7 @@ module _ (v : Verifies) (files : Files) (s : SettingDoc) (l : LoadedDoc) (able :
   count-turns n true = omega arith
   count-turns n false = omega arith
 
-  role-taken : (g : DelegationsDoc) (ns : Nodes) (outer : List TaskDoc) (seen : Names) (f : Fetched) (e : Entry) (rest : List Entry) (page : SignedDoc TargetsDoc) (u : IsRoleServed v files s l.known g e.name page) → (top_doc (last_document ns).below).delegations ≡ Some g
+  role-taken : (g : DelegationsDoc) (ns : Nodes) (outer : List TaskDoc) (seen : Index) (f : Fetched) (e : Entry) (rest : List Entry) (page : SignedDoc TargetsDoc) (u : IsRoleServed v files s l.known g e.name page) → (top_doc (last_document ns).below).delegations ≡ Some g
       → Goes (e.name ∷ []) (wants (work ns outer seen f (e ∷ rest)) u.entry) (go_on metas (work ns outer seen (insert_entry (slice_cmp nat_cmp) f e.name (held_as e.name (bare page))) rest))
   role-taken g ns outer seen f e rest page u is n received h =
       let w = work ns outer seen f (e ∷ rest) in
@@ -263,7 +262,7 @@ module _ (v : Verifies) (files : Files) (s : SettingDoc) (l : LoadedDoc) (able :
       subst (λ k. Leads k stage) turns
       (leads-turn (n + (if is_reserved r.name then 0 else 1)) stage (settled (role_stored s.limits l.known (with_received roles bytes) r.name (bare page))) (got.Bytes bytes) (λ x. cc) (gets-bytes r _ bytes u.document.served u.document.fits) moves stored)
 
-  taken-under : (g : Option DelegationsDoc) (ns : Nodes) (outer : List TaskDoc) (seen : Names) (f : Fetched) (e : Entry) (rest : List Entry) (page : SignedDoc TargetsDoc) (u : U g e.name page) → (top_doc (last_document ns).below).delegations ≡ g
+  taken-under : (g : Option DelegationsDoc) (ns : Nodes) (outer : List TaskDoc) (seen : Index) (f : Fetched) (e : Entry) (rest : List Entry) (page : SignedDoc TargetsDoc) (u : U g e.name page) → (top_doc (last_document ns).below).delegations ≡ g
       → Goes (e.name ∷ []) (wants (work ns outer seen f (e ∷ rest)) (served-entry g e.name page u).0) (go_on metas (work ns outer seen (insert_entry (slice_cmp nat_cmp) f e.name (held_as e.name (bare page))) rest))
   unfolding served-entry
   taken-under None ns outer seen f e rest page u is = absurd u

@@ -17,7 +17,7 @@ use Rattle.tough_schema.specs.Whole.{TreeDoc, HeldDoc, top_doc}
 use Rattle.tough_trust.specs.delegations.Bare.{bare, top_page, held_as}
 use Rattle.tough_trust.specs.delegations.Full.{IsFull, fetch_order}
 use Rattle.tough_trust.specs.delegations.Numbered.{NodeDoc, Nodes, targets, also, last_document}
-use Rattle.tough_trust.specs.delegations.Growing.{Metas, listed_as, Fetched, TaskDoc, WorkDoc, Progress, wants, grown, first_of, holder_of, go_on, begun, taken}
+use Rattle.tough_trust.specs.delegations.Growing.{Metas, Index, listed_as, Fetched, TaskDoc, WorkDoc, Progress, wants, grown, first_of, holder_of, go_on, begun, taken}
 use Rattle.tough_trust.specs.delegations.Once.{IsBare, AreBare, Distinct, runs}
 use Rattle.tough_trust.specs.delegations.Tallies.{tally, tally_work}
 use Rattle.tough_trust.specs.delegations.Under.{page_of, Relation, Below, AllTaken}
@@ -141,8 +141,8 @@ taken-grows metas n w h bare keyed g =
 
 -- ---- a whole tree grows
 
-abbrev pub work : Nodes → List TaskDoc → Names → Fetched → List Entry → WorkDoc
-work ns outer seen f waiting = record { nodes = ns; outer = outer; loaded = seen; fetched = f; waiting = waiting }
+abbrev pub work : Nodes → List TaskDoc → Index → Fetched → List Entry → WorkDoc
+work ns outer seen f waiting = record { nodes = ns; outer = outer; index = seen; fetched = f; waiting = waiting }
 
 abbrev holder_in : levels.WorkDoc → Option DelegationsDoc
 holder_in v = (top_doc v.here.below).delegations
@@ -166,7 +166,7 @@ module _ (metas : Metas) (U : Relation) (Goes : List (List ℕ) → Progress →
     (chained : (xs ys : List (List ℕ)) (p q r : Progress) → Goes xs p q → Goes ys q r → Goes (xs ++ ys) p r)
     (lists : (g : Option DelegationsDoc) (n : List ℕ) (page : SignedDoc TargetsDoc) → U g n page → (m : MetafileDoc) × (listed_as metas n ≡ Some m))
     (keyed : (n : List ℕ) (page : SignedDoc TargetsDoc) → U None n page → ⊥)
-    (takes : (ns : Nodes) (outer : List TaskDoc) (seen : Names) (f : Fetched) (e : Entry) (rest : List Entry) (page : SignedDoc TargetsDoc) (u : U (top_doc (last_document ns).below).delegations e.name page)
+    (takes : (ns : Nodes) (outer : List TaskDoc) (seen : Index) (f : Fetched) (e : Entry) (rest : List Entry) (page : SignedDoc TargetsDoc) (u : U (top_doc (last_document ns).below).delegations e.name page)
     → Goes (e.name ∷ []) (wants (work ns outer seen f (e ∷ rest)) (lists (top_doc (last_document ns).below).delegations e.name page u).0) (go_on metas (work ns outer seen (insert_entry (slice_cmp nat_cmp) f e.name (held_as e.name (bare page))) rest))) where
   -- the same by levels
   abbrev Leads : List (List ℕ) → levels.Progress → levels.Progress → Type 0
@@ -184,14 +184,14 @@ module _ (metas : Metas) (U : Relation) (Goes : List (List ℕ) → Progress →
   -- where the first role that waits is this one
   takes-at : (w : WorkDoc) (os : List OpenDoc) (s : Stands w.nodes w.outer os) (bf : BareFetched w.fetched) (e : Entry) (rest : List Entry) (page : SignedDoc TargetsDoc) (u : U (holder_of w) e.name page)
       → (ws : List Entry) → ws ≡ e ∷ rest
-      → (y : Progress) × Alike y (levels.go_on metas (levels.with_taken (level_of (work w.nodes w.outer w.loaded w.fetched ws) os) ws (held_as e.name (bare page))))
-      × Goes (e.name ∷ []) (wants (work w.nodes w.outer w.loaded w.fetched ws) (lists (holder_of w) e.name page u).0) y
+      → (y : Progress) × Alike y (levels.go_on metas (levels.with_taken (level_of (work w.nodes w.outer w.index w.fetched ws) os) ws (held_as e.name (bare page))))
+      × Goes (e.name ∷ []) (wants (work w.nodes w.outer w.index w.fetched ws) (lists (holder_of w) e.name page u).0) y
   takes-at w os s bf e rest page u ws is =
       let held = held_as e.name (bare page) in
-      let v = work w.nodes w.outer w.loaded w.fetched (e ∷ rest) in
-      subst (λ xs. (y : Progress) × Alike y (levels.go_on metas (levels.with_taken (level_of (work w.nodes w.outer w.loaded w.fetched xs) os) xs held))
-      × Goes (e.name ∷ []) (wants (work w.nodes w.outer w.loaded w.fetched xs) (lists (holder_of w) e.name page u).0) y) (sym is)
-      (taken metas v held, taken-alike metas v os held (bare-none page) s bf, takes w.nodes w.outer w.loaded w.fetched e rest page u)
+      let v = work w.nodes w.outer w.index w.fetched (e ∷ rest) in
+      subst (λ xs. (y : Progress) × Alike y (levels.go_on metas (levels.with_taken (level_of (work w.nodes w.outer w.index w.fetched xs) os) xs held))
+      × Goes (e.name ∷ []) (wants (work w.nodes w.outer w.index w.fetched xs) (lists (holder_of w) e.name page u).0) y) (sym is)
+      (taken metas v held, taken-alike metas v os held (bare-none page) s bf, takes w.nodes w.outer w.index w.fetched e rest page u)
 
   -- the level of the work, and what is wanted
   takes-by : (w : WorkDoc) (os : List OpenDoc) (m : MetafileDoc) → Stands w.nodes w.outer os → BareFetched w.fetched → (e : Entry) (rest : List Entry) (page : SignedDoc TargetsDoc)

@@ -4,10 +4,10 @@ use Rattle.std.specs.Bool.{⊤}
 use Rattle.tough_roles.specs.Timestamp.{MetafileDoc}
 use Rattle.tough_schema.specs.Tree.{Entry}
 use Rattle.tough_schema.specs.Update.{listed_roles}
-use Rattle.tough_schema.specs.Search.{Names, add}
+use Rattle.tough_schema.specs.Search.{Names}
 use Rattle.tough_schema.specs.Whole.{HeldDoc}
 use Rattle.tough_trust.specs.delegations.Numbered.{NodeDoc, Nodes, also, last_number, last_document, roles_at}
-use Rattle.tough_trust.specs.delegations.Growing.{Metas, Look, through, unlisted, wanted, look, looked, listed_as, offered, fetched_for, fetched_after, Fetched, TaskDoc, Turn, past, stopped, entered, turn, Turns, all_past, stopped_at, by_turn, turns, resumed, WorkDoc, here, Progress, wants, grown, by_turns, settle, by_look, go_on, first_work, begun, with_taken, taken}
+use Rattle.tough_trust.specs.delegations.Growing.{Metas, Index, put, names_of, Look, through, unlisted, wanted, look, looked, listed_as, offered, fetched_for, fetched_after, Fetched, TaskDoc, Turn, past, stopped, entered, turn, Turns, all_past, stopped_at, by_turn, turns, resumed, WorkDoc, here, Progress, wants, grown, by_turns, settle, by_look, go_on, first_work, begun, with_taken, taken}
 use Rattle.tough_trust.specs.delegations.Listed.{IsListed, WantsListed}
 use Rattle.tough_trust.specs.delegations.Once.{runs}
 
@@ -48,45 +48,47 @@ module _ (metas : Metas) where
   TurnsListed (all_past ns l) = ⊤
   TurnsListed (stopped_at ns t waiting m l) = IsListed metas (listed_roles (last_document ns).below) waiting m
 
-  entered-listed : (ns : Nodes) (l : Names) (k : Look) → LookListed (listed_roles (last_document ns).below) k → TurnListed (entered ns l k)
+  entered-listed : (ns : Nodes) (l : Index) (k : Look) → LookListed (listed_roles (last_document ns).below) k → TurnListed (entered ns l k)
   entered-listed ns l through x = tt
   entered-listed ns l (unlisted n) x = tt
   entered-listed ns l (wanted waiting m) x = x
 
-  turn-listed : (l : Names) (ns : Nodes) (e : Entry) (o : Option NodeDoc) → TurnListed (turn metas l ns e o)
+  turn-listed : (l : Index) (ns : Nodes) (e : Entry) (o : Option NodeDoc) → TurnListed (turn metas l ns e o)
   turn-listed l ns e None = tt
   turn-listed l ns e (Some n) =
-      let all = listed_roles n.document.below in entered-listed (also ns n) (add e.name l) (look metas (add e.name l) all) (look-listed all all (add e.name l) ([], refl))
+      let all = listed_roles n.document.below in
+      let more = put e.name (Some (last_number (also ns n))) l in
+      entered-listed (also ns n) more (look metas (names_of more) all) (look-listed all all (names_of more) ([], refl))
 
-  by_turn-listed : (left : TaskDoc) (t : Turn) (next : Nodes → Names → Turns) → TurnListed t → ((ns : Nodes) (l : Names) → TurnsListed (next ns l)) → TurnsListed (by_turn left t next)
+  by_turn-listed : (left : TaskDoc) (t : Turn) (next : Nodes → Index → Turns) → TurnListed t → ((ns : Nodes) (l : Index) → TurnsListed (next ns l)) → TurnsListed (by_turn left t next)
   by_turn-listed left (past ns l) next h k = k ns l
   by_turn-listed left (stopped ns waiting m l) next h k = h
 
-  turns-listed : (ns : Nodes) (p k : ℕ) (f : Fetched) (es : List Entry) (l : Names) → TurnsListed (turns metas l ns p k f es)
+  turns-listed : (ns : Nodes) (p k : ℕ) (f : Fetched) (es : List Entry) (l : Index) → TurnsListed (turns metas l ns p k f es)
   turns-listed ns p k f [] l = tt
   turns-listed ns p k f (e ∷ es) l =
-      by_turn-listed (record { node = p; at = suc k; fetched = fetched_after e f }) (turn metas l ns e (offered l p k e (fetched_for e f)))
-      (λ ms j. turns metas j ms p (suc k) (fetched_after e f) es) (turn-listed l ns e (offered l p k e (fetched_for e f)))
+      by_turn-listed (record { node = p; at = suc k; fetched = fetched_after e f }) (turn metas l ns e (offered (names_of l) p k e (fetched_for e f)))
+      (λ ms j. turns metas j ms p (suc k) (fetched_after e f) es) (turn-listed l ns e (offered (names_of l) p k e (fetched_for e f)))
       (λ ms j. turns-listed ms p (suc k) (fetched_after e f) es j)
 
   -- ---- outwards
 
-  by_turns-listed : (outer : List TaskDoc) (t : Turns) (next : Nodes → Names → Progress) → TurnsListed t → ((ns : Nodes) (l : Names) → WantsListed metas (next ns l)) → WantsListed metas (by_turns outer t next)
+  by_turns-listed : (outer : List TaskDoc) (t : Turns) (next : Nodes → Index → Progress) → TurnsListed t → ((ns : Nodes) (l : Index) → WantsListed metas (next ns l)) → WantsListed metas (by_turns outer t next)
   by_turns-listed outer (all_past ns l) next h k = k ns l
   by_turns-listed outer (stopped_at ns t waiting m l) next h k = h
 
-  settle-listed : (outer : List TaskDoc) (ns : Nodes) (l : Names) → WantsListed metas (settle metas l ns outer)
+  settle-listed : (outer : List TaskDoc) (ns : Nodes) (l : Index) → WantsListed metas (settle metas l ns outer)
   settle-listed [] ns l = tt
   settle-listed (t ∷ outer) ns l =
       by_turns-listed outer (resumed metas l ns t) (λ ms j. settle metas j ms outer) (turns-listed ns t.node t.at t.fetched (drop t.at (roles_at t.node ns)) l) (λ ms j. settle-listed outer ms j)
 
   by_look-listed : (w : WorkDoc) (k : Look) → LookListed (listed_roles (here w).below) k → WantsListed metas (by_look metas w k)
-  by_look-listed w through h = settle-listed (record { node = last_number w.nodes; at = 0; fetched = w.fetched } ∷ w.outer) w.nodes w.loaded
-  by_look-listed w (unlisted n) h = settle-listed w.outer w.nodes (add n w.loaded)
+  by_look-listed w through h = settle-listed (record { node = last_number w.nodes; at = 0; fetched = w.fetched } ∷ w.outer) w.nodes w.index
+  by_look-listed w (unlisted n) h = settle-listed w.outer w.nodes (put n None w.index)
   by_look-listed w (wanted waiting m) h = h
 
   go_on-listed : (w : WorkDoc) → Ends (listed_roles (here w).below) w.waiting → WantsListed metas (go_on metas w)
-  go_on-listed w h = by_look-listed w (look metas w.loaded w.waiting) (look-listed (listed_roles (here w).below) w.waiting w.loaded h)
+  go_on-listed w h = by_look-listed w (look metas (names_of w.index) w.waiting) (look-listed (listed_roles (here w).below) w.waiting (names_of w.index) h)
 
   with_taken-ends : (w : WorkDoc) (waiting : List Entry) (h : HeldDoc) → waiting ≡ w.waiting → Ends (listed_roles (here w).below) waiting → Ends (listed_roles (here (with_taken w waiting h)).below) (with_taken w waiting h).waiting
   with_taken-ends w [] h is x = subst (Ends (listed_roles (here w).below)) is x

@@ -1,7 +1,8 @@
 -- What numbered documents stand for, by levels: each list whose roles get their documents is a level, and the documents after it that have
 -- their place hang on its roles that had their turn. So the laws of the levels hold of the numbers.
 use Rattle.std.specs.Bool.{⊤}
-use Rattle.std.specs.Prelude.{◌==◌, ◌&&◌}
+use Rattle.std.specs.Prelude.{◌==◌, ◌&&◌, ◌||◌, cond}
+use Rattle.std.specs.Str.{bytes_eq}
 use Rattle.std.proofs.Common.{◌≡◌, ◌≤◌, ◌+◌, ℕ, suc, List, [], ◌∷◌, ◌++◌, length, drop, Bool, true, false, if◌then◌else◌, Option, Some, None, is_some, refl, ap, sym, ◌∙◌, subst, append_assoc, append-nil, arith}
 use Rattle.std.proofs.lemmas.List.{map-append, length-append, length-map}
 use Rattle.std.proofs.Math.Seq.{drop-append_seam}
@@ -13,7 +14,7 @@ use Rattle.tough_schema.specs.Update.{listed_roles}
 use Rattle.tough_schema.specs.Whole.{TreeDoc, tree, Branches, no_branches, unloaded, loaded, branches_from, entries_in, HeldDoc, RoleTree}
 use Rattle.tough_trust.specs.delegations.Numbered.{NodeDoc, Nodes, targets, also, last_number, last_document, roles_at, Hanging, nothing_hangs, hang, dressed, tree_with, tree_of}
 use Rattle.tough_trust.specs.delegations.Growing as numbers
-use Rattle.tough_trust.specs.delegations.Growing.{Metas, Look, through, unlisted, wanted, look, Fetched, fetched_for, fetched_after, offered, TaskDoc, WorkDoc, Progress}
+use Rattle.tough_trust.specs.delegations.Growing.{Metas, Index, put, names_of, Look, through, unlisted, wanted, look, Fetched, fetched_for, fetched_after, offered, TaskDoc, WorkDoc, Progress}
 use Rattle.tough_trust.specs.delegations.Once.{IsBare, AreBare, runs}
 use Rattle.tough_trust.specs.delegations.Under.{Relation, AllTaken}
 use Rattle.tough_trust.specs.delegations.Tallies.{tally}
@@ -238,11 +239,21 @@ stands-bare ns [] (o ∷ os) s = absurd s
 stands-bare ns (t ∷ ts) [] s = absurd s
 stands-bare ns (t ∷ ts) (o ∷ os) s = s.0
 
+-- ---- the names that had their turn
+
+put-some : (b : Bool) (number : Option ℕ) (o : Option (Option ℕ)) → is_some (cond b (Some number) o) ≡ (b || is_some o)
+put-some true number o = refl
+put-some false number o = refl
+
+-- with its number or with none, a name is one of those that had their turn
+pub names-put : (name : List ℕ) (number : Option ℕ) (x : Index) → names_of (put name number x) ≡ add name (names_of x)
+names-put name number x = λ i q. put-some (bytes_eq name q) number (x q) i
+
 -- ---- what a turn comes to, by numbers and by levels
 
 -- the level of a document whose list is being fetched
 abbrev pub level_of : WorkDoc → List OpenDoc → levels.WorkDoc
-level_of w os = record { outer = os; loaded = w.loaded; here = last_document w.nodes; fetched = w.fetched; waiting = w.waiting }
+level_of w os = record { outer = os; loaded = names_of w.index; here = last_document w.nodes; fetched = w.fetched; waiting = w.waiting }
 
 abbrev pub Alike : Progress → levels.Progress → Type 0
 Alike (numbers.wants w m) q = (os : List OpenDoc) × (q ≡ levels.wants (level_of w os) m) × Stands w.nodes w.outer os × BareFetched w.fetched
@@ -250,8 +261,8 @@ Alike (numbers.grown t) q = q ≡ levels.grown t
 
 -- the turns of the last document's list of `base`
 abbrev TurnsAlike : Nodes → numbers.Turns → levels.Turns → Type 0
-TurnsAlike base (numbers.all_past ns l) q = (whole : HeldDoc) × (q ≡ levels.all_past whole l) × Closed ns base whole
-TurnsAlike base (numbers.stopped_at ns t waiting m l) q = (o : OpenDoc) × (q ≡ levels.stopped_at o (last_document ns) waiting m l) × IsBare (last_document ns) × StepOf ns t o base
+TurnsAlike base (numbers.all_past ns x) q = (whole : HeldDoc) × (q ≡ levels.all_past whole (names_of x)) × Closed ns base whole
+TurnsAlike base (numbers.stopped_at ns t waiting m x) q = (o : OpenDoc) × (q ≡ levels.stopped_at o (last_document ns) waiting m (names_of x)) × IsBare (last_document ns) × StepOf ns t o base
 
 pub fetched-length : (es : List Entry) (f : Fetched) → length (with_fetched f es) ≡ length es
 fetched-length [] f = refl
@@ -279,16 +290,18 @@ module _ (metas : Metas) (base : Nodes) (bare : IsBare (last_document base)) whe
   listed_here = listed_roles (last_document base).below
 
   -- a document enters
-  entered-alike : (ns : Nodes) (done : List RoleTree) (k : ℕ) (e : Entry) (h : HeldDoc) (rest : List Entry) (f : Fetched) (l : Names) (x : Look) (next : Nodes → Names → numbers.Turns) (nexts : RoleTree → Names → levels.Turns)
+  entered-alike : (ns : Nodes) (done : List RoleTree) (k : ℕ) (e : Entry) (h : HeldDoc) (rest : List Entry) (f : Fetched) (x : Index) (seen : Look) (next : Nodes → Index → numbers.Turns) (nexts : RoleTree → Names → levels.Turns)
       → k ≡ length done → IsBare h → BareFetched f → listed_here ≡ roles_in done ++ e ∷ rest → Holds ns base done
-      → ((ms : Nodes) (r : RoleTree) (j : Names) → r.0 ≡ e → Holds ms base (done ++ r ∷ []) → TurnsAlike base (next ms j) (nexts r j))
-      → TurnsAlike base (numbers.by_turn (record { node = p; at = suc k; fetched = f }) (numbers.entered (also ns (node_at p k h)) l x) next)
-      (levels.by_turn d done (with_fetched f rest) (levels.entered e h l x) nexts)
-  entered-alike ns done k e h rest f l through next nexts is bh bf roles holds go =
-      go (also ns (node_at p k h)) (e, Some h) l refl (holds-some ns base done e k h is bh holds)
-  entered-alike ns done k e h rest f l (unlisted name) next nexts is bh bf roles holds go =
-      go (also ns (node_at p k h)) (e, Some h) (add name l) refl (holds-some ns base done e k h is bh holds)
-  entered-alike ns done k e h rest f l (wanted waiting m) next nexts is bh bf roles holds go =
+      → ((ms : Nodes) (r : RoleTree) (y : Index) → r.0 ≡ e → Holds ms base (done ++ r ∷ []) → TurnsAlike base (next ms y) (nexts r (names_of y)))
+      → TurnsAlike base (numbers.by_turn (record { node = p; at = suc k; fetched = f }) (numbers.entered (also ns (node_at p k h)) x seen) next)
+      (levels.by_turn d done (with_fetched f rest) (levels.entered e h (names_of x) seen) nexts)
+  entered-alike ns done k e h rest f x through next nexts is bh bf roles holds go =
+      go (also ns (node_at p k h)) (e, Some h) x refl (holds-some ns base done e k h is bh holds)
+  entered-alike ns done k e h rest f x (unlisted name) next nexts is bh bf roles holds go =
+      let ms = also ns (node_at p k h) in
+      let y = put name None x in
+      subst (λ l. TurnsAlike base (next ms y) (nexts (e, Some h) l)) (names-put name None x) (go ms (e, Some h) y refl (holds-some ns base done e k h is bh holds))
+  entered-alike ns done k e h rest f x (wanted waiting m) next nexts is bh bf roles holds go =
       let left : drop (suc k) listed_here ≡ rest = left-after listed_here done e rest k is roles in (
         record { document = d; done = done; role = e; left = with_fetched f rest },
         refl,
@@ -306,56 +319,60 @@ module _ (metas : Metas) (base : Nodes) (bare : IsBare (last_document base)) whe
         },
       )
 
-  by-name : (b : Bool) (ns : Nodes) (done : List RoleTree) (k : ℕ) (e : Entry) (h : HeldDoc) (rest : List Entry) (f : Fetched) (l : Names) (next : Nodes → Names → numbers.Turns) (nexts : RoleTree → Names → levels.Turns)
+  by-name : (b : Bool) (ns : Nodes) (done : List RoleTree) (k : ℕ) (e : Entry) (h : HeldDoc) (rest : List Entry) (f : Fetched) (x : Index) (next : Nodes → Index → numbers.Turns) (nexts : RoleTree → Names → levels.Turns)
       → k ≡ length done → IsBare h → BareFetched f → listed_here ≡ roles_in done ++ e ∷ rest → Holds ns base done
-      → ((ms : Nodes) (r : RoleTree) (j : Names) → r.0 ≡ e → Holds ms base (done ++ r ∷ []) → TurnsAlike base (next ms j) (nexts r j))
-      → TurnsAlike base (numbers.by_turn (record { node = p; at = suc k; fetched = f }) (numbers.turn metas l ns e (if b then None else Some (node_at p k h))) next)
+      → ((ms : Nodes) (r : RoleTree) (y : Index) → r.0 ≡ e → Holds ms base (done ++ r ∷ []) → TurnsAlike base (next ms y) (nexts r (names_of y)))
+      → TurnsAlike base (numbers.by_turn (record { node = p; at = suc k; fetched = f }) (numbers.turn metas x ns e (if b then None else Some (node_at p k h))) next)
       (levels.by_turn d done (with_fetched f rest)
-      (if b then levels.past (e, None) l else levels.entered e h (add e.name l) (look metas (add e.name l) (listed_roles h.below))) nexts)
-  by-name true ns done k e h rest f l next nexts is bh bf roles holds go = go ns (e, None) l refl (holds-none ns base done e holds)
-  by-name false ns done k e h rest f l next nexts is bh bf roles holds go =
-      entered-alike ns done k e h rest f (add e.name l) (look metas (add e.name l) (listed_roles h.below)) next nexts is bh bf roles holds go
+      (if b then levels.past (e, None) (names_of x) else levels.entered e h (add e.name (names_of x)) (look metas (add e.name (names_of x)) (listed_roles h.below))) nexts)
+  by-name true ns done k e h rest f x next nexts is bh bf roles holds go = go ns (e, None) x refl (holds-none ns base done e holds)
+  by-name false ns done k e h rest f x next nexts is bh bf roles holds go =
+      let number : Option ℕ = Some (suc (last_number ns)) in
+      let y = put e.name number x in
+      let turned = numbers.by_turn (record { node = p; at = suc k; fetched = f }) (numbers.turn metas x ns e (Some (node_at p k h))) next in
+      subst (λ l. TurnsAlike base turned (levels.by_turn d done (with_fetched f rest) (levels.entered e h l (look metas l (listed_roles h.below))) nexts)) (names-put e.name number x)
+      (entered-alike ns done k e h rest f y (look metas (names_of y) (listed_roles h.below)) next nexts is bh bf roles holds go)
 
-  by-offer : (o : Option HeldDoc) (ns : Nodes) (done : List RoleTree) (k : ℕ) (e : Entry) (rest : List Entry) (f : Fetched) (l : Names) (next : Nodes → Names → numbers.Turns) (nexts : RoleTree → Names → levels.Turns)
+  by-offer : (o : Option HeldDoc) (ns : Nodes) (done : List RoleTree) (k : ℕ) (e : Entry) (rest : List Entry) (f : Fetched) (x : Index) (next : Nodes → Index → numbers.Turns) (nexts : RoleTree → Names → levels.Turns)
       → k ≡ length done → BareAt (e, o) → BareFetched f → listed_here ≡ roles_in done ++ e ∷ rest → Holds ns base done
-      → ((ms : Nodes) (r : RoleTree) (j : Names) → r.0 ≡ e → Holds ms base (done ++ r ∷ []) → TurnsAlike base (next ms j) (nexts r j))
-      → TurnsAlike base (numbers.by_turn (record { node = p; at = suc k; fetched = f }) (numbers.turn metas l ns e (offered l p k e o)) next)
-      (levels.by_turn d done (with_fetched f rest) (levels.turn metas l (e, o)) nexts)
-  by-offer None ns done k e rest f l next nexts is bo bf roles holds go = go ns (e, None) l refl (holds-none ns base done e holds)
-  by-offer (Some h) ns done k e rest f l next nexts is bo bf roles holds go = by-name (l e.name) ns done k e h rest f l next nexts is bo bf roles holds go
+      → ((ms : Nodes) (r : RoleTree) (y : Index) → r.0 ≡ e → Holds ms base (done ++ r ∷ []) → TurnsAlike base (next ms y) (nexts r (names_of y)))
+      → TurnsAlike base (numbers.by_turn (record { node = p; at = suc k; fetched = f }) (numbers.turn metas x ns e (offered (names_of x) p k e o)) next)
+      (levels.by_turn d done (with_fetched f rest) (levels.turn metas (names_of x) (e, o)) nexts)
+  by-offer None ns done k e rest f x next nexts is bo bf roles holds go = go ns (e, None) x refl (holds-none ns base done e holds)
+  by-offer (Some h) ns done k e rest f x next nexts is bo bf roles holds go = by-name (names_of x e.name) ns done k e h rest f x next nexts is bo bf roles holds go
 
-  pub turns-alike : (es : List Entry) (ns : Nodes) (done : List RoleTree) (k : ℕ) (f : Fetched) (l : Names) → k ≡ length done → BareFetched f → listed_here ≡ roles_in done ++ es → Holds ns base done
-      → TurnsAlike base (numbers.turns metas l ns p k f es) (levels.turns metas l d done (with_fetched f es))
-  turns-alike [] ns done k f l is bf roles holds = (with_roles done d, refl, record { done = done; holds = holds; all = sym (roles ∙ append-nil (roles_in done)); is = refl })
-  turns-alike (e ∷ es) ns done k f l is bf roles holds =
+  pub turns-alike : (es : List Entry) (ns : Nodes) (done : List RoleTree) (k : ℕ) (f : Fetched) (x : Index) → k ≡ length done → BareFetched f → listed_here ≡ roles_in done ++ es → Holds ns base done
+      → TurnsAlike base (numbers.turns metas x ns p k f es) (levels.turns metas (names_of x) d done (with_fetched f es))
+  turns-alike [] ns done k f x is bf roles holds = (with_roles done d, refl, record { done = done; holds = holds; all = sym (roles ∙ append-nil (roles_in done)); is = refl })
+  turns-alike (e ∷ es) ns done k f x is bf roles holds =
       let more = fetched_after e f in
-      by-offer (fetched_for e f) ns done k e es more l (λ ms j. numbers.turns metas j ms p (suc k) more es) (λ r j. levels.turns metas j d (done ++ r ∷ []) (with_fetched more es))
+      by-offer (fetched_for e f) ns done k e es more x (λ ms y. numbers.turns metas y ms p (suc k) more es) (λ r j. levels.turns metas j d (done ++ r ∷ []) (with_fetched more es))
       is (lookup-bare e e.name f bf) (removed-bare e.name f bf) roles holds
-      (λ ms r j named h. turns-alike es ms (done ++ r ∷ []) (suc k) more j (omega (arith, is, length-append done (r ∷ []))) (removed-bare e.name f bf) (more-roles listed_here done r e es named roles) h)
+      (λ ms r y named h. turns-alike es ms (done ++ r ∷ []) (suc k) more y (omega (arith, is, length-append done (r ∷ []))) (removed-bare e.name f bf) (more-roles listed_here done r e es named roles) h)
 
 -- ---- outwards
 
-by_turns-alike : (base : Nodes) (ts : List TaskDoc) (os : List OpenDoc) (x : numbers.Turns) (y : levels.Turns) (next : Nodes → Names → Progress) (nexts : HeldDoc → Names → levels.Progress)
-    → Stands base ts os → TurnsAlike base x y → ((ns : Nodes) (l : Names) (whole : HeldDoc) → Closed ns base whole → Alike (next ns l) (nexts whole l))
+by_turns-alike : (base : Nodes) (ts : List TaskDoc) (os : List OpenDoc) (x : numbers.Turns) (y : levels.Turns) (next : Nodes → Index → Progress) (nexts : HeldDoc → Names → levels.Progress)
+    → Stands base ts os → TurnsAlike base x y → ((ns : Nodes) (z : Index) (whole : HeldDoc) → Closed ns base whole → Alike (next ns z) (nexts whole (names_of z)))
     → Alike (numbers.by_turns ts x next) (levels.by_turns os y nexts)
-by_turns-alike base ts os (numbers.all_past ns l) y next nexts s a go = subst (λ q. Alike (next ns l) (levels.by_turns os q nexts)) (sym a.1) (go ns l a.0 a.2)
-by_turns-alike base ts os (numbers.stopped_at ns t waiting m l) y next nexts s a go =
-    let w : WorkDoc = record { nodes = ns; outer = t ∷ ts; loaded = l; fetched = []; waiting = waiting } in
+by_turns-alike base ts os (numbers.all_past ns z) y next nexts s a go = subst (λ q. Alike (next ns z) (levels.by_turns os q nexts)) (sym a.1) (go ns z a.0 a.2)
+by_turns-alike base ts os (numbers.stopped_at ns t waiting m z) y next nexts s a go =
+    let w : WorkDoc = record { nodes = ns; outer = t ∷ ts; index = z; fetched = []; waiting = waiting } in
     subst (λ q. Alike (numbers.wants w m) (levels.by_turns os q nexts)) (sym a.1) (a.0 ∷ os, refl, (a.2, (base, a.3, s)), tt)
 
 whole-tree : (h : HeldDoc) (ns : Nodes) (whole : HeldDoc) → IsBare h → Closed ns (targets h) whole → tree_of ns ≡ whole
 whole-tree h ns whole bare c =
     c.holds.hangs nothing_hangs (none-free 0) ∙ dressed-all 0 c.done h nothing_hangs (λ j. refl) bare c.all ∙ sym c.is
 
-pub settle-alike : (metas : Metas) (ts : List TaskDoc) (os : List OpenDoc) (base ns : Nodes) (whole : HeldDoc) (l : Names) → Stands base ts os → Closed ns base whole
-    → Alike (numbers.settle metas l ns ts) (levels.settle metas l whole os)
-settle-alike metas [] [] (targets h) ns whole l s c =
-    ap (λ (x : HeldDoc). let t : SignedDoc TreeDoc = record { role = x.below; signatures = x.signatures } in levels.grown t) (sym (whole-tree h ns whole s.0 c))
-settle-alike metas [] [] (also xs n) ns whole l s c = absurd s.1
-settle-alike metas [] (o ∷ os) base ns whole l s c = absurd s
-settle-alike metas (t ∷ ts) [] base ns whole l s c = absurd s
-settle-alike metas (t ∷ ts) (o ∷ os) (targets h) ns whole l s c = absurd s.1.1
-settle-alike metas (t ∷ ts) (o ∷ os) (also xs n) ns whole l s c =
+pub settle-alike : (metas : Metas) (ts : List TaskDoc) (os : List OpenDoc) (base ns : Nodes) (whole : HeldDoc) (x : Index) → Stands base ts os → Closed ns base whole
+    → Alike (numbers.settle metas x ns ts) (levels.settle metas (names_of x) whole os)
+settle-alike metas [] [] (targets h) ns whole x s c =
+    ap (λ (h : HeldDoc). let t : SignedDoc TreeDoc = record { role = h.below; signatures = h.signatures } in levels.grown t) (sym (whole-tree h ns whole s.0 c))
+settle-alike metas [] [] (also xs n) ns whole x s c = absurd s.1
+settle-alike metas [] (o ∷ os) base ns whole x s c = absurd s
+settle-alike metas (t ∷ ts) [] base ns whole x s c = absurd s
+settle-alike metas (t ∷ ts) (o ∷ os) (targets h) ns whole x s c = absurd s.1.1
+settle-alike metas (t ∷ ts) (o ∷ os) (also xs n) ns whole x s c =
     let base = s.1.0 in
     let step : Step xs n t o base = s.1.1 in
     let rest : Stands base ts os = s.1.2 in
@@ -364,18 +381,18 @@ settle-alike metas (t ∷ ts) (o ∷ os) (also xs n) ns whole l s c =
     let r : RoleTree = (o.role, Some whole) in
     let done = o.done ++ r ∷ [] in
     let holds : Holds ns base done = holds-closed ns xs base n o.done o.role whole step.parent step.place s.0 step.holds c in
-    let core : TurnsAlike base (numbers.turns metas l ns (last_number base) t.at t.fetched es) (levels.turns metas l (with_roles [] (last_document base)) done (with_fetched t.fetched es)) =
-    turns-alike metas base (stands-bare base ts os rest) es ns done t.at t.fetched l (omega (arith, step.next, length-append o.done (r ∷ []))) step.fetched (more-roles all o.done r o.role es refl step.roles) holds in
-    let left : numbers.resumed metas l ns t ≡ numbers.turns metas l ns (last_number base) t.at t.fetched es =
-    ap (λ m. numbers.turns metas l ns m t.at t.fetched (drop t.at (roles_at m ns))) step.node
-    ∙ ap (λ rs. numbers.turns metas l ns (last_number base) t.at t.fetched (drop t.at rs)) (holds.same (last_number base) (omega arith) ∙ last-roles base) in
-    let right : levels.taken_up metas l whole o ≡ levels.turns metas l (with_roles [] (last_document base)) done (with_fetched t.fetched es) =
-    ap (λ x. levels.turns metas l x done o.left) step.document ∙ ap (levels.turns metas l (with_roles [] (last_document base)) done) step.left in
-    let both : TurnsAlike base (numbers.resumed metas l ns t) (levels.taken_up metas l whole o) =
-    subst (λ x. TurnsAlike base x (levels.taken_up metas l whole o)) (sym left)
-    (subst (TurnsAlike base (numbers.turns metas l ns (last_number base) t.at t.fetched es)) (sym right) core) in
-    by_turns-alike base ts os (numbers.resumed metas l ns t) (levels.taken_up metas l whole o) (λ ms j. numbers.settle metas j ms ts) (λ x j. levels.settle metas j x os) rest both
-    (λ ms j x z. settle-alike metas ts os base ms x j rest z)
+    let core : TurnsAlike base (numbers.turns metas x ns (last_number base) t.at t.fetched es) (levels.turns metas (names_of x) (with_roles [] (last_document base)) done (with_fetched t.fetched es)) =
+    turns-alike metas base (stands-bare base ts os rest) es ns done t.at t.fetched x (omega (arith, step.next, length-append o.done (r ∷ []))) step.fetched (more-roles all o.done r o.role es refl step.roles) holds in
+    let left : numbers.resumed metas x ns t ≡ numbers.turns metas x ns (last_number base) t.at t.fetched es =
+    ap (λ m. numbers.turns metas x ns m t.at t.fetched (drop t.at (roles_at m ns))) step.node
+    ∙ ap (λ rs. numbers.turns metas x ns (last_number base) t.at t.fetched (drop t.at rs)) (holds.same (last_number base) (omega arith) ∙ last-roles base) in
+    let right : levels.taken_up metas (names_of x) whole o ≡ levels.turns metas (names_of x) (with_roles [] (last_document base)) done (with_fetched t.fetched es) =
+    ap (λ y. levels.turns metas (names_of x) y done o.left) step.document ∙ ap (levels.turns metas (names_of x) (with_roles [] (last_document base)) done) step.left in
+    let both : TurnsAlike base (numbers.resumed metas x ns t) (levels.taken_up metas (names_of x) whole o) =
+    subst (λ y. TurnsAlike base y (levels.taken_up metas (names_of x) whole o)) (sym left)
+    (subst (TurnsAlike base (numbers.turns metas x ns (last_number base) t.at t.fetched es)) (sym right) core) in
+    by_turns-alike base ts os (numbers.resumed metas x ns t) (levels.taken_up metas (names_of x) whole o) (λ ms y. numbers.settle metas y ms ts) (λ h j. levels.settle metas j h os) rest both
+    (λ ms y h z. settle-alike metas ts os base ms h y rest z)
 
 -- ---- the work
 
@@ -386,19 +403,21 @@ module _ (metas : Metas) where
       let h = last_document ns in
       let es = listed_roles h.below in
       let first : TaskDoc = record { node = last_number ns; at = 0; fetched = w.fetched } in
-      let given : levels.Turns = levels.turns metas w.loaded (with_roles [] h) [] (with_fetched w.fetched es) in
-      let core : TurnsAlike ns (numbers.turns metas w.loaded ns (last_number ns) 0 w.fetched es) given =
-      turns-alike metas ns (stands-bare ns w.outer os s) es ns [] 0 w.fetched w.loaded refl bf refl (holds-itself ns [] tt) in
-      let left : numbers.resumed metas w.loaded ns first ≡ numbers.turns metas w.loaded ns (last_number ns) 0 w.fetched es =
-      ap (numbers.turns metas w.loaded ns (last_number ns) 0 w.fetched) (last-roles ns) in
-      by_turns-alike ns w.outer os (numbers.resumed metas w.loaded ns first) given (λ ms j. numbers.settle metas j ms w.outer) (λ x j. levels.settle metas j x os) s
+      let given : levels.Turns = levels.turns metas (names_of w.index) (with_roles [] h) [] (with_fetched w.fetched es) in
+      let core : TurnsAlike ns (numbers.turns metas w.index ns (last_number ns) 0 w.fetched es) given =
+      turns-alike metas ns (stands-bare ns w.outer os s) es ns [] 0 w.fetched w.index refl bf refl (holds-itself ns [] tt) in
+      let left : numbers.resumed metas w.index ns first ≡ numbers.turns metas w.index ns (last_number ns) 0 w.fetched es =
+      ap (numbers.turns metas w.index ns (last_number ns) 0 w.fetched) (last-roles ns) in
+      by_turns-alike ns w.outer os (numbers.resumed metas w.index ns first) given (λ ms j. numbers.settle metas j ms w.outer) (λ x j. levels.settle metas j x os) s
       (subst (λ x. TurnsAlike ns x given) (sym left) core) (λ ms j x z. settle-alike metas w.outer os ns ms x j s z)
   by_look-alike w os (unlisted name) s bf =
-      settle-alike metas w.outer os w.nodes w.nodes (last_document w.nodes) (add name w.loaded) s (closed-itself w.nodes (stands-bare w.nodes w.outer os s))
+      let y = put name None w.index in
+      subst (λ l. Alike (numbers.settle metas y w.nodes w.outer) (levels.settle metas l (last_document w.nodes) os)) (names-put name None w.index)
+      (settle-alike metas w.outer os w.nodes w.nodes (last_document w.nodes) y s (closed-itself w.nodes (stands-bare w.nodes w.outer os s)))
   by_look-alike w os (wanted waiting m) s bf = (os, refl, s, bf)
 
   pub go_on-alike : (w : WorkDoc) (os : List OpenDoc) → Stands w.nodes w.outer os → BareFetched w.fetched → Alike (numbers.go_on metas w) (levels.go_on metas (level_of w os))
-  go_on-alike w os s bf = by_look-alike w os (look metas w.loaded w.waiting) s bf
+  go_on-alike w os s bf = by_look-alike w os (look metas (names_of w.index) w.waiting) s bf
 
   kept-alike : (w : WorkDoc) (os : List OpenDoc) (waiting : List Entry) (h : HeldDoc) → IsBare h → Stands w.nodes w.outer os → BareFetched w.fetched
       → Alike (numbers.go_on metas (numbers.with_taken w waiting h)) (levels.go_on metas (levels.with_taken (level_of w os) waiting h))

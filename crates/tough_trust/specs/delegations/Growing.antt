@@ -1,7 +1,7 @@
 -- Which documents of delegated roles are fetched, and the tree that they make (TUF specification 1.0, section 5.6.7). A document's list
 -- of roles is fetched as a whole; then its roles get their documents in order, each with its own list before the next role. A document
 -- that gets its place gets the next number.
-use Rattle.std.specs.Prelude.{ℕ, suc, List, [], ◌∷◌, ◌++◌, drop, Option, Some, None, Bool, codes, if◌then◌else◌}
+use Rattle.std.specs.Prelude.{ℕ, suc, List, [], ◌∷◌, ◌++◌, drop, Option, Some, None, is_some, Bool, codes, if◌then◌else◌, cond}
 use Rattle.std.specs.Ordering.{nat_cmp}
 use Rattle.std.specs.Str.{bytes_eq}
 use Rattle.std.specs.Cmp.Lexicographic.{slice_cmp}
@@ -13,7 +13,7 @@ use Rattle.tough_schema.specs.Delegations.{DelegationsDoc}
 use Rattle.tough_schema.specs.Tree.{Entry}
 use Rattle.tough_schema.specs.Whole.{TreeDoc, HeldDoc, top_doc}
 use Rattle.tough_schema.specs.Update.{listed_roles}
-use Rattle.tough_schema.specs.Search.{Names, no_names, add}
+use Rattle.tough_schema.specs.Search.{Names}
 use Rattle.tough_trust.specs.delegations.Numbered.{NodeDoc, Nodes, targets, also, last_number, last_document, roles_at, tree_of, unnamed}
 
 -- what a snapshot lists
@@ -23,6 +23,21 @@ Metas = List (List ℕ × MetafileDoc)
 -- what it lists for a role
 abbrev pub listed_as : Metas → List ℕ → Option MetafileDoc
 listed_as metas name = lookup (bytes_eq (name ++ codes ".json")) metas
+
+-- ---- the names that had their turn
+
+-- each name that was loaded, with the number of its document, and each name that isn't in the snapshot, with none
+abbrev pub Index : Type 0
+Index = List ℕ → Option (Option ℕ)
+
+abbrev pub no_index : Index
+no_index q = None
+
+abbrev pub put : List ℕ → Option ℕ → Index → Index
+put name number index q = cond (bytes_eq name q) (Some number) (index q)
+
+abbrev pub names_of : Index → Names
+names_of index q = is_some (index q)
 
 -- ---- looking at a list
 
@@ -78,34 +93,39 @@ offered loaded number place e (Some h) = if loaded e.name then None else Some (r
 
 -- what a role's turn comes to
 pub data Turn : Type 0 where
-  past : Nodes → Names → Turn
+  past : Nodes → Index → Turn
   -- the list of its document is to be fetched, the last of these
-  stopped : Nodes → List Entry → MetafileDoc → Names → Turn
+  stopped : Nodes → List Entry → MetafileDoc → Index → Turn
 
-abbrev pub entered : Nodes → Names → Look → Turn
-entered nodes loaded through = past nodes loaded
-entered nodes loaded (unlisted name) = past nodes (add name loaded)
-entered nodes loaded (wanted waiting m) = stopped nodes waiting m loaded
+abbrev pub entered : Nodes → Index → Look → Turn
+entered nodes index through = past nodes index
+entered nodes index (unlisted name) = past nodes (put name None index)
+entered nodes index (wanted waiting m) = stopped nodes waiting m index
 
-abbrev pub turn : Metas → Names → Nodes → Entry → Option NodeDoc → Turn
-turn metas loaded nodes e None = past nodes loaded
-turn metas loaded nodes e (Some n) = entered (also nodes n) (add e.name loaded) (look metas (add e.name loaded) (listed_roles n.document.below))
+-- a document gets its place, the next number, and its name in the index
+abbrev pub placed : Metas → Nodes → Index → List ℕ → NodeDoc → Turn
+placed metas nodes index name n =
+    let more = put name (Some (last_number (also nodes n))) index in entered (also nodes n) more (look metas (names_of more) (listed_roles n.document.below))
+
+abbrev pub turn : Metas → Index → Nodes → Entry → Option NodeDoc → Turn
+turn metas index nodes e None = past nodes index
+turn metas index nodes e (Some n) = placed metas nodes index e.name n
 
 -- what the turns of the roles that are left come to
 pub data Turns : Type 0 where
-  all_past : Nodes → Names → Turns
-  stopped_at : Nodes → TaskDoc → List Entry → MetafileDoc → Names → Turns
+  all_past : Nodes → Index → Turns
+  stopped_at : Nodes → TaskDoc → List Entry → MetafileDoc → Index → Turns
 
-abbrev pub by_turn : TaskDoc → Turn → (Nodes → Names → Turns) → Turns
-by_turn left (past nodes loaded) next = next nodes loaded
-by_turn left (stopped nodes waiting m loaded) next = stopped_at nodes left waiting m loaded
+abbrev pub by_turn : TaskDoc → Turn → (Nodes → Index → Turns) → Turns
+by_turn left (past nodes index) next = next nodes index
+by_turn left (stopped nodes waiting m index) next = stopped_at nodes left waiting m index
 
-abbrev pub turns : Metas → Names → Nodes → ℕ → ℕ → Fetched → List Entry → Turns
-turns metas loaded nodes number place fetched [] = all_past nodes loaded
-turns metas loaded nodes number place fetched (e ∷ rest) =
+abbrev pub turns : Metas → Index → Nodes → ℕ → ℕ → Fetched → List Entry → Turns
+turns metas index nodes number place fetched [] = all_past nodes index
+turns metas index nodes number place fetched (e ∷ rest) =
     by_turn (record { node = number; at = suc place; fetched = fetched_after e fetched })
-    (turn metas loaded nodes e (offered loaded number place e (fetched_for e fetched)))
-    (λ ns l. turns metas l ns number (suc place) (fetched_after e fetched) rest)
+    (turn metas index nodes e (offered (names_of index) number place e (fetched_for e fetched)))
+    (λ ns x. turns metas x ns number (suc place) (fetched_after e fetched) rest)
 
 -- ---- the whole
 
@@ -114,8 +134,7 @@ pub record WorkDoc : Type 0 where
   pub nodes : Nodes
   -- the lists whose roles get their documents, the innermost first
   pub outer : List TaskDoc
-  -- the names that were loaded, or aren't in the snapshot
-  pub loaded : Names
+  pub index : Index
   pub fetched : Fetched
   -- the roles of the list from the one on whose document is wanted
   pub waiting : List Entry
@@ -126,35 +145,35 @@ pub data Progress : Type 0 where
   -- the tree is complete
   grown : SignedDoc TreeDoc → Progress
 
-abbrev pub by_turns : List TaskDoc → Turns → (Nodes → Names → Progress) → Progress
-by_turns outer (all_past nodes loaded) next = next nodes loaded
-by_turns outer (stopped_at nodes t waiting m loaded) next = wants (record { nodes = nodes; outer = t ∷ outer; loaded = loaded; fetched = []; waiting = waiting }) m
+abbrev pub by_turns : List TaskDoc → Turns → (Nodes → Index → Progress) → Progress
+by_turns outer (all_past nodes index) next = next nodes index
+by_turns outer (stopped_at nodes t waiting m index) next = wants (record { nodes = nodes; outer = t ∷ outer; index = index; fetched = []; waiting = waiting }) m
 
 -- the roles of a list that are left get their turns
-abbrev pub resumed : Metas → Names → Nodes → TaskDoc → Turns
-resumed metas loaded nodes t = turns metas loaded nodes t.node t.at t.fetched (drop t.at (roles_at t.node nodes))
+abbrev pub resumed : Metas → Index → Nodes → TaskDoc → Turns
+resumed metas index nodes t = turns metas index nodes t.node t.at t.fetched (drop t.at (roles_at t.node nodes))
 
 -- a list is done, and so on outwards
-abbrev pub settle : Metas → Names → Nodes → List TaskDoc → Progress
-settle metas loaded nodes [] = grown (unnamed (tree_of nodes))
-settle metas loaded nodes (t ∷ outer) = by_turns outer (resumed metas loaded nodes t) (λ ns l. settle metas l ns outer)
+abbrev pub settle : Metas → Index → Nodes → List TaskDoc → Progress
+settle metas index nodes [] = grown (unnamed (tree_of nodes))
+settle metas index nodes (t ∷ outer) = by_turns outer (resumed metas index nodes t) (λ ns x. settle metas x ns outer)
 
 -- a list was fetched: its roles get their turns
 abbrev pub give : Metas → WorkDoc → Progress
-give metas w = settle metas w.loaded w.nodes (record { node = last_number w.nodes; at = 0; fetched = w.fetched } ∷ w.outer)
+give metas w = settle metas w.index w.nodes (record { node = last_number w.nodes; at = 0; fetched = w.fetched } ∷ w.outer)
 
 -- a list was looked at
 abbrev pub by_look : Metas → WorkDoc → Look → Progress
 by_look metas w through = give metas w
-by_look metas w (unlisted name) = settle metas (add name w.loaded) w.nodes w.outer
+by_look metas w (unlisted name) = settle metas (put name None w.index) w.nodes w.outer
 by_look metas w (wanted waiting m) = wants (record w { waiting = waiting }) m
 
 abbrev pub go_on : Metas → WorkDoc → Progress
-go_on metas w = by_look metas w (look metas w.loaded w.waiting)
+go_on metas w = by_look metas w (look metas (names_of w.index) w.waiting)
 
 -- nothing was fetched yet
 abbrev pub first_work : HeldDoc → WorkDoc
-first_work top = record { nodes = targets top; outer = []; loaded = no_names; fetched = []; waiting = listed_roles top.below }
+first_work top = record { nodes = targets top; outer = []; index = no_index; fetched = []; waiting = listed_roles top.below }
 
 abbrev pub begun : Metas → HeldDoc → Progress
 begun metas top = go_on metas (first_work top)

@@ -1,5 +1,6 @@
 -- The tree that grows, seen as plain data.
 use Rattle.std.specs.Prelude.{ℕ, List, [], ◌∷◌, map, drop, Option, Some, None, String, string_bytes}
+use Rattle.std.specs.BTreeMap.{get_by_text}
 use Rattle.std.specs.Borrow.{Bor}
 use Rattle.std.specs.declared.alloc.Global.{Global}
 use Rattle.tough_roles.specs.Signature.{signed_doc, signatures_doc}
@@ -13,10 +14,9 @@ use Rattle.tough_schema.specs.declared.delegations.DelegatedRole.{DelegatedRole}
 use Rattle.tough_schema.specs.Tree.{Entry}
 use Rattle.tough_schema.specs.Whole.{HeldDoc, tree_doc, role_tree, held_doc}
 use Rattle.tough_schema.specs.Update.{listed_roles, roles_within}
-use Rattle.tough_schema.specs.Search.{Names}
-use Rattle.tough_schema.specs.Walk.{names_in}
 use Rattle.tough_trust.specs.declared.delegations.look.Look.{Look}
 use Rattle.tough_trust.specs.declared.delegations.look.Look.TheVariants as seen
+use Rattle.tough_trust.specs.declared.delegations.index.Index.{Index}
 use Rattle.tough_trust.specs.declared.delegations.nodes.Node.{Node}
 use Rattle.tough_trust.specs.declared.delegations.nodes.Nodes.{Nodes}
 use Rattle.tough_trust.specs.declared.delegations.turns.Task.{Task}
@@ -61,6 +61,10 @@ all_also ns (n ∷ rest) = all_also (numbered.also ns n) rest
 abbrev pub nodes_doc : Nodes → numbered.Nodes
 nodes_doc ns = all_also (numbered.targets (held_doc ns.top)) (map node_doc ns.others.items)
 
+-- the number of the document of each name that had its turn
+abbrev pub index_doc : Index → plain.Index
+index_doc x q = get_by_text x.numbers q
+
 -- the roles of the last document, from this place on
 abbrev pub waiting_in : numbered.Nodes → ℕ → List Entry
 waiting_in ns at = drop at (listed_roles (last_document ns).below)
@@ -75,19 +79,19 @@ look_doc es (seen.Wanted at m) = plain.wanted (drop at es) (metafile_doc m.now)
 abbrev pub task_doc : Task → TaskDoc
 task_doc t = record { node = t.node; at = t.at; fetched = fetched_doc t.fetched.entries }
 
-abbrev pub turn_doc : numbered.Nodes → Names → Option (ℕ × Bor Metafile) → plain.Turn
-turn_doc ns loaded None = plain.past ns loaded
-turn_doc ns loaded (Some (at, m)) = plain.stopped ns (waiting_in ns at) (metafile_doc m.now) loaded
+abbrev pub turn_doc : numbered.Nodes → plain.Index → Option (ℕ × Bor Metafile) → plain.Turn
+turn_doc ns index None = plain.past ns index
+turn_doc ns index (Some (at, m)) = plain.stopped ns (waiting_in ns at) (metafile_doc m.now) index
 
-abbrev pub turns_doc : numbered.Nodes → Names → Option Stop → plain.Turns
-turns_doc ns loaded None = plain.all_past ns loaded
-turns_doc ns loaded (Some s) = plain.stopped_at ns (task_doc s.task) (waiting_in ns s.at) (metafile_doc s.entry.now) loaded
+abbrev pub turns_doc : numbered.Nodes → plain.Index → Option Stop → plain.Turns
+turns_doc ns index None = plain.all_past ns index
+turns_doc ns index (Some s) = plain.stopped_at ns (task_doc s.task) (waiting_in ns s.at) (metafile_doc s.entry.now) index
 
 abbrev pub work_doc : Growth → WorkDoc
 work_doc g = record {
   nodes = nodes_doc g.nodes;
   outer = map task_doc g.outer.items;
-  loaded = names_in g.loaded;
+  index = index_doc g.index;
   fetched = fetched_doc g.fetched.entries;
   waiting = waiting_in (nodes_doc g.nodes) g.at;
 }

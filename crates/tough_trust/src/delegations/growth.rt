@@ -3,17 +3,17 @@
 ghost use Rattle.std.specs.Prelude.{◌≡◌, [], ◌∷◌, IfOk, map, option_map};
 ghost use Rattle.tough_roles.specs.Timestamp.{metafile_doc};
 ghost use Rattle.tough_schema.specs.Delegations.{delegations_doc};
-ghost use Rattle.tough_schema.specs.Walk.{names_in};
 ghost use Rattle.tough_schema.specs.Whole.{role_tree, held_doc};
 ghost use Rattle.tough_trust.specs.delegations.Growing.{wants, first_work, settle, give, go_on, first_of, holder_of, with_taken};
-ghost use Rattle.tough_trust.specs.delegations.View.{metas_of, top_held, waiting_in, nodes_doc, task_doc, work_doc, progress_doc};
+ghost use Rattle.tough_trust.specs.delegations.View.{metas_of, top_held, waiting_in, index_doc, nodes_doc, task_doc, work_doc, progress_doc};
 
+use crate::delegations::index::Index;
 use crate::delegations::list::roles_of;
 use crate::delegations::look::{Look, look_from};
 use crate::delegations::nodes::Nodes;
 use crate::delegations::turns::{Stop, Task, take_turns};
 use std::alloc::{AllocError, Global};
-use std::collections::{BTreeMap, BTreeSet, VecDeque};
+use std::collections::{BTreeMap, VecDeque};
 use tough_roles::{Metafile, Signed, Snapshot};
 use tough_schema::{DelegatedRole, DelegatedTargets, Delegations, Targets};
 
@@ -24,8 +24,8 @@ pub struct Growth {
     nodes: Nodes,
     // The lists whose roles get their documents, the innermost first.
     outer: VecDeque<Task>,
-    // The names that were loaded, or aren't in the snapshot.
-    loaded: BTreeSet<String>,
+    // Where the document of each name stands.
+    index: Index,
     // What was fetched for the list, by the names of its roles.
     fetched: BTreeMap<String, Signed<DelegatedTargets>>,
     // The place of the role whose document is wanted.
@@ -46,14 +46,14 @@ fn stop_at<'a>(
     alloc: Global,
     nodes: Nodes,
     mut outer: VecDeque<Task>,
-    loaded: BTreeSet<String>,
+    index: Index,
     stop: Stop<'a>,
 ) -> Result<Progress<'a>, AllocError>
     ensures { IfOk result (λ p. progress_doc p
         ≡ wants (record {
           nodes = nodes_doc nodes;
           outer = task_doc stop.entry.task ∷ map task_doc outer.items;
-          loaded = names_in loaded;
+          index = index_doc index;
           fetched = [];
           waiting = waiting_in (nodes_doc nodes) stop.entry.at;
         })
@@ -64,7 +64,7 @@ fn stop_at<'a>(
     let growth = Growth {
         nodes,
         outer,
-        loaded,
+        index,
         fetched: BTreeMap::new(alloc),
         at,
     };
@@ -77,15 +77,15 @@ fn settle<'a>(
     snapshot: &'a Snapshot,
     mut nodes: Nodes,
     mut outer: VecDeque<Task>,
-    mut loaded: BTreeSet<String>,
+    mut index: Index,
 ) -> Result<Progress<'a>, AllocError>
     ensures { IfOk result (λ p. progress_doc p
-        ≡ settle (metas_of snapshot.now) (names_in loaded) (nodes_doc nodes)
+        ≡ settle (metas_of snapshot.now) (index_doc index) (nodes_doc nodes)
         (map task_doc outer.items)) }
 {
     while let Some(task) = outer.pop_front() {
-        if let Some(stop) = take_turns(alloc, snapshot, &mut nodes, &mut loaded, task)? {
-            return stop_at(alloc, nodes, outer, loaded, stop);
+        if let Some(stop) = take_turns(alloc, snapshot, &mut nodes, &mut index, task)? {
+            return stop_at(alloc, nodes, outer, index, stop);
         }
     }
     Ok(Progress::Grown(nodes.into_tree()))
@@ -102,7 +102,7 @@ fn give<'a>(
     let Growth {
         nodes,
         mut outer,
-        loaded,
+        index,
         fetched,
         at: _,
     } = growth;
@@ -112,7 +112,7 @@ fn give<'a>(
         at: 0,
         fetched,
     })?;
-    settle(alloc, snapshot, nodes, outer, loaded)
+    settle(alloc, snapshot, nodes, outer, index)
 }
 
 impl Growth {
@@ -123,7 +123,7 @@ impl Growth {
         Growth {
             nodes: Nodes::new(alloc, Targets::named(targets, String::new(alloc))),
             outer: VecDeque::new(alloc),
-            loaded: BTreeSet::new(alloc),
+            index: Index::new(alloc),
             fetched: BTreeMap::new(alloc),
             at: 0,
         }
@@ -175,7 +175,7 @@ impl Growth {
         match look_from(
             alloc,
             snapshot,
-            &self.loaded,
+            &self.index,
             roles_of(self.nodes.last()),
             self.at,
         )? {
@@ -184,11 +184,11 @@ impl Growth {
                 let Growth {
                     nodes,
                     outer,
-                    mut loaded,
+                    mut index,
                     ..
                 } = self;
-                loaded.insert(name)?;
-                settle(alloc, snapshot, nodes, outer, loaded)
+                index.pass_over(name)?;
+                settle(alloc, snapshot, nodes, outer, index)
             }
             Look::Wanted(at, entry) => {
                 self.at = at;

@@ -45,6 +45,15 @@ pub fn wanted_is_listed()
         → WantsListed metas (runs metas (begun metas top) documents) }
 {}
 
+ghost use Rattle.tough_trust.specs.delegations.Indexed.{WantsIndexed};
+
+/// As long as the tree grows, its index tells where the documents stand: a name has a number exactly where the document of that number has
+/// its place under a role of the name.
+pub fn grows_indexed()
+    ensures { (metas : Metas) (top : HeldDoc) (documents : List HeldDoc)
+        → WantsIndexed (runs metas (begun metas top) documents) }
+{}
+
 ghost use Rattle.tough_roles.specs.declared.signed.Signed.{Signed};
 ghost use Rattle.tough_schema.specs.Whole.{held_doc};
 ghost use Rattle.tough_schema.specs.declared.targets.DelegatedTargets.{DelegatedTargets};

@@ -2,12 +2,11 @@
 
 ghost use Rattle.std.specs.Prelude.{◌≡◌, IfOk, drop, option_map};
 ghost use Rattle.tough_roles.specs.Timestamp.{metafile_doc};
-ghost use Rattle.tough_schema.specs.Walk.{names_in};
-ghost use Rattle.tough_trust.specs.delegations.Growing.{listed_as, look};
-ghost use Rattle.tough_trust.specs.delegations.View.{metas_of, entries_of, look_doc};
+ghost use Rattle.tough_trust.specs.delegations.Growing.{listed_as, look, names_of};
+ghost use Rattle.tough_trust.specs.delegations.View.{metas_of, entries_of, index_doc, look_doc};
 
+use crate::delegations::index::Index;
 use std::alloc::{AllocError, Global};
-use std::collections::BTreeSet;
 use tough_roles::{Metafile, Snapshot};
 use tough_schema::DelegatedRole;
 
@@ -35,20 +34,21 @@ fn entry_of<'a>(
     Ok(snapshot.meta.get(file.as_str()))
 }
 
-// The first role from this place on whose document is to be fetched.
+// The first role from this place on whose name had no turn: its document is to be fetched.
 pub(crate) fn look_from<'a>(
     alloc: Global,
     snapshot: &'a Snapshot,
-    loaded: &BTreeSet<String>,
+    index: &Index,
     roles: &[DelegatedRole],
     from: usize,
 ) -> Result<Look<'a>, AllocError>
     ensures { IfOk result (λ l. look_doc (entries_of roles.now) l
-        ≡ look (metas_of snapshot.now) (names_in loaded.now) (drop from (entries_of roles.now))) }
+        ≡ look (metas_of snapshot.now) (names_of (index_doc index.now))
+        (drop from (entries_of roles.now))) }
 {
     let mut at = from;
     while let Some(role) = roles.get(at) {
-        if !loaded.contains(role.name.as_str()) {
+        if !index.contains(role.name.as_str()) {
             return match entry_of(alloc, snapshot, role.name.as_str())? {
                 Some(entry) => Ok(Look::Wanted(at, entry)),
                 None => Ok(Look::Unlisted(role.name.clone()?)),

@@ -1,19 +1,16 @@
 //! The turns of the roles of a list.
 
 ghost use Rattle.std.specs.Prelude.{◌≡◌, IfOk, option_map, string_bytes};
-ghost use Rattle.tough_schema.specs.Walk.{names_in};
 ghost use Rattle.tough_schema.specs.Whole.{role_tree};
-ghost use Rattle.tough_schema.specs.Search.{add};
-ghost use Rattle.tough_schema.specs.Update.{listed_roles};
-ghost use Rattle.tough_trust.specs.delegations.Numbered.{also};
-ghost use Rattle.tough_trust.specs.delegations.Growing.{look, entered, offered, fetched_for, fetched_after, resumed};
-ghost use Rattle.tough_trust.specs.delegations.View.{metas_of, fetched_doc, node_doc, nodes_doc, task_doc, turn_doc, turns_doc};
+ghost use Rattle.tough_trust.specs.delegations.Growing.{names_of, offered, fetched_for, fetched_after, placed, resumed};
+ghost use Rattle.tough_trust.specs.delegations.View.{metas_of, fetched_doc, index_doc, node_doc, nodes_doc, task_doc, turn_doc, turns_doc};
 
+use crate::delegations::index::Index;
 use crate::delegations::list::roles_of;
 use crate::delegations::look::{Look, look_from};
 use crate::delegations::nodes::{Node, Nodes};
 use std::alloc::{AllocError, Global};
-use std::collections::{BTreeMap, BTreeSet};
+use std::collections::BTreeMap;
 use tough_roles::{Metafile, Signed, Snapshot};
 use tough_schema::{DelegatedRole, DelegatedTargets};
 
@@ -40,16 +37,16 @@ pub(crate) struct Stop<'a> {
 }
 
 // The document that a role gets, with its place: the one that was fetched for its name, unless the name was loaded by then.
-fn take_offer(task: &mut Task, role: &DelegatedRole, loaded: &BTreeSet<String>) -> Option<Node>
+fn take_offer(task: &mut Task, role: &DelegatedRole, index: &Index) -> Option<Node>
     ensures offer { option_map node_doc result
-        ≡ offered (names_in loaded.now) task.old.node task.old.at (role_tree role.now).0
+        ≡ offered (names_of (index_doc index.now)) task.old.node task.old.at (role_tree role.now).0
         (fetched_for (role_tree role.now).0 (fetched_doc task.old.fetched.entries)) }
     ensures fetched { fetched_doc task.new.fetched.entries
         ≡ fetched_after (role_tree role.now).0 (fetched_doc task.old.fetched.entries) }
     ensures place { (task.new.node ≡ task.old.node) × (task.new.at ≡ task.old.at) }
 {
     let document = task.fetched.remove(role.name.as_str())?;
-    if loaded.contains(role.name.as_str()) {
+    if index.contains(role.name.as_str()) {
         return None;
     }
     Some(Node {
@@ -59,27 +56,25 @@ fn take_offer(task: &mut Task, role: &DelegatedRole, loaded: &BTreeSet<String>) 
     })
 }
 
-// A document gets its place under a role of this name, unless its list is to be fetched.
+// A document gets its place, under a role of this name; then its own list is looked at.
 fn enter<'a>(
     alloc: Global,
     snapshot: &'a Snapshot,
     nodes: &mut Nodes,
-    loaded: &mut BTreeSet<String>,
+    index: &mut Index,
     name: String,
     node: Node,
 ) -> Result<Option<(usize, &'a Metafile)>, AllocError>
-    ensures { IfOk result (λ o. turn_doc (nodes_doc nodes.new) (names_in loaded.new) o
-        ≡ entered (also (nodes_doc nodes.old) (node_doc node))
-        (add (string_bytes name) (names_in loaded.old))
-        (look (metas_of snapshot.now) (add (string_bytes name) (names_in loaded.old))
-        (listed_roles (node_doc node).document.below))) }
+    ensures { IfOk result (λ o. turn_doc (nodes_doc nodes.new) (index_doc index.new) o
+        ≡ placed (metas_of snapshot.now) (nodes_doc nodes.old) (index_doc index.old)
+        (string_bytes name) (node_doc node)) }
 {
-    loaded.insert(name)?;
     nodes.push(node)?;
-    match look_from(alloc, snapshot, loaded, roles_of(nodes.last()), 0)? {
+    index.insert(name, nodes.last_number())?;
+    match look_from(alloc, snapshot, index, roles_of(nodes.last()), 0)? {
         Look::Through => Ok(None),
         Look::Unlisted(name) => {
-            loaded.insert(name)?;
+            index.pass_over(name)?;
             Ok(None)
         }
         Look::Wanted(at, entry) => Ok(Some((at, entry))),
@@ -91,19 +86,19 @@ pub(crate) fn take_turns<'a>(
     alloc: Global,
     snapshot: &'a Snapshot,
     nodes: &mut Nodes,
-    loaded: &mut BTreeSet<String>,
+    index: &mut Index,
     mut task: Task,
 ) -> Result<Option<Stop<'a>>, AllocError>
-    ensures { IfOk result (λ s. turns_doc (nodes_doc nodes.new) (names_in loaded.new) s
-        ≡ resumed (metas_of snapshot.now) (names_in loaded.old) (nodes_doc nodes.old)
+    ensures { IfOk result (λ s. turns_doc (nodes_doc nodes.new) (index_doc index.new) s
+        ≡ resumed (metas_of snapshot.now) (index_doc index.old) (nodes_doc nodes.old)
         (task_doc task)) }
 {
     while let Some(role) = nodes.role(task.node, task.at) {
-        let offer = take_offer(&mut task, role, loaded);
+        let offer = take_offer(&mut task, role, index);
         task.at += 1;
         if let Some(node) = offer {
             let name = role.name.clone()?;
-            if let Some((at, entry)) = enter(alloc, snapshot, nodes, loaded, name, node)? {
+            if let Some((at, entry)) = enter(alloc, snapshot, nodes, index, name, node)? {
                 return Ok(Some(Stop { task, at, entry }));
             }
         }

@@ -1,7 +1,6 @@
 use Rattle.std.proofs.Common.{rules, ◌≡◌, ◌∷◌, map, ap, ◌∙◌}
-use Rattle.tough_schema.specs.Walk.{names_in}
 use Rattle.tough_trust.specs.delegations.Growing.{TaskDoc, give, settle}
-use Rattle.tough_trust.specs.delegations.View.{metas_of, nodes_doc, task_doc, fetched_doc, work_doc, progress_doc}
+use Rattle.tough_trust.specs.delegations.View.{metas_of, index_doc, nodes_doc, task_doc, fetched_doc, work_doc, progress_doc}
 use Rattle.tough_trust.specs.declared.delegations.turns.Task.{Task}
 use Rattle.tough_trust.proofs.Turning.{if_ok-to}
 use Rattle.tough_trust.proofs.delegations.growth.give.Goals as goal
@@ -10,10 +9,10 @@ pub returns : goal.returns
 returns c =
     let metas = metas_of c.args.snapshot.now in
     let g = c.args.growth in
-    let names = names_in g.loaded in
+    let x = index_doc g.index in
     let ns = nodes_doc g.nodes in
     let task : Task = record { node = c.last_number-node.result; at = 0; fetched = g.fetched } in
     let pushed : c.push_front.new.self.items ≡ task ∷ g.outer.items = search rules in
-    if_ok-to c.settle.result (λ p. progress_doc p ≡ settle metas names ns (map task_doc c.push_front.new.self.items)) (λ p. progress_doc p ≡ give metas (work_doc g))
-    (λ p is. is ∙ ap (λ ts. settle metas names ns (map task_doc ts)) pushed
-    ∙ ap (λ n. let first : TaskDoc = record { node = n; at = 0; fetched = fetched_doc g.fetched.entries } in settle metas names ns (first ∷ map task_doc g.outer.items)) c.last_number-node.ensures) c.settle.ensures
+    if_ok-to c.settle.result (λ p. progress_doc p ≡ settle metas x ns (map task_doc c.push_front.new.self.items)) (λ p. progress_doc p ≡ give metas (work_doc g))
+    (λ p is. is ∙ ap (λ ts. settle metas x ns (map task_doc ts)) pushed
+    ∙ ap (λ n. let first : TaskDoc = record { node = n; at = 0; fetched = fetched_doc g.fetched.entries } in settle metas x ns (first ∷ map task_doc g.outer.items)) c.last_number-node.ensures) c.settle.ensures

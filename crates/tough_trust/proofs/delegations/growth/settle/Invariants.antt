@@ -1,13 +1,12 @@
 use Rattle.std.proofs.Common.{◌≡◌, map, length}
-use Rattle.tough_schema.specs.Walk.{names_in}
 use Rattle.tough_trust.specs.delegations.Growing.{settle}
-use Rattle.tough_trust.specs.delegations.View.{metas_of, nodes_doc, task_doc}
+use Rattle.tough_trust.specs.delegations.View.{metas_of, index_doc, nodes_doc, task_doc}
 use Rattle.tough_trust.proofs.delegations.growth.settle.Given as goal
 
 abbrev pub invariant-loop-task : goal.invariant-loop-task
 invariant-loop-task l =
-    settle (metas_of l.fn.snapshot) (names_in l.loaded) (nodes_doc l.nodes) (map task_doc l.outer.items)
-    ≡ settle (metas_of l.fn.snapshot) (names_in l.fn.loaded) (nodes_doc l.fn.nodes) (map task_doc l.fn.outer.items)
+    settle (metas_of l.fn.snapshot) (index_doc l.index) (nodes_doc l.nodes) (map task_doc l.outer.items)
+    ≡ settle (metas_of l.fn.snapshot) (index_doc l.fn.index) (nodes_doc l.fn.nodes) (map task_doc l.fn.outer.items)
 
 abbrev pub decreases-loop-task : goal.decreases-loop-task
 decreases-loop-task l = length l.outer.items

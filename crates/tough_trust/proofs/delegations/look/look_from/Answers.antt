@@ -1,15 +1,14 @@
 use Rattle.std.proofs.Common.{rules, ◌≡◌, true, false, Option, Some, None, string_bytes, sym, ◌∙◌}
 use Rattle.tough_roles.specs.Timestamp.{MetafileDoc, metafile_doc}
-use Rattle.tough_schema.specs.Walk.{names_in}
 use Rattle.tough_schema.specs.declared.delegations.DelegatedRole.{out-DelegatedRole}
-use Rattle.tough_trust.specs.delegations.Growing.{listed_as}
-use Rattle.tough_trust.specs.delegations.View.{metas_of}
+use Rattle.tough_trust.specs.delegations.Growing.{listed_as, names_of}
+use Rattle.tough_trust.specs.delegations.View.{metas_of, index_doc}
 use Rattle.tough_trust.proofs.Listing.{look-past, look-wanted, look-unlisted}
 use Rattle.tough_trust.proofs.delegations.look.look_from.Goals as goal
 
 pub returns-in-Some-2 : goal.returns-in-Some-2
 returns-in-Some-2 c =
-    let names = names_in c.args.loaded.now in
+    let names = names_of (index_doc c.args.index.now) in
     let metas = metas_of c.args.snapshot.now in
     let name = string_bytes (out-DelegatedRole c.in-Some.role.now).name in
     let new : names name ≡ false = search rules in
@@ -18,7 +17,7 @@ returns-in-Some-2 c =
 
 pub returns-in_ok-clone-in-None : goal.returns-in_ok-clone-in-None
 returns-in_ok-clone-in-None c =
-    let names = names_in c.args.loaded.now in
+    let names = names_of (index_doc c.args.index.now) in
     let metas = metas_of c.args.snapshot.now in
     let name = string_bytes (out-DelegatedRole c.in-Some.role.now).name in
     let new : names name ≡ false = search rules in
@@ -29,7 +28,7 @@ returns-in_ok-clone-in-None c =
 
 pub loop-role-preserved : goal.loop-role-preserved
 loop-role-preserved c =
-    let names = names_in c.args.loaded.now in
+    let names = names_of (index_doc c.args.index.now) in
     let metas = metas_of c.args.snapshot.now in
     let known : names (string_bytes (out-DelegatedRole c.in-Some.role.now).name) ≡ true = search rules in
     sym (look-past metas names c.args.roles.now c.loop-role.at c.in-Some.role c.in-Some.ensures.lookup known) ∙ c.loop-role.invariant

@@ -1,8 +1,8 @@
 use Rattle.std.proofs.Common.{rules, ◌≡◌, true, false, Some, None, option_map, string_bytes, ap, sym, ◌∙◌}
 use Rattle.std.specs.Map.{lookup, remove_entry}
 use Rattle.tough_schema.specs.declared.delegations.DelegatedRole.{out-DelegatedRole}
-use Rattle.tough_schema.specs.Walk.{names_in}
-use Rattle.tough_trust.specs.delegations.View.{node_doc}
+use Rattle.tough_trust.specs.delegations.Growing.{names_of}
+use Rattle.tough_trust.specs.delegations.View.{index_doc, node_doc}
 use Rattle.tough_trust.proofs.Listing.{query}
 use Rattle.tough_trust.proofs.Turning.{left-after, offered-none, offered-known, offered-new}
 use Rattle.tough_trust.proofs.delegations.turns.take_offer.Goals as goal
@@ -13,7 +13,7 @@ returns-in_err-document-clause-offer c =
     let none : c.from_residual.result ≡ None = search rules in
     let missing : c.remove.result ≡ None = search rules in
     let here : c.remove.result ≡ lookup (query (string_bytes (out-DelegatedRole c.args.role.now).name)) es = c.remove.ensures.value ∙ ap (λ n. lookup (query n) es) c.as_str.ensures.value in
-    ap (option_map node_doc) none ∙ offered-none c.args.role.now es (names_in c.args.loaded.now) c.args.task.now.node c.args.task.now.at (sym missing ∙ here)
+    ap (option_map node_doc) none ∙ offered-none c.args.role.now es (names_of (index_doc c.args.index.now)) c.args.task.now.node c.args.task.now.at (sym missing ∙ here)
 
 pub returns-in_err-document-clause-fetched : goal.returns-in_err-document-clause-fetched
 returns-in_err-document-clause-fetched c =
@@ -23,7 +23,7 @@ returns-in_err-document-clause-fetched c =
 pub returns-then-contains-clause-offer : goal.returns-then-contains-clause-offer
 returns-then-contains-clause-offer c =
     let es = c.args.task.now.fetched.entries in
-    let names = names_in c.args.loaded.now in
+    let names = names_of (index_doc c.args.index.now) in
     let name = string_bytes (out-DelegatedRole c.args.role.now).name in
     let found : c.remove.result ≡ Some c.in_ok-document.document = search rules in
     let here : c.remove.result ≡ lookup (query name) es = c.remove.ensures.value ∙ ap (λ n. lookup (query n) es) c.as_str.ensures.value in
@@ -38,7 +38,7 @@ returns-then-contains-clause-fetched c =
 pub returns-clause-offer : goal.returns-clause-offer
 returns-clause-offer c =
     let es = c.args.task.now.fetched.entries in
-    let names = names_in c.args.loaded.now in
+    let names = names_of (index_doc c.args.index.now) in
     let name = string_bytes (out-DelegatedRole c.args.role.now).name in
     let found : c.remove.result ≡ Some c.in_ok-document.document = search rules in
     let here : c.remove.result ≡ lookup (query name) es = c.remove.ensures.value ∙ ap (λ n. lookup (query n) es) c.as_str.ensures.value in

@@ -1,14 +1,13 @@
 use Rattle.std.proofs.Common.{◌≡◌, ◌-◌, length}
-use Rattle.tough_schema.specs.Walk.{names_in}
 use Rattle.tough_trust.specs.delegations.Numbered.{roles_at}
 use Rattle.tough_trust.specs.delegations.Growing.{resumed}
-use Rattle.tough_trust.specs.delegations.View.{metas_of, nodes_doc, task_doc}
+use Rattle.tough_trust.specs.delegations.View.{metas_of, index_doc, nodes_doc, task_doc}
 use Rattle.tough_trust.proofs.delegations.turns.take_turns.Given as goal
 
 abbrev pub invariant-loop-role : goal.invariant-loop-role
 invariant-loop-role l =
-    resumed (metas_of l.fn.snapshot) (names_in l.loaded) (nodes_doc l.nodes) (task_doc l.task)
-    ≡ resumed (metas_of l.fn.snapshot) (names_in l.fn.loaded) (nodes_doc l.fn.nodes) (task_doc l.fn.task)
+    resumed (metas_of l.fn.snapshot) (index_doc l.index) (nodes_doc l.nodes) (task_doc l.task)
+    ≡ resumed (metas_of l.fn.snapshot) (index_doc l.fn.index) (nodes_doc l.fn.nodes) (task_doc l.fn.task)
 
 abbrev pub decreases-loop-role : goal.decreases-loop-role
 decreases-loop-role l = length (roles_at l.task.node (nodes_doc l.nodes)) - l.task.at

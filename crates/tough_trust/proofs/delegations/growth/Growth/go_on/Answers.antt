@@ -1,10 +1,8 @@
 use Rattle.std.proofs.Common.{◌≡◌, List, drop, map, string_bytes, ap, sym, ◌∙◌}
 use Rattle.tough_roles.specs.Timestamp.{metafile_doc}
 use Rattle.tough_schema.specs.Tree.{Entry}
-use Rattle.tough_schema.specs.Walk.{names_in}
-use Rattle.tough_schema.proofs.lemmas.Walks.{names_in-insert}
-use Rattle.tough_trust.specs.delegations.Growing.{through, unlisted, wanted, look, wants, by_look, give, go_on, settle}
-use Rattle.tough_trust.specs.delegations.View.{metas_of, waiting_in, entries_of, look_doc, nodes_doc, task_doc, work_doc, progress_doc}
+use Rattle.tough_trust.specs.delegations.Growing.{names_of, through, unlisted, wanted, look, wants, by_look, give, go_on, settle}
+use Rattle.tough_trust.specs.delegations.View.{metas_of, waiting_in, entries_of, index_doc, look_doc, nodes_doc, task_doc, work_doc, progress_doc}
 use Rattle.tough_trust.proofs.Turning.{if_ok-to, listed-last}
 use Rattle.tough_trust.proofs.delegations.growth.Growth.go_on.Goals as goal
 
@@ -12,7 +10,7 @@ pub returns-in-Through : goal.returns-in-Through
 returns-in-Through c =
     let metas = metas_of c.args.snapshot.now in
     let g = c.args.self in
-    let names = names_in g.loaded in
+    let names = names_of (index_doc g.index) in
     let ns = nodes_doc g.nodes in
     let rs = c.roles_of.result.now in
     let listed = listed-last ns c.last.result.now rs c.last.ensures c.roles_of.ensures in
@@ -24,22 +22,22 @@ pub returns-in-Unlisted : goal.returns-in-Unlisted
 returns-in-Unlisted c =
     let metas = metas_of c.args.snapshot.now in
     let g = c.args.self in
-    let names = names_in g.loaded in
+    let names = names_of (index_doc g.index) in
     let ns = nodes_doc g.nodes in
     let outer = map task_doc g.outer.items in
     let rs = c.roles_of.result.now in
     let listed = listed-last ns c.last.result.now rs c.last.ensures c.roles_of.ensures in
     let seen : unlisted (string_bytes c.in-Unlisted.name) ≡ look metas names (waiting_in ns g.at) =
     sym (ap (look_doc (entries_of rs)) c.in-Unlisted.is) ∙ c.in_ok-look_from.ensures ∙ ap (λ (es : List Entry). look metas names (drop g.at es)) listed in
-    if_ok-to c.settle.result (λ p. progress_doc p ≡ settle metas (names_in c.insert.new.self) ns outer) (λ p. progress_doc p ≡ go_on metas (work_doc g))
-    (λ p is. is ∙ ap (λ n. settle metas n ns outer) (names_in-insert g.loaded c.insert.new.self c.in-Unlisted.name c.in_ok-insert-in-Unlisted.ensures.updates)
+    if_ok-to c.settle.result (λ p. progress_doc p ≡ settle metas (index_doc c.pass_over.new.self) ns outer) (λ p. progress_doc p ≡ go_on metas (work_doc g))
+    (λ p is. is ∙ ap (λ n. settle metas n ns outer) c.in_ok-pass_over-in-Unlisted.ensures
     ∙ ap (by_look metas (work_doc g)) seen) c.settle.ensures
 
 pub returns : goal.returns
 returns c =
     let metas = metas_of c.args.snapshot.now in
     let g = c.args.self in
-    let names = names_in g.loaded in
+    let names = names_of (index_doc g.index) in
     let ns = nodes_doc g.nodes in
     let rs = c.roles_of.result.now in
     let at = c.in-Wanted.at in
