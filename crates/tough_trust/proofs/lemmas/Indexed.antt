@@ -2,7 +2,7 @@
 use Rattle.std.specs.Bool.{⊤}
 use Rattle.std.specs.Prelude.{◌==◌}
 use Rattle.std.specs.Str.{bytes_eq}
-use Rattle.std.proofs.Common.{◌≡◌, ◌≤◌, ◌<◌, ℕ, zero, suc, drop, List, [], ◌∷◌, Bool, true, false, cond, if◌then◌else◌, Option, Some, None, is_some, option_map, refl, ap, sym, ◌∙◌, subst, true-eqb, arith}
+use Rattle.std.proofs.Common.{◌≡◌, ◌<◌, ℕ, zero, suc, drop, List, [], ◌∷◌, Bool, true, false, cond, if◌then◌else◌, Option, Some, None, is_some, option_map, refl, ap, sym, ◌∙◌, true-eqb, arith}
 use Rattle.std.proofs.Math.Seq.{drop-nil}
 use Rattle.std.proofs.lemmas.Slice.Eq.{bytes_eq-Decides}
 use Rattle.tough_roles.specs.Timestamp.{MetafileDoc}

@@ -10,7 +10,6 @@ use Rattle.std.proofs.lemmas.List.{map-append}
 use Rattle.std.proofs.lemmas.Map.Text.{is_eq-slice_cmp}
 use Rattle.std.proofs.lemmas.Slice.Eq.{bytes_eq-Decides}
 use Rattle.tough_roles.specs.Signature.{SignedDoc}
-use Rattle.tough_roles.specs.Timestamp.{MetafileDoc}
 use Rattle.tough_schema.specs.Delegations.{DelegationsDoc}
 use Rattle.tough_schema.specs.Targets.{TargetsDoc}
 use Rattle.tough_schema.specs.Tree.{Entry}

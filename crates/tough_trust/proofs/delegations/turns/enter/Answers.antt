@@ -1,4 +1,4 @@
-use Rattle.std.proofs.Common.{rules, ◌≡◌, drop, string_bytes, None, Some, ap, ◌∙◌}
+use Rattle.std.proofs.Common.{rules, ◌≡◌, drop, string_bytes, Some, ap, ◌∙◌}
 use Rattle.tough_roles.specs.Timestamp.{metafile_doc}
 use Rattle.tough_trust.specs.delegations.Numbered.{also, last_number}
 use Rattle.tough_trust.specs.delegations.Growing.{put, names_of, through, unlisted, wanted, look, past}

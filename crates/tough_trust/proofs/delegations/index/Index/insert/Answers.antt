@@ -1,4 +1,4 @@
-use Rattle.std.proofs.Common.{Some, None, string_bytes}
+use Rattle.std.proofs.Common.{Some, string_bytes}
 use Rattle.std.proofs.lemmas.Map.Text.{btree_map_updates_text}
 use Rattle.tough_trust.proofs.delegations.index.Index.insert.Goals as goal
 
