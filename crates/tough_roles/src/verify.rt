@@ -93,9 +93,9 @@ fn repeated(alloc: Global, signatures: &[Signature]) -> Result<Option<usize>, Al
     Ok(None)
 }
 
-/// Whether the signatures over the text reach the threshold that the role asks for. The refusals, in this order:
-/// `DuplicateKeyId`, `SignatureThreshold`.
-pub fn judge<V: Verify>(
+// Whether the signatures over the text reach the threshold that the role asks for. The refusals, in this order: `DuplicateKeyId`,
+// `SignatureThreshold`.
+fn judge<V: Verify>(
     alloc: Global,
     known: &BTreeMap<Decoded<Hex>, Key>,
     role: RoleType,
@@ -127,6 +127,40 @@ pub fn judge<V: Verify>(
     Ok(())
 }
 
+/// Whether the document's signatures reach the threshold that these keys ask for, of those that are known. The refusals, in this order:
+/// `JsonSerialization`, `DuplicateKeyId`, `SignatureThreshold`.
+pub fn verify_by<T: Role, V: Verify>(
+    alloc: Global,
+    known: &BTreeMap<Decoded<Hex>, Key>,
+    keys: &RoleKeys,
+    document: &Signed<T>,
+    verifier: &V,
+) -> Result<(), Error>
+    ensures verdict { Answers result
+        (verdict (V.verifies verifier.now)
+        (Some (policy_of (keys_doc known.now.entries) (role_keys_doc keys.now)))
+        (text_by T.json document.now.signed) (signatures_doc document.now.signatures.items)) }
+    ensures named { IfErr result
+        (λ e. Names T.TYPE (signatures_doc document.now.signatures.items) e) }
+{
+    match document.signed.canonical_form(alloc) {
+        Ok(text) => {
+            let text = text.as_slice();
+            judge(
+                alloc,
+                known,
+                T::TYPE,
+                keys,
+                text,
+                &document.signatures,
+                verifier,
+            )
+        }
+        Err(WriteError::Memory) => Err(Error::Memory),
+        Err(WriteError::Unwritable) => Err(Error::JsonSerialization { what: T::TYPE }),
+    }
+}
+
 // The verdict on the document's signatures under the root.
 fn answer<T: Role, V: Verify>(
     alloc: Global,
@@ -139,24 +173,9 @@ fn answer<T: Role, V: Verify>(
         (text_by T.json role.now.signed) (signatures_doc role.now.signatures.items)) }
     ensures named { IfErr result (λ e. Names T.TYPE (signatures_doc role.now.signatures.items) e) }
 {
-    let Some(keys) = root.roles.get(&T::TYPE) else {
-        return Err(Error::MissingRole { role: T::TYPE });
-    };
-    match role.signed.canonical_form(alloc) {
-        Ok(text) => {
-            let text = text.as_slice();
-            judge(
-                alloc,
-                &root.keys,
-                T::TYPE,
-                keys,
-                text,
-                &role.signatures,
-                verifier,
-            )
-        }
-        Err(WriteError::Memory) => Err(Error::Memory),
-        Err(WriteError::Unwritable) => Err(Error::JsonSerialization { what: T::TYPE }),
+    match root.roles.get(&T::TYPE) {
+        Some(keys) => verify_by(alloc, &root.keys, keys, role, verifier),
+        None => Err(Error::MissingRole { role: T::TYPE }),
     }
 }
 

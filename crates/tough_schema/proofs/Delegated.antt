@@ -74,19 +74,20 @@ there_at true enough a b x y h = let same : a ≡ MissingRole = cc in x same
 there_at false true a b x y h = cc
 there_at false false a b x y h = let same : b ≡ MissingRole = cc in y same
 
-there : (v : Verifies) (p : Policy) (text : List ℕ) (ss : List SignatureDoc) → verdict v (Some p) (Some text) ss ≡ Err MissingRole → ⊥
+there : (v : Verifies) (p : Policy) (text : Option (List ℕ)) (ss : List SignatureDoc) → verdict v (Some p) text ss ≡ Err MissingRole → ⊥
 unfolding verdict
-there v p text ss h = there_at (some_twice ss) (nat_le p.threshold (signer_count v p text ss)) DuplicateKeyId (SignatureThreshold p.threshold (signer_count v p text ss)) (λ e. cc) (λ e. cc) h
+there v p None ss h = cc
+there v p (Some text) ss h = there_at (some_twice ss) (nat_le p.threshold (signer_count v p text ss)) DuplicateKeyId (SignatureThreshold p.threshold (signer_count v p text ss)) (λ e. cc) (λ e. cc) h
 
-pub names-delegated : (name : List ℕ) (v : Verifies) (p : Policy) (text : List ℕ) (asked : RoleType) (ss : List SignatureDoc) (e : Error) → IsRefusal e (verdict v (Some p) (Some text) ss) → Names asked ss e → NamesDelegated name asked ss e
-names-delegated name v p text asked ss (errors.RoleNotFound role) r h = absurd h
-names-delegated name v p text asked ss (errors.MissingRole role) r h = there v p text ss r
-names-delegated name v p text asked ss (errors.JsonSerialization role) r h = h
-names-delegated name v p text asked ss (errors.DuplicateKeyId keyid) r h = h
-names-delegated name v p text asked ss (errors.SignatureThreshold role threshold valid) r h = h
-names-delegated name v p text asked ss errors.Memory r h = h
-names-delegated name v p text asked ss _ r h = absurd h
+names_delegated : (name : List ℕ) (v : Verifies) (p : Policy) (text : Option (List ℕ)) (asked : RoleType) (ss : List SignatureDoc) (e : Error) → IsRefusal e (verdict v (Some p) text ss) → Names asked ss e → NamesDelegated name asked ss e
+names_delegated name v p text asked ss (errors.RoleNotFound role) r h = absurd h
+names_delegated name v p text asked ss (errors.MissingRole role) r h = there v p text ss r
+names_delegated name v p text asked ss (errors.JsonSerialization role) r h = h
+names_delegated name v p text asked ss (errors.DuplicateKeyId keyid) r h = h
+names_delegated name v p text asked ss (errors.SignatureThreshold role threshold valid) r h = h
+names_delegated name v p text asked ss errors.Memory r h = h
+names_delegated name v p text asked ss _ r h = absurd h
 
-pub names-judged : (name : List ℕ) (v : Verifies) (p : Policy) (text : List ℕ) (asked : RoleType) (ss : List SignatureDoc) (result : Result Unit Error) → Answers result (verdict v (Some p) (Some text) ss) → IfErr result (λ e. Names asked ss e) → IfErr result (λ e. NamesDelegated name asked ss e)
+pub names-judged : (name : List ℕ) (v : Verifies) (p : Policy) (text : Option (List ℕ)) (asked : RoleType) (ss : List SignatureDoc) (result : Result Unit Error) → Answers result (verdict v (Some p) text ss) → IfErr result (λ e. Names asked ss e) → IfErr result (λ e. NamesDelegated name asked ss e)
 names-judged name v p text asked ss (Ok u) r h = tt
-names-judged name v p text asked ss (Err e) r h = names-delegated name v p text asked ss e r h
+names-judged name v p text asked ss (Err e) r h = names_delegated name v p text asked ss e r h

@@ -11,9 +11,8 @@ ghost use Rattle.tough_schema.specs.Verify.{role_keys, role_named, delegated_pol
 use crate::delegations::{DelegatedRole, Delegations};
 use serde_json::Map;
 use std::alloc::{AllocError, Global};
-use tough_json::error::WriteError;
 use tough_keys::Verify;
-use tough_roles::verify::judge;
+use tough_roles::verify::verify_by;
 use tough_roles::{Error, Role, RoleKeys, Signed};
 
 impl DelegatedRole {
@@ -57,27 +56,14 @@ fn answer<T: Role, V: Verify>(
     ensures named { IfErr result
         (λ e. NamesDelegated name.now T.TYPE (signatures_doc document.now.signatures.items) e) }
 {
-    let Some(role) = first_named(&delegations.roles, name) else {
-        return Err(Error::RoleNotFound {
-            name: String::from_str(alloc, name)?,
-        });
-    };
-    let keys = role.keys(alloc)?;
-    match document.signed.canonical_form(alloc) {
-        Ok(text) => {
-            let text = text.as_slice();
-            judge(
-                alloc,
-                &delegations.keys,
-                T::TYPE,
-                &keys,
-                text,
-                &document.signatures,
-                verifier,
-            )
+    match first_named(&delegations.roles, name) {
+        Some(role) => {
+            let keys = role.keys(alloc)?;
+            verify_by(alloc, &delegations.keys, &keys, document, verifier)
         }
-        Err(WriteError::Memory) => Err(Error::Memory),
-        Err(WriteError::Unwritable) => Err(Error::JsonSerialization { what: T::TYPE }),
+        None => Err(Error::RoleNotFound {
+            name: String::from_str(alloc, name)?,
+        }),
     }
 }
 

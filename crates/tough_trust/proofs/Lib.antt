@@ -1,6 +1,7 @@
 pub mod lemmas
 pub mod Rotated
 pub mod Listing
+pub mod Firsts
 pub mod Dressing
 pub mod Setting
 pub mod Noding

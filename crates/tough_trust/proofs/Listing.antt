@@ -24,7 +24,8 @@ use Rattle.tough_schema.specs.Search.{Names}
 use Rattle.tough_schema.specs.Whole.{Branches, RoleTree, NamedTree, DelegationsTree, put_branch, branches_from, branches_of, tree_doc, delegations_tree, role_tree, held_doc, entries_in, top_doc}
 use Rattle.tough_schema.proofs.lemmas.Wholes.{tree-out, delegations-out, role-out, named-out, top-tells}
 use Rattle.tough_trust.specs.delegations.Growing.{Metas, unlisted, wanted, look, looked, listed_as, at_name, first_of}
-use Rattle.tough_trust.specs.delegations.View.{entries_of, listed_in, fetched_doc}
+use Rattle.tough_trust.specs.delegations.Documents.{entries_of, listed_in}
+use Rattle.tough_trust.specs.delegations.View.{fetched_doc}
 
 -- ---- the roles of a document
 

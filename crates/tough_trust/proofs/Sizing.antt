@@ -12,7 +12,7 @@ use Rattle.tough_schema.specs.Whole.{role_tree, held_doc}
 use Rattle.tough_trust.specs.declared.delegations.nodes.Node.{Node}
 use Rattle.tough_trust.specs.declared.delegations.nodes.Nodes as real
 use Rattle.tough_trust.specs.delegations.Numbered.{Nodes, targets, also, last_number, last_document, roles_at}
-use Rattle.tough_trust.specs.delegations.View.{listed_in, node_doc, all_also, nodes_doc}
+use Rattle.tough_trust.specs.delegations.Documents.{listed_in, node_doc, all_also, nodes_doc}
 use Rattle.tough_trust.proofs.Listing.{listed-held}
 
 abbrev pub IsSmall : List Entry → Type 0

@@ -17,8 +17,9 @@ use Rattle.tough_schema.specs.Whole.{HeldDoc, role_tree, held_doc}
 use Rattle.tough_schema.specs.declared.delegations.DelegatedRole.{DelegatedRole, out-DelegatedRole}
 use Rattle.tough_schema.specs.declared.targets.DelegatedTargets.{DelegatedTargets}
 use Rattle.tough_trust.specs.delegations.Numbered.{NodeDoc, Nodes, also, last_number, last_document, roles_at}
-use Rattle.tough_trust.specs.delegations.Growing.{Metas, Index, put, names_of, Look, through, unlisted, wanted, look, Turn, past, stopped, entered, placed, offered, turn, by_turn, Turns, turns, Fetched, at_name, fetched_for, fetched_after, TaskDoc, WorkDoc, all_past, stopped_at, resumed, by_turns, settle, wants, first_of, with_taken}
-use Rattle.tough_trust.specs.delegations.View.{entries_of, listed_in, fetched_doc}
+use Rattle.tough_trust.specs.delegations.Growing.{Metas, Index, put, names_of, Look, through, unlisted, wanted, look, Turn, past, stopped, turn_by_look, place_node, offer_for, turn, by_turn, Turns, turns, Fetched, at_name, fetched_for, fetched_after, TaskDoc, WorkDoc, all_past, stopped_at, resumed, by_turns, settle, wants, first_of, with_taken}
+use Rattle.tough_trust.specs.delegations.Documents.{entries_of, listed_in}
+use Rattle.tough_trust.specs.delegations.View.{fetched_doc}
 use Rattle.tough_trust.proofs.Listing.{Held, query, role-name, listed-held, fetched-lookup, fetched-removed}
 use Rattle.tough_trust.proofs.Noding.{roles-kept}
 
@@ -39,21 +40,21 @@ module _ (role : DelegatedRole) (es : List Held) where
   left-after fs is = ap fetched_doc is ∙ sym (fetched-removed named es) ∙ ap (λ n. remove_entry (at_name n) (fetched_doc es)) (sym (role-name role))
 
   module _ (names : Names) (number place : ℕ) where
-    pub offered-none : None ≡ lookup (query named) es → None ≡ offered names number place (role_tree role).0 (fetched_for (role_tree role).0 (fetched_doc es))
-    offered-none is = sym (ap (offered names number place (role_tree role).0) (found None is))
+    pub offer_for-none : None ≡ lookup (query named) es → None ≡ offer_for names number place (role_tree role).0 (fetched_for (role_tree role).0 (fetched_doc es))
+    offer_for-none is = sym (ap (offer_for names number place (role_tree role).0) (found None is))
 
-    offered-by : (s : Signed DelegatedTargets) (b : Bool) → Some s ≡ lookup (query named) es → names named ≡ b
-        → (if b then None else Some (record { parent = number; at = place; document = held_doc s })) ≡ offered names number place (role_tree role).0 (fetched_for (role_tree role).0 (fetched_doc es))
-    offered-by s b is seen =
+    offer_for-by : (s : Signed DelegatedTargets) (b : Bool) → Some s ≡ lookup (query named) es → names named ≡ b
+        → (if b then None else Some (record { parent = number; at = place; document = held_doc s })) ≡ offer_for names number place (role_tree role).0 (fetched_for (role_tree role).0 (fetched_doc es))
+    offer_for-by s b is seen =
         let node : Option NodeDoc = Some (record { parent = number; at = place; document = held_doc s }) in
-        sym (ap (offered names number place (role_tree role).0) (found (Some s) is) ∙ ap (λ n. if names n then None else node) (role-name role) ∙ ap (λ c. if c then None else node) seen)
+        sym (ap (offer_for names number place (role_tree role).0) (found (Some s) is) ∙ ap (λ n. if names n then None else node) (role-name role) ∙ ap (λ c. if c then None else node) seen)
 
-    pub offered-known : (s : Signed DelegatedTargets) → Some s ≡ lookup (query named) es → names named ≡ true → None ≡ offered names number place (role_tree role).0 (fetched_for (role_tree role).0 (fetched_doc es))
-    offered-known s is seen = offered-by s true is seen
+    pub offer_for-known : (s : Signed DelegatedTargets) → Some s ≡ lookup (query named) es → names named ≡ true → None ≡ offer_for names number place (role_tree role).0 (fetched_for (role_tree role).0 (fetched_doc es))
+    offer_for-known s is seen = offer_for-by s true is seen
 
-    pub offered-new : (s : Signed DelegatedTargets) → Some s ≡ lookup (query named) es → names named ≡ false
-        → Some (record { parent = number; at = place; document = held_doc s }) ≡ offered names number place (role_tree role).0 (fetched_for (role_tree role).0 (fetched_doc es))
-    offered-new s is seen = offered-by s false is seen
+    pub offer_for-new : (s : Signed DelegatedTargets) → Some s ≡ lookup (query named) es → names named ≡ false
+        → Some (record { parent = number; at = place; document = held_doc s }) ≡ offer_for names number place (role_tree role).0 (fetched_for (role_tree role).0 (fetched_doc es))
+    offer_for-new s is seen = offer_for-by s false is seen
 
 -- ---- the role whose turn it is
 
@@ -72,10 +73,10 @@ some-there es at e h none = let lt : at < length es = some-within es at e h in l
 pub drop-next : (es : List Entry) (at : ℕ) → drop (at + 1) es ≡ drop 1 (drop at es)
 drop-next es at = sym (drop-drop 1 at es)
 
-pub entered-nodes : (ms ns : Nodes) (more x : Index) (l : Look) → past ms more ≡ entered ns x l → ms ≡ ns
-entered-nodes ms ns more x through h = cc
-entered-nodes ms ns more x (unlisted name) h = cc
-entered-nodes ms ns more x (wanted waiting m) h = absurd (cc (h))
+pub turn_by_look-nodes : (ms ns : Nodes) (more x : Index) (l : Look) → past ms more ≡ turn_by_look ns x l → ms ≡ ns
+turn_by_look-nodes ms ns more x through h = cc
+turn_by_look-nodes ms ns more x (unlisted name) h = cc
+turn_by_look-nodes ms ns more x (wanted waiting m) h = absurd (cc (h))
 
 -- ---- a document gets its place
 
@@ -86,14 +87,14 @@ listed-last ns s rs is own = ap entries_of own ∙ listed-held s ∙ ap (λ (x :
 module _ (metas : Metas) (x more : Index) (ns ms : Nodes) (n : NodeDoc) (s : Signed DelegatedTargets) (rs : List DelegatedRole) (name : List ℕ)
     (marked : more ≡ put name (Some (last_number ms)) x) (pushed : ms ≡ also ns n) (last : held_doc s ≡ last_document ms) (own : rs ≡ listed_in s) where
   abbrev pub entry : Turn
-  entry = placed metas ns x name n
+  entry = place_node metas ns x name n
 
-  pub enters : (l : Look) → l ≡ look metas (names_of more) (entries_of rs) → entered ms more l ≡ entry
+  pub enters : (l : Look) → l ≡ look metas (names_of more) (entries_of rs) → turn_by_look ms more l ≡ entry
   enters l seen =
       let listed : entries_of rs ≡ listed_roles n.document.below = listed-last ms s rs last own ∙ ap (λ (y : Nodes). listed_roles (last_document y).below) pushed in
       let numbered : more ≡ put name (Some (last_number (also ns n))) x = marked ∙ ap (λ (y : Nodes). put name (Some (last_number y)) x) pushed in
-      ap (entered ms more) (seen ∙ ap (look metas (names_of more)) listed) ∙ ap (λ (y : Nodes). entered y more (look metas (names_of more) (listed_roles n.document.below))) pushed
-      ∙ ap (λ (y : Index). entered (also ns n) y (look metas (names_of y) (listed_roles n.document.below))) numbered
+      ap (turn_by_look ms more) (seen ∙ ap (look metas (names_of more)) listed) ∙ ap (λ (y : Nodes). turn_by_look y more (look metas (names_of more) (listed_roles n.document.below))) pushed
+      ∙ ap (λ (y : Index). turn_by_look (also ns n) y (look metas (names_of y) (listed_roles n.document.below))) numbered
 
   pub enters-wanted : (at : ℕ) (m : MetafileDoc) → wanted (drop at (entries_of rs)) m ≡ look metas (names_of more) (entries_of rs) → stopped ms (drop at (listed_roles (last_document ms).below)) m more ≡ entry
   enters-wanted at m seen = ap (λ (es : List Entry). stopped ms (drop at es) m more) (sym (listed-last ms s rs last own)) ∙ enters (wanted (drop at (entries_of rs)) m) seen
@@ -116,13 +117,13 @@ module _ (metas : Metas) (x : Index) (ns : Nodes) (t : TaskDoc) where
 
   module _ (e : Entry) (there : Some e ≡ first_of now) where
     abbrev pub turned : Turn
-    turned = turn metas x ns e (offered (names_of x) t.node t.at e (fetched_for e t.fetched))
+    turned = turn metas x ns e (offer_for (names_of x) t.node t.at e (fetched_for e t.fetched))
 
-    pub turn-none : None ≡ offered (names_of x) t.node t.at e (fetched_for e t.fetched) → past ns x ≡ turned
+    pub turn-none : None ≡ offer_for (names_of x) t.node t.at e (fetched_for e t.fetched) → past ns x ≡ turned
     turn-none h = ap (turn metas x ns e) h
 
-    pub turn-some : (n : NodeDoc) (name : List ℕ) (r : Turn) → Some n ≡ offered (names_of x) t.node t.at e (fetched_for e t.fetched) → name ≡ e.name → r ≡ placed metas ns x name n → r ≡ turned
-    turn-some n name r offer same h = h ∙ ap (λ (q : List ℕ). placed metas ns x q n) same ∙ ap (turn metas x ns e) offer
+    pub turn-some : (n : NodeDoc) (name : List ℕ) (r : Turn) → Some n ≡ offer_for (names_of x) t.node t.at e (fetched_for e t.fetched) → name ≡ e.name → r ≡ place_node metas ns x name n → r ≡ turned
+    turn-some n name r offer same h = h ∙ ap (λ (q : List ℕ). place_node metas ns x q n) same ∙ ap (turn metas x ns e) offer
 
     step : (r : Turn) → r ≡ turned
         → by_turn (record { node = t.node; at = suc t.at; fetched = fetched_after e t.fetched }) r (λ ms y. turns metas y ms t.node (suc t.at) (fetched_after e t.fetched) (drop 1 now)) ≡ resumed metas x ns t

@@ -11,7 +11,6 @@ use Rattle.tough_checks.specs.DocumentName.{name_of}
 use Rattle.tough_checks.specs.Files.{targets_file}
 use Rattle.tough_checks.specs.declared.checks.StepError.{StepError}
 use Rattle.tough_roles.specs.Root.{root_doc}
-use Rattle.tough_schema.specs.Delegations.{delegations_doc}
 use Rattle.tough_trust.specs.declared.request.Request.{Request}
 use Rattle.tough_trust.specs.declared.holder.Holder.{Holder}
 use Rattle.tough_trust.specs.declared.holder.Holder.TheVariants as holds
@@ -19,14 +18,15 @@ use Rattle.tough_trust.specs.declared.act.Act.{Act}
 use Rattle.tough_trust.specs.declared.act.Act.TheVariants as to
 use Rattle.tough_trust.specs.Failure.{Failure, step_failure}
 use Rattle.tough_trust.specs.Requests.{RequestDoc}
-use Rattle.tough_trust.specs.Listed.{HolderDoc, by_root, by_delegations, targets_text}
+use Rattle.tough_trust.specs.Listed.{HolderDoc, by_root, role_holder, targets_text}
+use Rattle.tough_trust.specs.delegations.View.{work_doc}
 
 abbrev pub request_doc : Request → RequestDoc
 request_doc r = record { name = string_bytes r.name; max_size = r.max_size; specifier = r.specifier.now; sha256 = option_map (λ d. d.items) r.sha256 }
 
 abbrev pub holder_doc : Holder → HolderDoc
 holder_doc (holds.Root root) = by_root (root_doc root.now)
-holder_doc (holds.Delegations g name) = by_delegations (option_map (λ d. delegations_doc d.now) g) name.now
+holder_doc (holds.Role growth) = role_holder (work_doc growth.now)
 
 -- ---- steps on a store
 

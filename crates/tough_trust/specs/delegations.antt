@@ -1,5 +1,7 @@
 pub mod Numbered
 pub mod Growing
+pub mod Firsts
+pub mod Documents
 pub mod View
 pub mod Bare
 pub mod Once

@@ -10,24 +10,25 @@ ghost use Rattle.tough_schema.specs.Whole.{tree_doc};
 ghost use Rattle.tough_schema.specs.Entries.{first_missing};
 ghost use Rattle.tough_trust.specs.delegations.View.{work_doc};
 ghost use Rattle.tough_trust.specs.Failure.{Gives};
-ghost use Rattle.tough_trust.specs.Listed.{wanted_name, holder_in, targets_verdict, targets_refusal, judged, all_found};
+ghost use Rattle.tough_trust.specs.Listed.{wanted_name, role_holder, holder_in, targets_verdict, targets_refusal, judged, all_found};
 ghost use Rattle.tough_trust.specs.View.{holder_doc};
 
 use crate::delegations::Growth;
 use crate::error::UpdateError;
 use jiff::Timestamp as Instant;
 use std::alloc::Global;
+use tough_roles::verify::verify_by;
 use tough_roles::{self as schema, ReadError, RoleType, Root, Signed, Verify};
-use tough_schema::{Delegations, Targets};
+use tough_schema::Targets;
 use tough_vault::{ExpirationEnforcement, StepError, check_expiry, check_signed, check_version};
 
-/// Who vouches for targets: a root, or the delegations that a role of this name stands in.
+/// Who vouches for targets: a root, or the delegations that a role stands in, with its name.
 #[derive(Drop)]
 pub enum Holder<'a> {
     /// A root.
     Root(&'a Root),
-    /// The delegations, if there are any, and the role's name.
-    Delegations(Option<&'a Delegations>, &'a str),
+    /// The delegations and the name of the role whose document is wanted.
+    Role(&'a Growth),
 }
 
 /// The name of the role whose document is wanted.
@@ -48,8 +49,30 @@ pub fn holder_of<'a>(root: &'a Root, growth: Option<&'a Growth>) -> Holder<'a>
 {
     match growth {
         None => Holder::Root(root),
-        Some(growth) => Holder::Delegations(growth.holder(), wanted_name(growth)),
+        Some(growth) => Holder::Role(growth),
     }
+}
+
+// Whether the targets reach the threshold of the first role that has the name of the wanted one.
+fn verify_wanted<V: Verify>(
+    alloc: Global,
+    growth: &Growth,
+    targets: &Signed<Targets>,
+    verifier: &V,
+) -> Result<(), schema::Error>
+    ensures { Answers result (targets_verdict (V.verifies verifier.now)
+        (role_holder (work_doc growth.now)) (signed_doc targets_doc targets.now)) }
+{
+    let name = wanted_name(growth);
+    if let Some(delegations) = growth.holder() {
+        if let Some(role) = growth.role_named(name) {
+            let keys = role.keys(alloc)?;
+            return verify_by(alloc, &delegations.keys, &keys, targets, verifier);
+        }
+    }
+    Err(schema::Error::RoleNotFound {
+        name: String::from_str(alloc, name)?,
+    })
 }
 
 impl Holder<'_> {
@@ -65,12 +88,7 @@ impl Holder<'_> {
     {
         match self {
             Holder::Root(root) => root.verify_role(alloc, targets, verifier),
-            Holder::Delegations(Some(delegations), name) => {
-                delegations.verify_role(alloc, targets, name, verifier)
-            }
-            Holder::Delegations(None, name) => Err(schema::Error::RoleNotFound {
-                name: String::from_str(alloc, name)?,
-            }),
+            Holder::Role(growth) => verify_wanted(alloc, growth, targets, verifier),
         }
     }
 }

@@ -85,7 +85,7 @@ pub(crate) fn begin_roles(
         alloc,
         limits,
         known,
-        Growth::new(alloc, targets),
+        Growth::new(alloc, targets)?,
         Vec::new(alloc),
     )
 }

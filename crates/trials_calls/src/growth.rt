@@ -82,7 +82,7 @@ fn grow(alloc: Global, case: &Value) -> Result<String> {
     let snapshot = snapshot(alloc, text(case, "listed"))?.signed;
     let top = document(alloc, text(case, "roles"))?;
     let mut wanted: Vec<String> = Vec::new(alloc);
-    let mut growth = Growth::new(alloc, top);
+    let mut growth = Growth::new(alloc, top)?;
     for _ in 0..100 {
         growth = match growth.go_on(alloc, &snapshot)? {
             Progress::Grown(tree) => return told(alloc, wanted.as_slice(), &tree.signed),

@@ -24,7 +24,7 @@ use Rattle.tough_schema.specs.Fresh.{carriers, carriers_below}
 use Rattle.tough_schema.specs.Whole.{OwnDoc, TreeDoc, tree, Branches, no_branches, unloaded, loaded, branches_from, HeldDoc, RoleTree, entries_in, top_doc}
 use Rattle.tough_trust.specs.delegations.Bare.{all_unloaded, bare_tree, bare, held_as}
 use Rattle.tough_trust.specs.delegations.Growing.{Metas, listed_as, Look, wanted, look, Fetched, at_name}
-use Rattle.tough_trust.proofs.lemmas.Levels.{with_fetched, refilled, with_roles, OpenDoc, past, entered, by_turn, turns, WorkDoc, Progress, wants, grown, by_turns, settle, give, by_look, go_on, begun}
+use Rattle.tough_trust.proofs.lemmas.Levels.{with_fetched, refilled, with_roles, OpenDoc, past, turn_by_look, by_turn, turns, WorkDoc, Progress, wants, grown, by_turns, settle, give, by_look, go_on, begun}
 use Rattle.tough_trust.specs.delegations.Once.{is_among, Distinct}
 use Rattle.tough_trust.specs.delegations.Under.{Relation, Under, Below}
 use Rattle.tough_trust.specs.delegations.Full.{AreFull, IsFull, names_of, fetch_order, inner_order}
@@ -283,12 +283,12 @@ has-left k f (unloaded e bs) h a = absurd a
 has-left k f (loaded e name signatures t bs) h a =
     let both = or-halves (bytes_eq e.name k) (is_among k (names_of bs)) h in (found-left e.name k f both.0 ∙ a.0, has-left k f bs both.1 a.1)
 
-offered : (f : Fetched) (bs : Branches) → Distinct (names_of bs) → HasAll f bs → with_fetched f (entries_in bs) ≡ offers bs
-offered f no_branches d a = refl
-offered f (unloaded e bs) d a = absurd a
-offered f (loaded e name signatures t bs) d a =
+offer_for : (f : Fetched) (bs : Branches) → Distinct (names_of bs) → HasAll f bs → with_fetched f (entries_in bs) ≡ offers bs
+offer_for f no_branches d a = refl
+offer_for f (unloaded e bs) d a = absurd a
+offer_for f (loaded e name signatures t bs) d a =
     ap (λ (o : Option HeldDoc). (e, o) ∷ with_fetched (remove_entry (at_name e.name) f) (entries_in bs)) a.0
-    ∙ ap (λ (rs : List RoleTree). (e, Some (bare_held e.name signatures t)) ∷ rs) (offered (remove_entry (at_name e.name) f) bs d.1 (has-left e.name f bs d.0 a.1))
+    ∙ ap (λ (rs : List RoleTree). (e, Some (bare_held e.name signatures t)) ∷ rs) (offer_for (remove_entry (at_name e.name) f) bs d.1 (has-left e.name f bs d.0 a.1))
 
 -- ---- a document whose roles were taken out, and put in
 
@@ -358,7 +358,7 @@ module _ (metas : Metas) (U : Relation) (Goes : List (List ℕ) → Progress →
   -- the turn of a role whose name is new
   abbrev entering : List OpenDoc → Names → HeldDoc → List RoleTree → Entry → HeldDoc → List RoleTree → Progress
   entering outer seen d done e h left =
-      by_turns outer (by_turn d done left (entered e h seen (look metas seen (listed_roles h.below))) (λ s l. turns metas l d (done ++ s ∷ []) left)) (next outer)
+      by_turns outer (by_turn d done left (turn_by_look e h seen (look metas seen (listed_roles h.below))) (λ s l. turns metas l d (done ++ s ∷ []) left)) (next outer)
 
   abbrev opened : HeldDoc → List RoleTree → Entry → List RoleTree → OpenDoc
   opened d done e left = record { document = d; done = done; role = e; left = left }
@@ -380,7 +380,7 @@ module _ (metas : Metas) (U : Relation) (Goes : List (List ℕ) → Progress →
       let looks : look metas seen (listed_roles h.below) ≡ wanted (x ∷ entries_in bs) listed.0 = ap (look metas seen) waits ∙ look-new metas seen x (entries_in bs) listed.0 n.0 listed.1 in
       let w = work (opened d done e left ∷ outer) seen h [] (x ∷ entries_in bs) in
       let same : entering outer seen d done e h left ≡ start (opened d done e left ∷ outer) seen h =
-      ap (λ (l : Look). by_turns outer (by_turn d done left (entered e h seen l) (λ s v. turns metas v d (done ++ s ∷ []) left)) (next outer)) looks
+      ap (λ (l : Look). by_turns outer (by_turn d done left (turn_by_look e h seen l) (λ s v. turns metas v d (done ++ s ∷ []) left)) (next outer)) looks
       ∙ sym (ap (λ (es : List Entry). go_on metas (work (opened d done e left ∷ outer) seen h [] es)) waits ∙ ap (by_look metas w) (look-new metas seen x (entries_in bs) listed.0 n.0 listed.1)) in
       subst (λ (p : Progress). Goes (fetch_order whole) p left_over) (sym same) go
 
@@ -402,7 +402,7 @@ module _ (metas : Metas) (U : Relation) (Goes : List (List ℕ) → Progress →
         let rest : Goes (inner_order bs) (turning outer later d (done ++ full ∷ []) left) end = takes_turns outer later d (done ++ full ∷ []) g bs f.2 u.2 n.2 in
         let both : Goes (fetch_order t ++ inner_order bs) (entering outer now d done e hb left) end = chained (fetch_order t) (inner_order bs) (entering outer now d done e hb left) (turning outer later d (done ++ full ∷ []) left) end first rest in
         let turned_up : turning outer seen d done ((e, Some hb) ∷ left) ≡ entering outer now d done e hb left =
-        ap (λ (b : Bool). by_turns outer (by_turn d done left (if b then past (e, None) seen else entered e hb now (look metas now (listed_roles hb.below))) (λ s l. turns metas l d (done ++ s ∷ []) left)) (next outer)) n.0 in
+        ap (λ (b : Bool). by_turns outer (by_turn d done left (if b then past (e, None) seen else turn_by_look e hb now (look metas now (listed_roles hb.below))) (λ s l. turns metas l d (done ++ s ∷ []) left)) (next outer)) n.0 in
         subst (λ (p : Progress). Goes (fetch_order t ++ inner_order bs) p (settle metas (after later bs) (with_roles (done ++ full ∷ fulls bs) d) outer)) (sym turned_up)
         (subst (λ (rs : List RoleTree). Goes (fetch_order t ++ inner_order bs) (entering outer now d done e hb left) (settle metas (after later bs) (with_roles rs d) outer)) (append_assoc done (full ∷ []) (fulls bs)) both)
 
@@ -421,7 +421,7 @@ module _ (metas : Metas) (U : Relation) (Goes : List (List ℕ) → Progress →
         let end = settle metas (after seen bs) (full_held name signatures t) outer in
         let first : Goes (names_of bs) (start outer seen h) (give metas got) =
         subst (λ (es : List Entry). Goes (names_of bs) (go_on metas (work outer seen h [] es)) (give metas got)) (sym waits) (fetches outer seen h [] bs f under (own-new seen bs n)) in
-        let given_all : with_fetched all (listed_roles h.below) ≡ offers bs = ap (with_fetched all) waits ∙ offered all bs (own-distinct seen bs n) (filled-all [] bs f (own-distinct seen bs n)) in
+        let given_all : with_fetched all (listed_roles h.below) ≡ offers bs = ap (with_fetched all) waits ∙ offer_for all bs (own-distinct seen bs n) (filled-all [] bs f (own-distinct seen bs n)) in
         let whole : with_roles ([] ++ fulls bs) (with_roles [] h) ≡ full_held name signatures t =
         ap (λ (x : TreeDoc). full_held name signatures (refilled (fulls bs) (refilled [] x))) below ∙ ap (full_held name signatures) (refilled-at (is_some o.keys) o bs f keys) in
         let turns_all : Goes (inner_order bs) (turning outer seen (with_roles [] h) [] (offers bs)) (settle metas (after seen bs) (with_roles (fulls bs) (with_roles [] h)) outer) = takes_turns outer seen (with_roles [] h) [] (top_doc t).delegations bs f u n in

@@ -11,7 +11,7 @@ use Rattle.tough_schema.specs.Tree.{Entry}
 use Rattle.tough_schema.specs.Update.{listed_roles}
 use Rattle.tough_schema.specs.Whole.{HeldDoc}
 use Rattle.tough_trust.specs.delegations.Numbered.{NodeDoc, Nodes, targets, also, last_number, roles_at}
-use Rattle.tough_trust.specs.delegations.Growing.{Metas, Index, no_index, put, names_of, Look, through, unlisted, wanted, look, looked, listed_as, Fetched, fetched_for, fetched_after, offered, TaskDoc, Turn, past, stopped, entered, turn, Turns, all_past, stopped_at, by_turn, turns, resumed, WorkDoc, Progress, wants, grown, by_turns, settle, by_look, go_on, first_work, begun, first_of, with_taken, taken}
+use Rattle.tough_trust.specs.delegations.Growing.{Metas, Index, no_index, put, names_of, Look, through, unlisted, wanted, look, looked, listed_as, Fetched, fetched_for, fetched_after, offer_for, TaskDoc, Turn, past, stopped, turn_by_look, turn, Turns, all_past, stopped_at, by_turn, turns, resumed, WorkDoc, Progress, wants, grown, by_turns, settle, by_look, go_on, first_work, begun, first_of, with_taken, taken}
 use Rattle.tough_trust.specs.delegations.Indexed.{name_of, name_at, IsIndexOf, WantsIndexed}
 use Rattle.tough_trust.specs.delegations.Once.{runs}
 use Rattle.tough_trust.proofs.Noding.{roles-kept}
@@ -71,20 +71,20 @@ module _ (ns : Nodes) (x : Index) (h : IsIndexOf ns x) (name : List ℕ) (new : 
         let none : None ≡ Some q = sym (late-name ns k (omega (arith, same))) ∙ has in absurd (cc none)
     earlier q k false is has = other-name ns n k is ∙ has
 
-    placed-there : (q : List ℕ) (k : ℕ) (b : Bool) → bytes_eq name q ≡ b → put name (Some top) x q ≡ Some (Some k) → name_at k (also ns n) ≡ Some q
-    placed-there q k true is has = last-name ns n k (number-same k (sym (put-same name q (Some top) x is) ∙ has)) ∙ named ∙ ap Some (same-name name q is)
-    placed-there q k false is has = earlier q k (k == top) refl ((h q k).0 (sym (put-other name q (Some top) x is) ∙ has))
+    place_node-there : (q : List ℕ) (k : ℕ) (b : Bool) → bytes_eq name q ≡ b → put name (Some top) x q ≡ Some (Some k) → name_at k (also ns n) ≡ Some q
+    place_node-there q k true is has = last-name ns n k (number-same k (sym (put-same name q (Some top) x is) ∙ has)) ∙ named ∙ ap Some (same-name name q is)
+    place_node-there q k false is has = earlier q k (k == top) refl ((h q k).0 (sym (put-other name q (Some top) x is) ∙ has))
 
-    placed-back : (q : List ℕ) (k : ℕ) (c : Bool) → (k == top) ≡ c → name_at k (also ns n) ≡ Some q → put name (Some top) x q ≡ Some (Some k)
-    placed-back q k true is has =
+    place_node-back : (q : List ℕ) (k : ℕ) (c : Bool) → (k == top) ≡ c → name_at k (also ns n) ≡ Some q → put name (Some top) x q ≡ Some (Some k)
+    place_node-back q k true is has =
         let named-so : Some name ≡ Some q = sym named ∙ sym (last-name ns n k is) ∙ has in
         let same : name ≡ q = cc named-so in
         put-same name q (Some top) x ((bytes_eq-Decides name q).1 same) ∙ ap (λ m. Some (Some m)) (sym (true-eqb k top (sym is)))
-    placed-back q k false is has = kept-there q k (Some top) (bytes_eq name q) refl ((h q k).1 (sym (other-name ns n k is) ∙ has))
+    place_node-back q k false is has = kept-there q k (Some top) (bytes_eq name q) refl ((h q k).1 (sym (other-name ns n k is) ∙ has))
 
     -- a document that gets its place under a role of the name
-    pub placed-indexed : IsIndexOf (also ns n) (put name (Some top) x)
-    placed-indexed = λ q k. (placed-there q k (bytes_eq name q) refl, placed-back q k (k == top) refl)
+    pub place_node-indexed : IsIndexOf (also ns n) (put name (Some top) x)
+    place_node-indexed = λ q k. (place_node-there q k (bytes_eq name q) refl, place_node-back q k (k == top) refl)
 
 -- ---- the turns
 
@@ -118,10 +118,10 @@ module _ (metas : Metas) where
     TurnIndexed (past ns x) = IsIndexOf ns x × (roles_at p ns ≡ all)
     TurnIndexed (stopped ns waiting m x) = IsIndexOf ns x
 
-    entered-indexed : (ns : Nodes) (x : Index) (k : Look) → IsIndexOf ns x → roles_at p ns ≡ all → LookNew (names_of x) k → TurnIndexed (entered ns x k)
-    entered-indexed ns x through h kept new = (h, kept)
-    entered-indexed ns x (unlisted name) h kept new = (passed-indexed ns x h name new, kept)
-    entered-indexed ns x (wanted waiting m) h kept new = h
+    turn_by_look-indexed : (ns : Nodes) (x : Index) (k : Look) → IsIndexOf ns x → roles_at p ns ≡ all → LookNew (names_of x) k → TurnIndexed (turn_by_look ns x k)
+    turn_by_look-indexed ns x through h kept new = (h, kept)
+    turn_by_look-indexed ns x (unlisted name) h kept new = (passed-indexed ns x h name new, kept)
+    turn_by_look-indexed ns x (wanted waiting m) h kept new = h
 
     module _ (ns : Nodes) (x : Index) (h : IsIndexOf ns x) (here : roles_at p ns ≡ all) (k : ℕ) (e : Entry) (rest : List Entry) (now : drop k all ≡ e ∷ rest) where
       abbrev found : HeldDoc → NodeDoc
@@ -138,9 +138,9 @@ module _ (metas : Metas) where
       by-name false d is =
           let more = put e.name (Some (suc (last_number ns))) x in
           let es = listed_roles d.below in
-          entered-indexed (also ns (found d)) more (look metas (names_of more) es) (placed-indexed ns x h e.name is (found d) (named d)) (roles-kept ns (found d) p there ∙ here) (look-new (names_of more) es)
+          turn_by_look-indexed (also ns (found d)) more (look metas (names_of more) es) (place_node-indexed ns x h e.name is (found d) (named d)) (roles-kept ns (found d) p there ∙ here) (look-new (names_of more) es)
 
-      turn-indexed : (o : Option HeldDoc) → TurnIndexed (turn metas x ns e (offered (names_of x) p k e o))
+      turn-indexed : (o : Option HeldDoc) → TurnIndexed (turn metas x ns e (offer_for (names_of x) p k e o))
       turn-indexed None = (h, here)
       turn-indexed (Some d) = by-name (names_of x e.name) d refl
 
@@ -157,7 +157,7 @@ module _ (metas : Metas) where
   turns-indexed p all [] ns x k f h here now = h
   turns-indexed p all (e ∷ es) ns x k f h here now =
       let more = fetched_after e f in
-      by_turn-indexed p all (record { node = p; at = suc k; fetched = more }) (turn metas x ns e (offered (names_of x) p k e (fetched_for e f))) (λ ms y. turns metas y ms p (suc k) more es)
+      by_turn-indexed p all (record { node = p; at = suc k; fetched = more }) (turn metas x ns e (offer_for (names_of x) p k e (fetched_for e f))) (λ ms y. turns metas y ms p (suc k) more es)
       (turn-indexed p all ns x h here k e es now (fetched_for e f)) (λ ms y g same. turns-indexed p all es ms y (suc k) more g same (rest-left all k e es now))
 
   -- ---- outwards

@@ -20,7 +20,7 @@ use Rattle.tough_schema.specs.Entries.{documents_of, documents_below}
 use Rattle.tough_schema.specs.Fresh.{carriers, carriers_below}
 use Rattle.tough_schema.specs.Preorder.{Occurrence, preorder, preorder_below}
 use Rattle.tough_trust.specs.delegations.Growing.{Metas, listed_as, Look, through, unlisted, wanted, look, looked, Fetched, at_name}
-use Rattle.tough_trust.proofs.lemmas.Levels.{with_fetched, refilled, with_roles, OpenDoc, Turn, past, stopped, entered, turn, Turns, all_past, stopped_at, by_turn, turns, WorkDoc, Progress, wants, grown, by_turns, taken_up, settle, give, by_look, go_on, first_work, begun, with_taken, taken}
+use Rattle.tough_trust.proofs.lemmas.Levels.{with_fetched, refilled, with_roles, OpenDoc, Turn, past, stopped, turn_by_look, turn, Turns, all_past, stopped_at, by_turn, turns, WorkDoc, Progress, wants, grown, by_turns, taken_up, settle, give, by_look, go_on, first_work, begun, with_taken, taken}
 use Rattle.tough_trust.specs.delegations.Once.{is_among, Distinct, IsBare}
 use Rattle.tough_trust.proofs.lemmas.Once.{at_role, in_roles, roles-last, WorkFine, ProgressFine, taken-fine, begun-fine}
 
@@ -204,10 +204,10 @@ module _ (metas : Metas) where
   TurnListed (past r l) = Listed (at_role r)
   TurnListed (stopped e h waiting m l) = FirstListed waiting × Listed (e.name ∷ carriers_below h.below)
 
-  entered-listed : (e : Entry) (h : HeldDoc) (l : Names) (k : Look) → Listed (e.name ∷ carriers_below h.below) → LookListed k → TurnListed (entered e h l k)
-  entered-listed e h l through x y = x
-  entered-listed e h l (unlisted n) x y = x
-  entered-listed e h l (wanted waiting m) x y = (y, x)
+  turn_by_look-listed : (e : Entry) (h : HeldDoc) (l : Names) (k : Look) → Listed (e.name ∷ carriers_below h.below) → LookListed k → TurnListed (turn_by_look e h l k)
+  turn_by_look-listed e h l through x y = x
+  turn_by_look-listed e h l (unlisted n) x y = x
+  turn_by_look-listed e h l (wanted waiting m) x y = (y, x)
 
   turn-on : (b : Bool) (s t : Turn) → TurnListed s → TurnListed t → TurnListed (if b then s else t)
   turn-on true s t x y = x
@@ -217,7 +217,7 @@ module _ (metas : Metas) where
   turn-listed l (e, None) x = tt
   turn-listed l (e, Some h) x =
       let k = look metas (add e.name l) (listed_roles h.below) in
-      turn-on (l e.name) (past (e, None) l) (entered e h (add e.name l) k) tt (entered-listed e h (add e.name l) k x (look-listed (add e.name l) (listed_roles h.below)))
+      turn-on (l e.name) (past (e, None) l) (turn_by_look e h (add e.name l) k) tt (turn_by_look-listed e h (add e.name l) k x (look-listed (add e.name l) (listed_roles h.below)))
 
   abbrev TurnsListed : Turns → Type 0
   TurnsListed (all_past h l) = Listed (carriers_below h.below)

@@ -48,17 +48,17 @@ pub data Turn : Type 0 where
   -- the list of its document is to be fetched
   stopped : Entry → HeldDoc → List Entry → MetafileDoc → Names → Turn
 
-abbrev pub entered : Entry → HeldDoc → Names → Look → Turn
-entered e h loaded through = past (e, Some h) loaded
-entered e h loaded (unlisted name) = past (e, Some h) (add name loaded)
-entered e h loaded (wanted waiting m) = stopped e h waiting m loaded
+abbrev pub turn_by_look : Entry → HeldDoc → Names → Look → Turn
+turn_by_look e h loaded through = past (e, Some h) loaded
+turn_by_look e h loaded (unlisted name) = past (e, Some h) (add name loaded)
+turn_by_look e h loaded (wanted waiting m) = stopped e h waiting m loaded
 
 -- a role whose name was loaded by then gets no document
 abbrev pub turn : Metas → Names → RoleTree → Turn
 turn metas loaded (e, None) = past (e, None) loaded
 turn metas loaded (e, Some h) =
     if loaded e.name then past (e, None) loaded
-    else entered e h (add e.name loaded) (look metas (add e.name loaded) (listed_roles h.below))
+    else turn_by_look e h (add e.name loaded) (look metas (add e.name loaded) (listed_roles h.below))
 
 -- what the turns of the roles that are left come to
 pub data Turns : Type 0 where

@@ -7,7 +7,7 @@ use Rattle.tough_schema.specs.Update.{listed_roles}
 use Rattle.tough_schema.specs.Search.{Names}
 use Rattle.tough_schema.specs.Whole.{HeldDoc}
 use Rattle.tough_trust.specs.delegations.Numbered.{NodeDoc, Nodes, also, last_number, last_document, roles_at}
-use Rattle.tough_trust.specs.delegations.Growing.{Metas, Index, put, names_of, Look, through, unlisted, wanted, look, looked, listed_as, offered, fetched_for, fetched_after, Fetched, TaskDoc, Turn, past, stopped, entered, turn, Turns, all_past, stopped_at, by_turn, turns, resumed, WorkDoc, here, Progress, wants, grown, by_turns, settle, by_look, go_on, first_work, begun, with_taken, taken}
+use Rattle.tough_trust.specs.delegations.Growing.{Metas, Index, put, names_of, Look, through, unlisted, wanted, look, looked, listed_as, offer_for, fetched_for, fetched_after, Fetched, TaskDoc, Turn, past, stopped, turn_by_look, turn, Turns, all_past, stopped_at, by_turn, turns, resumed, WorkDoc, here, Progress, wants, grown, by_turns, settle, by_look, go_on, first_work, begun, with_taken, taken}
 use Rattle.tough_trust.specs.delegations.Listed.{IsListed, WantsListed}
 use Rattle.tough_trust.specs.delegations.Once.{runs}
 
@@ -48,17 +48,17 @@ module _ (metas : Metas) where
   TurnsListed (all_past ns l) = ⊤
   TurnsListed (stopped_at ns t waiting m l) = IsListed metas (listed_roles (last_document ns).below) waiting m
 
-  entered-listed : (ns : Nodes) (l : Index) (k : Look) → LookListed (listed_roles (last_document ns).below) k → TurnListed (entered ns l k)
-  entered-listed ns l through x = tt
-  entered-listed ns l (unlisted n) x = tt
-  entered-listed ns l (wanted waiting m) x = x
+  turn_by_look-listed : (ns : Nodes) (l : Index) (k : Look) → LookListed (listed_roles (last_document ns).below) k → TurnListed (turn_by_look ns l k)
+  turn_by_look-listed ns l through x = tt
+  turn_by_look-listed ns l (unlisted n) x = tt
+  turn_by_look-listed ns l (wanted waiting m) x = x
 
   turn-listed : (l : Index) (ns : Nodes) (e : Entry) (o : Option NodeDoc) → TurnListed (turn metas l ns e o)
   turn-listed l ns e None = tt
   turn-listed l ns e (Some n) =
       let all = listed_roles n.document.below in
       let more = put e.name (Some (last_number (also ns n))) l in
-      entered-listed (also ns n) more (look metas (names_of more) all) (look-listed all all (names_of more) ([], refl))
+      turn_by_look-listed (also ns n) more (look metas (names_of more) all) (look-listed all all (names_of more) ([], refl))
 
   by_turn-listed : (left : TaskDoc) (t : Turn) (next : Nodes → Index → Turns) → TurnListed t → ((ns : Nodes) (l : Index) → TurnsListed (next ns l)) → TurnsListed (by_turn left t next)
   by_turn-listed left (past ns l) next h k = k ns l
@@ -67,8 +67,8 @@ module _ (metas : Metas) where
   turns-listed : (ns : Nodes) (p k : ℕ) (f : Fetched) (es : List Entry) (l : Index) → TurnsListed (turns metas l ns p k f es)
   turns-listed ns p k f [] l = tt
   turns-listed ns p k f (e ∷ es) l =
-      by_turn-listed (record { node = p; at = suc k; fetched = fetched_after e f }) (turn metas l ns e (offered (names_of l) p k e (fetched_for e f)))
-      (λ ms j. turns metas j ms p (suc k) (fetched_after e f) es) (turn-listed l ns e (offered (names_of l) p k e (fetched_for e f)))
+      by_turn-listed (record { node = p; at = suc k; fetched = fetched_after e f }) (turn metas l ns e (offer_for (names_of l) p k e (fetched_for e f)))
+      (λ ms j. turns metas j ms p (suc k) (fetched_after e f) es) (turn-listed l ns e (offer_for (names_of l) p k e (fetched_for e f)))
       (λ ms j. turns-listed ms p (suc k) (fetched_after e f) es j)
 
   -- ---- outwards

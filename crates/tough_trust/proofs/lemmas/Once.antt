@@ -13,7 +13,7 @@ use Rattle.tough_schema.specs.Update.{listed_roles}
 use Rattle.tough_schema.specs.Search.{Names, no_names, add}
 use Rattle.tough_schema.specs.Whole.{TreeDoc, tree, Branches, put_branch, branches_from, HeldDoc, RoleTree}
 use Rattle.tough_trust.specs.delegations.Growing.{Metas, Look, through, unlisted, wanted, look, Fetched, at_name}
-use Rattle.tough_trust.proofs.lemmas.Levels.{with_fetched, refilled, with_roles, OpenDoc, Turn, past, stopped, entered, turn, Turns, all_past, stopped_at, by_turn, turns, WorkDoc, Progress, wants, grown, by_turns, taken_up, settle, give, by_look, first_work, begun, with_taken, taken}
+use Rattle.tough_trust.proofs.lemmas.Levels.{with_fetched, refilled, with_roles, OpenDoc, Turn, past, stopped, turn_by_look, turn, Turns, all_past, stopped_at, by_turn, turns, WorkDoc, Progress, wants, grown, by_turns, taken_up, settle, give, by_look, first_work, begun, with_taken, taken}
 use Rattle.tough_schema.specs.Fresh.{carriers, carriers_below}
 use Rattle.tough_trust.specs.delegations.Once.{is_among, Distinct, IsBare, AreBare}
 use Rattle.tough_trust.proofs.lemmas.Levels.{runs}
@@ -191,11 +191,11 @@ raised : (xs : List (List ℕ)) (done : List RoleTree) (e : Entry) (h : HeldDoc)
 raised xs done e h loaded bare k = subst (λ l. Once l loaded)
     (append_assoc xs (in_roles done) (e.name ∷ []) ∙ ap (λ l. xs ++ l) (sym (roles-last done (e, Some h) ∙ ap (λ l. in_roles done ++ e.name ∷ l) bare))) k
 
-entered-fine : (xs : List (List ℕ)) (done : List RoleTree) (e : Entry) (h : HeldDoc) (loaded : Names) (l : Look) → IsBare h → Once ((xs ++ in_roles done) ++ e.name ∷ []) loaded
-    → TurnFine xs done (entered e h loaded l)
-entered-fine xs done e h loaded through bare k = raised xs done e h loaded bare k
-entered-fine xs done e h loaded (unlisted n) bare k = once-more (xs ++ in_roles (done ++ (e, Some h) ∷ [])) n loaded (raised xs done e h loaded bare k)
-entered-fine xs done e h loaded (wanted waiting m) bare k = (k, bare)
+turn_by_look-fine : (xs : List (List ℕ)) (done : List RoleTree) (e : Entry) (h : HeldDoc) (loaded : Names) (l : Look) → IsBare h → Once ((xs ++ in_roles done) ++ e.name ∷ []) loaded
+    → TurnFine xs done (turn_by_look e h loaded l)
+turn_by_look-fine xs done e h loaded through bare k = raised xs done e h loaded bare k
+turn_by_look-fine xs done e h loaded (unlisted n) bare k = once-more (xs ++ in_roles (done ++ (e, Some h) ∷ [])) n loaded (raised xs done e h loaded bare k)
+turn_by_look-fine xs done e h loaded (wanted waiting m) bare k = (k, bare)
 
 turn-on : (xs : List (List ℕ)) (done : List RoleTree) (s t : Turn) (b : Bool) → TurnFine xs done s → (b ≡ false → TurnFine xs done t) → TurnFine xs done (if b then s else t)
 turn-on xs done s t true x y = x
@@ -204,9 +204,9 @@ turn-on xs done s t false x y = y refl
 turn-fine : (metas : Metas) (xs : List (List ℕ)) (done : List RoleTree) (loaded : Names) (r : RoleTree) → BareAt r → Once (xs ++ in_roles done) loaded → TurnFine xs done (turn metas loaded r)
 turn-fine metas xs done loaded (e, None) bare k = flat xs done e loaded k
 turn-fine metas xs done loaded (e, Some h) bare k =
-    turn-on xs done (past (e, None) loaded) (entered e h (add e.name loaded) (look metas (add e.name loaded) (listed_roles h.below))) (loaded e.name)
+    turn-on xs done (past (e, None) loaded) (turn_by_look e h (add e.name loaded) (look metas (add e.name loaded) (listed_roles h.below))) (loaded e.name)
     (flat xs done e loaded k)
-    (λ new. entered-fine xs done e h (add e.name loaded) (look metas (add e.name loaded) (listed_roles h.below)) bare (once-last (xs ++ in_roles done) e.name loaded k new))
+    (λ new. turn_by_look-fine xs done e h (add e.name loaded) (look metas (add e.name loaded) (listed_roles h.below)) bare (once-last (xs ++ in_roles done) e.name loaded k new))
 
 by_turn-fine : (xs : List (List ℕ)) (d : HeldDoc) (done left : List RoleTree) (t : Turn) (next : RoleTree → Names → Turns) → BareRoles left → IsBare d → TurnFine xs done t
     → ((s : RoleTree) (l : Names) → Once (xs ++ in_roles (done ++ s ∷ [])) l → TurnsFine xs (next s l)) → TurnsFine xs (by_turn d done left t next)

@@ -14,7 +14,7 @@ use Rattle.tough_schema.specs.Update.{listed_roles}
 use Rattle.tough_schema.specs.Whole.{TreeDoc, tree, Branches, no_branches, unloaded, loaded, branches_from, entries_in, HeldDoc, RoleTree}
 use Rattle.tough_trust.specs.delegations.Numbered.{NodeDoc, Nodes, targets, also, last_number, last_document, roles_at, Hanging, nothing_hangs, hang, dressed, tree_with, tree_of}
 use Rattle.tough_trust.specs.delegations.Growing as numbers
-use Rattle.tough_trust.specs.delegations.Growing.{Metas, Index, put, names_of, Look, through, unlisted, wanted, look, Fetched, fetched_for, fetched_after, offered, TaskDoc, WorkDoc, Progress}
+use Rattle.tough_trust.specs.delegations.Growing.{Metas, Index, put, names_of, Look, through, unlisted, wanted, look, Fetched, fetched_for, fetched_after, offer_for, TaskDoc, WorkDoc, Progress}
 use Rattle.tough_trust.specs.delegations.Once.{IsBare, AreBare, runs}
 use Rattle.tough_trust.specs.delegations.Under.{Relation, AllTaken}
 use Rattle.tough_trust.specs.delegations.Tallies.{tally}
@@ -149,7 +149,7 @@ holds-closed ns xs base n done e whole parent place bare x c =
     let p = last_number base in
     let q = suc (last_number xs) in
     let inside = c.done in
-    let placed : n ≡ node_at p n.at n.document = ap (λ m. node_at m n.at n.document) parent in
+    let place_node : n ≡ node_at p n.at n.document = ap (λ m. node_at m n.at n.document) parent in
     record {
       reach = omega (arith, x.reach, c.holds.reach);
       same = λ m le. c.holds.same m (omega (arith, le, x.reach)) ∙ earlier-roles xs n m (omega (arith, le, x.reach)) ∙ x.same m le;
@@ -290,18 +290,18 @@ module _ (metas : Metas) (base : Nodes) (bare : IsBare (last_document base)) whe
   listed_here = listed_roles (last_document base).below
 
   -- a document enters
-  entered-alike : (ns : Nodes) (done : List RoleTree) (k : ℕ) (e : Entry) (h : HeldDoc) (rest : List Entry) (f : Fetched) (x : Index) (seen : Look) (next : Nodes → Index → numbers.Turns) (nexts : RoleTree → Names → levels.Turns)
+  turn_by_look-alike : (ns : Nodes) (done : List RoleTree) (k : ℕ) (e : Entry) (h : HeldDoc) (rest : List Entry) (f : Fetched) (x : Index) (seen : Look) (next : Nodes → Index → numbers.Turns) (nexts : RoleTree → Names → levels.Turns)
       → k ≡ length done → IsBare h → BareFetched f → listed_here ≡ roles_in done ++ e ∷ rest → Holds ns base done
       → ((ms : Nodes) (r : RoleTree) (y : Index) → r.0 ≡ e → Holds ms base (done ++ r ∷ []) → TurnsAlike base (next ms y) (nexts r (names_of y)))
-      → TurnsAlike base (numbers.by_turn (record { node = p; at = suc k; fetched = f }) (numbers.entered (also ns (node_at p k h)) x seen) next)
-      (levels.by_turn d done (with_fetched f rest) (levels.entered e h (names_of x) seen) nexts)
-  entered-alike ns done k e h rest f x through next nexts is bh bf roles holds go =
+      → TurnsAlike base (numbers.by_turn (record { node = p; at = suc k; fetched = f }) (numbers.turn_by_look (also ns (node_at p k h)) x seen) next)
+      (levels.by_turn d done (with_fetched f rest) (levels.turn_by_look e h (names_of x) seen) nexts)
+  turn_by_look-alike ns done k e h rest f x through next nexts is bh bf roles holds go =
       go (also ns (node_at p k h)) (e, Some h) x refl (holds-some ns base done e k h is bh holds)
-  entered-alike ns done k e h rest f x (unlisted name) next nexts is bh bf roles holds go =
+  turn_by_look-alike ns done k e h rest f x (unlisted name) next nexts is bh bf roles holds go =
       let ms = also ns (node_at p k h) in
       let y = put name None x in
       subst (λ l. TurnsAlike base (next ms y) (nexts (e, Some h) l)) (names-put name None x) (go ms (e, Some h) y refl (holds-some ns base done e k h is bh holds))
-  entered-alike ns done k e h rest f x (wanted waiting m) next nexts is bh bf roles holds go =
+  turn_by_look-alike ns done k e h rest f x (wanted waiting m) next nexts is bh bf roles holds go =
       let left : drop (suc k) listed_here ≡ rest = left-after listed_here done e rest k is roles in (
         record { document = d; done = done; role = e; left = with_fetched f rest },
         refl,
@@ -324,19 +324,19 @@ module _ (metas : Metas) (base : Nodes) (bare : IsBare (last_document base)) whe
       → ((ms : Nodes) (r : RoleTree) (y : Index) → r.0 ≡ e → Holds ms base (done ++ r ∷ []) → TurnsAlike base (next ms y) (nexts r (names_of y)))
       → TurnsAlike base (numbers.by_turn (record { node = p; at = suc k; fetched = f }) (numbers.turn metas x ns e (if b then None else Some (node_at p k h))) next)
       (levels.by_turn d done (with_fetched f rest)
-      (if b then levels.past (e, None) (names_of x) else levels.entered e h (add e.name (names_of x)) (look metas (add e.name (names_of x)) (listed_roles h.below))) nexts)
+      (if b then levels.past (e, None) (names_of x) else levels.turn_by_look e h (add e.name (names_of x)) (look metas (add e.name (names_of x)) (listed_roles h.below))) nexts)
   by-name true ns done k e h rest f x next nexts is bh bf roles holds go = go ns (e, None) x refl (holds-none ns base done e holds)
   by-name false ns done k e h rest f x next nexts is bh bf roles holds go =
       let number : Option ℕ = Some (suc (last_number ns)) in
       let y = put e.name number x in
       let turned = numbers.by_turn (record { node = p; at = suc k; fetched = f }) (numbers.turn metas x ns e (Some (node_at p k h))) next in
-      subst (λ l. TurnsAlike base turned (levels.by_turn d done (with_fetched f rest) (levels.entered e h l (look metas l (listed_roles h.below))) nexts)) (names-put e.name number x)
-      (entered-alike ns done k e h rest f y (look metas (names_of y) (listed_roles h.below)) next nexts is bh bf roles holds go)
+      subst (λ l. TurnsAlike base turned (levels.by_turn d done (with_fetched f rest) (levels.turn_by_look e h l (look metas l (listed_roles h.below))) nexts)) (names-put e.name number x)
+      (turn_by_look-alike ns done k e h rest f y (look metas (names_of y) (listed_roles h.below)) next nexts is bh bf roles holds go)
 
   by-offer : (o : Option HeldDoc) (ns : Nodes) (done : List RoleTree) (k : ℕ) (e : Entry) (rest : List Entry) (f : Fetched) (x : Index) (next : Nodes → Index → numbers.Turns) (nexts : RoleTree → Names → levels.Turns)
       → k ≡ length done → BareAt (e, o) → BareFetched f → listed_here ≡ roles_in done ++ e ∷ rest → Holds ns base done
       → ((ms : Nodes) (r : RoleTree) (y : Index) → r.0 ≡ e → Holds ms base (done ++ r ∷ []) → TurnsAlike base (next ms y) (nexts r (names_of y)))
-      → TurnsAlike base (numbers.by_turn (record { node = p; at = suc k; fetched = f }) (numbers.turn metas x ns e (offered (names_of x) p k e o)) next)
+      → TurnsAlike base (numbers.by_turn (record { node = p; at = suc k; fetched = f }) (numbers.turn metas x ns e (offer_for (names_of x) p k e o)) next)
       (levels.by_turn d done (with_fetched f rest) (levels.turn metas (names_of x) (e, o)) nexts)
   by-offer None ns done k e rest f x next nexts is bo bf roles holds go = go ns (e, None) x refl (holds-none ns base done e holds)
   by-offer (Some h) ns done k e rest f x next nexts is bo bf roles holds go = by-name (names_of x e.name) ns done k e h rest f x next nexts is bo bf roles holds go

@@ -18,7 +18,7 @@ use Rattle.tough_schema.specs.Preorder.{preorder, preorder_below}
 use Rattle.tough_schema.specs.Whole.{TreeDoc, tree, Branches, no_branches, unloaded, loaded, branches_from, HeldDoc, RoleTree, entries_in}
 use Rattle.tough_trust.specs.delegations.Bare.{bare_tree}
 use Rattle.tough_trust.specs.delegations.Growing.{Metas, listed_as, Look, through, unlisted, wanted, look, looked, Fetched, at_name}
-use Rattle.tough_trust.proofs.lemmas.Levels.{with_fetched, refilled, with_roles, OpenDoc, Turn, past, stopped, entered, turn, Turns, all_past, stopped_at, by_turn, turns, WorkDoc, Progress, wants, grown, by_turns, taken_up, settle, give, by_look, go_on, first_work, begun, with_taken}
+use Rattle.tough_trust.proofs.lemmas.Levels.{with_fetched, refilled, with_roles, OpenDoc, Turn, past, stopped, turn_by_look, turn, Turns, all_past, stopped_at, by_turn, turns, WorkDoc, Progress, wants, grown, by_turns, taken_up, settle, give, by_look, go_on, first_work, begun, with_taken}
 use Rattle.tough_trust.proofs.lemmas.Levels.{tally_role, tally_roles, tally_open, tally_opens, tally_work}
 
 -- ---- how many roles a tree has
@@ -179,10 +179,10 @@ abbrev TurnGrows : Turn → Type 0
 TurnGrows (past r l) = 1 ≤ tally_role r
 TurnGrows (stopped e h waiting m l) = Fits (length (listed_roles h.below)) waiting × IsKeyed h.below
 
-entered-grows : (e : Entry) (h : HeldDoc) (l : Names) (k : Look) → IsKeyed h.below → LookFits (length (listed_roles h.below)) k → TurnGrows (entered e h l k)
-entered-grows e h l through keyed x = omega arith
-entered-grows e h l (unlisted n) keyed x = omega arith
-entered-grows e h l (wanted waiting m) keyed x = (x, keyed)
+turn_by_look-grows : (e : Entry) (h : HeldDoc) (l : Names) (k : Look) → IsKeyed h.below → LookFits (length (listed_roles h.below)) k → TurnGrows (turn_by_look e h l k)
+turn_by_look-grows e h l through keyed x = omega arith
+turn_by_look-grows e h l (unlisted n) keyed x = omega arith
+turn_by_look-grows e h l (wanted waiting m) keyed x = (x, keyed)
 
 turn-on : (b : Bool) (s t : Turn) → TurnGrows s → TurnGrows t → TurnGrows (if b then s else t)
 turn-on true s t x y = x
@@ -193,8 +193,8 @@ turn-grows metas l (e, None) keyed = omega arith
 turn-grows metas l (e, Some h) keyed =
     let all = listed_roles h.below in
     let seen = add e.name l in
-    turn-on (l e.name) (past (e, None) l) (entered e h seen (look metas seen all)) (omega arith)
-    (entered-grows e h seen (look metas seen all) keyed (look-fits metas seen (length all) all (omega arith)))
+    turn-on (l e.name) (past (e, None) l) (turn_by_look e h seen (look metas seen all)) (omega arith)
+    (turn_by_look-grows e h seen (look metas seen all) keyed (look-fits metas seen (length all) all (omega arith)))
 
 abbrev TurnsGrow : ℕ → Turns → Type 0
 TurnsGrow n (all_past h l) = n ≤ size_below h.below

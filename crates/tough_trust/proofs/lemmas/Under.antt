@@ -17,7 +17,7 @@ use Rattle.tough_schema.specs.Update.{listed_roles}
 use Rattle.tough_schema.specs.Search.{Names, no_names, add}
 use Rattle.tough_schema.specs.Whole.{OwnDoc, TreeDoc, tree, Branches, no_branches, unloaded, loaded, put_branch, branches_from, entries_in, HeldDoc, RoleTree, top_doc}
 use Rattle.tough_trust.specs.delegations.Growing.{Metas, Look, through, unlisted, wanted, look, Fetched, at_name, first_of}
-use Rattle.tough_trust.proofs.lemmas.Levels.{with_fetched, refilled, with_roles, OpenDoc, Turn, past, stopped, entered, turn, Turns, all_past, stopped_at, by_turn, turns, WorkDoc, Progress, wants, grown, by_turns, taken_up, settle, give, by_look, first_work, begun, with_taken, taken, holder_of}
+use Rattle.tough_trust.proofs.lemmas.Levels.{with_fetched, refilled, with_roles, OpenDoc, Turn, past, stopped, turn_by_look, turn, Turns, all_past, stopped_at, by_turn, turns, WorkDoc, Progress, wants, grown, by_turns, taken_up, settle, give, by_look, first_work, begun, with_taken, taken, holder_of}
 use Rattle.tough_schema.specs.Fresh.{carriers, carriers_below}
 use Rattle.tough_trust.specs.delegations.Once.{IsBare, AreBare}
 use Rattle.tough_trust.proofs.lemmas.Levels.{runs}
@@ -162,10 +162,10 @@ module _ (U : Relation) (whole : SignedDoc TargetsDoc) where
   ProgressFine (wants w m) = ChildFine (page_of w.here) w.outer × Below U w.here.below × FetchedUnder (holder_of w) w.fetched
   ProgressFine (grown t) = Below U t.role × (top_page t ≡ whole)
 
-  entered-fine : (g : Option DelegationsDoc) (e : Entry) (h : HeldDoc) (l : Names) (look : Look) → U g e.name (page_of h) → Below U h.below → TurnFine g e (entered e h l look)
-  entered-fine g e h l through u k = (refl, (u, k))
-  entered-fine g e h l (unlisted n) u k = (refl, (u, k))
-  entered-fine g e h l (wanted waiting m) u k = (refl, u, k)
+  turn_by_look-fine : (g : Option DelegationsDoc) (e : Entry) (h : HeldDoc) (l : Names) (look : Look) → U g e.name (page_of h) → Below U h.below → TurnFine g e (turn_by_look e h l look)
+  turn_by_look-fine g e h l through u k = (refl, (u, k))
+  turn_by_look-fine g e h l (unlisted n) u k = (refl, (u, k))
+  turn_by_look-fine g e h l (wanted waiting m) u k = (refl, u, k)
 
   turn-on : (g : Option DelegationsDoc) (e : Entry) (b : Bool) (s t : Turn) → TurnFine g e s → TurnFine g e t → TurnFine g e (if b then s else t)
   turn-on g e true s t x y = x
@@ -174,8 +174,8 @@ module _ (U : Relation) (whole : SignedDoc TargetsDoc) where
   turn-fine : (metas : Metas) (g : Option DelegationsDoc) (l : Names) (r : RoleTree) → RoleUnder g r → TurnFine g r.0 (turn metas l r)
   turn-fine metas g l (e, None) h = (refl, tt)
   turn-fine metas g l (e, Some d) h =
-      turn-on g e (l e.name) (past (e, None) l) (entered e d (add e.name l) (look metas (add e.name l) (listed_roles d.below))) (refl, tt)
-      (entered-fine g e d (add e.name l) (look metas (add e.name l) (listed_roles d.below)) h.0 h.1)
+      turn-on g e (l e.name) (past (e, None) l) (turn_by_look e d (add e.name l) (look metas (add e.name l) (listed_roles d.below))) (refl, tt)
+      (turn_by_look-fine g e d (add e.name l) (look metas (add e.name l) (listed_roles d.below)) h.0 h.1)
 
   -- the entries stay, as their roles get their turns
   moved : (done left : List RoleTree) (r s : RoleTree) (all : List Entry) → entries done ++ r.0 ∷ entries left ≡ all → s.0 ≡ r.0 → entries (done ++ s ∷ []) ++ entries left ≡ all

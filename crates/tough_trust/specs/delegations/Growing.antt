@@ -1,11 +1,11 @@
 -- Which documents of delegated roles are fetched, and the tree that they make (TUF specification 1.0, section 5.6.7). A document's list
 -- of roles is fetched as a whole; then its roles get their documents in order, each with its own list before the next role. A document
 -- that gets its place gets the next number.
-use Rattle.std.specs.Prelude.{ℕ, suc, List, [], ◌∷◌, ◌++◌, drop, Option, Some, None, is_some, Bool, codes, if◌then◌else◌, cond}
+use Rattle.std.specs.Prelude.{ℕ, suc, List, [], ◌∷◌, ◌++◌, drop, Option, Some, None, is_some, Bool, codes, if◌then◌else◌}
 use Rattle.std.specs.Ordering.{nat_cmp}
 use Rattle.std.specs.Str.{bytes_eq}
 use Rattle.std.specs.Cmp.Lexicographic.{slice_cmp}
-use Rattle.std.specs.Map.{lookup, remove_entry}
+use Rattle.std.specs.Map.{lookup, remove_entry, update}
 use Rattle.std.specs.BTreeMap.{is_at, insert_entry}
 use Rattle.tough_roles.specs.Signature.{SignedDoc}
 use Rattle.tough_roles.specs.Timestamp.{MetafileDoc}
@@ -34,7 +34,7 @@ abbrev pub no_index : Index
 no_index q = None
 
 abbrev pub put : List ℕ → Option ℕ → Index → Index
-put name number index q = cond (bytes_eq name q) (Some number) (index q)
+put name number index = update bytes_eq index name (Some number)
 
 abbrev pub names_of : Index → Names
 names_of index q = is_some (index q)
@@ -87,9 +87,9 @@ pub record TaskDoc : Type 0 where
   pub fetched : Fetched
 
 -- a role whose name was loaded by then gets no document
-abbrev pub offered : Names → ℕ → ℕ → Entry → Option HeldDoc → Option NodeDoc
-offered loaded number place e None = None
-offered loaded number place e (Some h) = if loaded e.name then None else Some (record { parent = number; at = place; document = h })
+abbrev pub offer_for : Names → ℕ → ℕ → Entry → Option HeldDoc → Option NodeDoc
+offer_for loaded number place e None = None
+offer_for loaded number place e (Some h) = if loaded e.name then None else Some (record { parent = number; at = place; document = h })
 
 -- what a role's turn comes to
 pub data Turn : Type 0 where
@@ -97,19 +97,19 @@ pub data Turn : Type 0 where
   -- the list of its document is to be fetched, the last of these
   stopped : Nodes → List Entry → MetafileDoc → Index → Turn
 
-abbrev pub entered : Nodes → Index → Look → Turn
-entered nodes index through = past nodes index
-entered nodes index (unlisted name) = past nodes (put name None index)
-entered nodes index (wanted waiting m) = stopped nodes waiting m index
+abbrev pub turn_by_look : Nodes → Index → Look → Turn
+turn_by_look nodes index through = past nodes index
+turn_by_look nodes index (unlisted name) = past nodes (put name None index)
+turn_by_look nodes index (wanted waiting m) = stopped nodes waiting m index
 
 -- a document gets its place, the next number, and its name in the index
-abbrev pub placed : Metas → Nodes → Index → List ℕ → NodeDoc → Turn
-placed metas nodes index name n =
-    let more = put name (Some (last_number (also nodes n))) index in entered (also nodes n) more (look metas (names_of more) (listed_roles n.document.below))
+abbrev pub place_node : Metas → Nodes → Index → List ℕ → NodeDoc → Turn
+place_node metas nodes index name n =
+    let more = put name (Some (last_number (also nodes n))) index in turn_by_look (also nodes n) more (look metas (names_of more) (listed_roles n.document.below))
 
 abbrev pub turn : Metas → Index → Nodes → Entry → Option NodeDoc → Turn
 turn metas index nodes e None = past nodes index
-turn metas index nodes e (Some n) = placed metas nodes index e.name n
+turn metas index nodes e (Some n) = place_node metas nodes index e.name n
 
 -- what the turns of the roles that are left come to
 pub data Turns : Type 0 where
@@ -124,7 +124,7 @@ abbrev pub turns : Metas → Index → Nodes → ℕ → ℕ → Fetched → Lis
 turns metas index nodes number place fetched [] = all_past nodes index
 turns metas index nodes number place fetched (e ∷ rest) =
     by_turn (record { node = number; at = suc place; fetched = fetched_after e fetched })
-    (turn metas index nodes e (offered (names_of index) number place e (fetched_for e fetched)))
+    (turn metas index nodes e (offer_for (names_of index) number place e (fetched_for e fetched)))
     (λ ns x. turns metas x ns number (suc place) (fetched_after e fetched) rest)
 
 -- ---- the whole

@@ -25,6 +25,10 @@ abbrev pub last_document : Nodes → HeldDoc
 last_document (targets h) = h
 last_document (also ns n) = n.document
 
+-- the roles that the last document lists
+abbrev pub last_roles : Nodes → List Entry
+last_roles ns = listed_roles (last_document ns).below
+
 -- the roles that the document of this number lists
 abbrev pub roles_at : ℕ → Nodes → List Entry
 roles_at number (targets h) = if number == 0 then listed_roles h.below else []

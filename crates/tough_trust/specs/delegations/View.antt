@@ -1,5 +1,5 @@
 -- The tree that grows, seen as plain data.
-use Rattle.std.specs.Prelude.{ℕ, List, [], ◌∷◌, map, drop, Option, Some, None, String, string_bytes}
+use Rattle.std.specs.Prelude.{ℕ, List, [], map, drop, Option, Some, None, String, string_bytes}
 use Rattle.std.specs.BTreeMap.{get_by_text}
 use Rattle.std.specs.Borrow.{Bor}
 use Rattle.std.specs.declared.alloc.Global.{Global}
@@ -9,27 +9,22 @@ use Rattle.tough_roles.specs.declared.signed.Signed.{Signed}
 use Rattle.tough_roles.specs.declared.snapshot.Snapshot.{Snapshot}
 use Rattle.tough_roles.specs.declared.timestamp.Metafile.{Metafile}
 use Rattle.tough_schema.specs.declared.targets.Targets.{Targets}
-use Rattle.tough_schema.specs.declared.targets.DelegatedTargets.{DelegatedTargets, out-DelegatedTargets}
-use Rattle.tough_schema.specs.declared.delegations.DelegatedRole.{DelegatedRole}
+use Rattle.tough_schema.specs.declared.targets.DelegatedTargets.{DelegatedTargets}
 use Rattle.tough_schema.specs.Tree.{Entry}
-use Rattle.tough_schema.specs.Whole.{HeldDoc, tree_doc, role_tree, held_doc}
-use Rattle.tough_schema.specs.Update.{listed_roles, roles_within}
+use Rattle.tough_schema.specs.Whole.{HeldDoc, tree_doc, held_doc}
 use Rattle.tough_trust.specs.declared.delegations.look.Look.{Look}
 use Rattle.tough_trust.specs.declared.delegations.look.Look.TheVariants as seen
 use Rattle.tough_trust.specs.declared.delegations.index.Index.{Index}
-use Rattle.tough_trust.specs.declared.delegations.nodes.Node.{Node}
-use Rattle.tough_trust.specs.declared.delegations.nodes.Nodes.{Nodes}
 use Rattle.tough_trust.specs.declared.delegations.turns.Task.{Task}
 use Rattle.tough_trust.specs.declared.delegations.turns.Stop.{Stop}
 use Rattle.tough_trust.specs.declared.delegations.growth.Growth.{Growth}
 use Rattle.tough_trust.specs.declared.delegations.growth.Progress.{Progress}
 use Rattle.tough_trust.specs.declared.delegations.growth.Progress.TheVariants as step
 use Rattle.tough_trust.specs.delegations.Numbered as numbered
-use Rattle.tough_trust.specs.delegations.Numbered.{NodeDoc, last_document}
+use Rattle.tough_trust.specs.delegations.Numbered.{last_roles}
+use Rattle.tough_trust.specs.delegations.Documents.{nodes_doc}
 use Rattle.tough_trust.specs.delegations.Growing as plain
 use Rattle.tough_trust.specs.delegations.Growing.{Metas, Fetched, TaskDoc, WorkDoc}
-
--- ---- documents and their roles
 
 abbrev pub metas_of : Snapshot → Metas
 metas_of s = metafiles_doc s.meta.entries
@@ -38,28 +33,10 @@ metas_of s = metafiles_doc s.meta.entries
 abbrev pub top_held : Signed Targets → HeldDoc
 top_held s = record { name = []; signatures = signatures_doc s.signatures.items; below = tree_doc s.signed }
 
--- the roles that a document lists
-abbrev pub listed_in : Signed DelegatedTargets → List DelegatedRole
-listed_in s = roles_within (out-DelegatedTargets s.signed).targets
-
-abbrev pub entries_of : List DelegatedRole → List Entry
-entries_of rs = map (λ r. (role_tree r).0) rs
-
 abbrev pub fetched_doc : List (String Global × Signed DelegatedTargets) → Fetched
 fetched_doc es = map (λ e. (string_bytes e.0, held_doc e.1)) es
 
--- ---- documents by numbers
-
-abbrev pub node_doc : Node → NodeDoc
-node_doc n = record { parent = n.parent; at = n.at; document = held_doc n.document }
-
--- these, after those
-abbrev pub all_also : numbered.Nodes → List NodeDoc → numbered.Nodes
-all_also ns [] = ns
-all_also ns (n ∷ rest) = all_also (numbered.also ns n) rest
-
-abbrev pub nodes_doc : Nodes → numbered.Nodes
-nodes_doc ns = all_also (numbered.targets (held_doc ns.top)) (map node_doc ns.others.items)
+-- ---- the parts of the work
 
 -- the number of the document of each name that had its turn
 abbrev pub index_doc : Index → plain.Index
@@ -67,9 +44,7 @@ index_doc x q = get_by_text x.numbers q
 
 -- the roles of the last document, from this place on
 abbrev pub waiting_in : numbered.Nodes → ℕ → List Entry
-waiting_in ns at = drop at (listed_roles (last_document ns).below)
-
--- ---- the parts of the work
+waiting_in ns at = drop at (last_roles ns)
 
 abbrev pub look_doc : List Entry → Look → plain.Look
 look_doc es seen.Through = plain.through

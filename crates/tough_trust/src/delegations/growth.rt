@@ -1,12 +1,11 @@
 //! The tree as it grows.
 
-ghost use Rattle.std.specs.Prelude.{◌≡◌, [], ◌∷◌, IfOk, map, option_map};
-ghost use Rattle.tough_roles.specs.Timestamp.{metafile_doc};
-ghost use Rattle.tough_schema.specs.Delegations.{delegations_doc};
-ghost use Rattle.tough_schema.specs.Whole.{role_tree, held_doc};
-ghost use Rattle.tough_trust.specs.delegations.Growing.{wants, first_work, settle, give, go_on, first_of, holder_of, with_taken};
-ghost use Rattle.tough_trust.specs.delegations.View.{metas_of, top_held, waiting_in, index_doc, nodes_doc, task_doc, work_doc, progress_doc};
+ghost use Rattle.std.specs.Prelude.{◌≡◌, ℕ, List};
+ghost use Rattle.tough_trust.specs.delegations.Documents.{firsts_doc, nodes_doc};
+ghost use Rattle.tough_trust.specs.delegations.Firsts.{first_from};
+ghost use Rattle.tough_trust.specs.delegations.Numbered.{last_roles};
 
+use crate::delegations::firsts::Firsts;
 use crate::delegations::index::Index;
 use crate::delegations::list::roles_of;
 use crate::delegations::look::{Look, look_from};
@@ -30,6 +29,10 @@ pub struct Growth {
     fetched: BTreeMap<String, Signed<DelegatedTargets>>,
     // The place of the role whose document is wanted.
     at: usize,
+    // Where the first role of each name stands in the list.
+    firsts: Firsts,
+    ghost first: { (name : List ℕ)
+        → firsts_doc firsts name ≡ first_from 0 (last_roles (nodes_doc nodes)) name },
 }
 
 /// How far a tree has grown.
@@ -41,92 +44,113 @@ pub enum Progress<'a> {
     Grown(Signed<Targets>),
 }
 
-// The list of the last document is to be fetched, before the turns of those that stop for it.
-fn stop_at<'a>(
-    alloc: Global,
-    nodes: Nodes,
-    mut outer: VecDeque<Task>,
-    index: Index,
-    stop: Stop<'a>,
-) -> Result<Progress<'a>, AllocError>
-    ensures { IfOk result (λ p. progress_doc p
-        ≡ wants (record {
+impl Growth {
+    ghost use Rattle.std.specs.Prelude.{[], ◌∷◌, IfOk, map, option_map, option_and_then};
+    ghost use Rattle.tough_roles.specs.Timestamp.{metafile_doc};
+    ghost use Rattle.tough_schema.specs.Delegations.{delegated_role_doc, delegations_doc};
+    ghost use Rattle.tough_schema.specs.Verify.{role_named};
+    ghost use Rattle.tough_schema.specs.Whole.{role_tree, held_doc};
+    ghost use Rattle.tough_trust.specs.delegations.Growing.{wants, first_work, settle, give, go_on, first_of, holder_of, with_taken};
+    ghost use Rattle.tough_trust.specs.delegations.View.{metas_of, top_held, waiting_in, index_doc, task_doc, work_doc, progress_doc};
+
+    // The list of the last document is to be fetched, from the role at this place on.
+    fn begin(
+        alloc: Global,
+        nodes: Nodes,
+        outer: VecDeque<Task>,
+        index: Index,
+        at: usize,
+    ) -> Result<Growth, AllocError>
+        ensures { IfOk result (λ g. work_doc g ≡ record {
           nodes = nodes_doc nodes;
-          outer = task_doc stop.entry.task ∷ map task_doc outer.items;
+          outer = map task_doc outer.items;
           index = index_doc index;
           fetched = [];
-          waiting = waiting_in (nodes_doc nodes) stop.entry.at;
-        })
-        (metafile_doc stop.entry.entry.now)) }
-{
-    let Stop { task, at, entry } = stop;
-    outer.push_front(task)?;
-    let growth = Growth {
-        nodes,
-        outer,
-        index,
-        fetched: BTreeMap::new(alloc),
-        at,
-    };
-    Ok(Progress::Wants(growth, entry))
-}
-
-// A list is done: those that stopped for it go on, and so on outwards.
-fn settle<'a>(
-    alloc: Global,
-    snapshot: &'a Snapshot,
-    mut nodes: Nodes,
-    mut outer: VecDeque<Task>,
-    mut index: Index,
-) -> Result<Progress<'a>, AllocError>
-    ensures { IfOk result (λ p. progress_doc p
-        ≡ settle (metas_of snapshot.now) (index_doc index) (nodes_doc nodes)
-        (map task_doc outer.items)) }
-{
-    while let Some(task) = outer.pop_front() {
-        if let Some(stop) = take_turns(alloc, snapshot, &mut nodes, &mut index, task)? {
-            return stop_at(alloc, nodes, outer, index, stop);
-        }
-    }
-    Ok(Progress::Grown(nodes.into_tree()))
-}
-
-// A list was fetched: its roles get their turns.
-fn give<'a>(
-    alloc: Global,
-    snapshot: &'a Snapshot,
-    growth: Growth,
-) -> Result<Progress<'a>, AllocError>
-    ensures { IfOk result (λ p. progress_doc p ≡ give (metas_of snapshot.now) (work_doc growth)) }
-{
-    let Growth {
-        nodes,
-        mut outer,
-        index,
-        fetched,
-        at: _,
-    } = growth;
-    let node = nodes.last_number();
-    outer.push_front(Task {
-        node,
-        at: 0,
-        fetched,
-    })?;
-    settle(alloc, snapshot, nodes, outer, index)
-}
-
-impl Growth {
-    /// Begins with the targets that the snapshot names.
-    pub fn new(alloc: Global, targets: Signed<Targets>) -> Growth
-        ensures { work_doc result ≡ first_work (top_held targets) }
+          waiting = waiting_in (nodes_doc nodes) at;
+        }) }
     {
-        Growth {
-            nodes: Nodes::new(alloc, Targets::named(targets, String::new(alloc))),
-            outer: VecDeque::new(alloc),
-            index: Index::new(alloc),
+        let firsts = Firsts::new(alloc, roles_of(nodes.last()))?;
+        Ok(Growth {
+            nodes,
+            outer,
+            index,
             fetched: BTreeMap::new(alloc),
-            at: 0,
+            at,
+            firsts,
+        })
+    }
+
+    // The list of the last document is to be fetched, before the turns of those that stop for it.
+    fn stop_at<'a>(
+        alloc: Global,
+        nodes: Nodes,
+        mut outer: VecDeque<Task>,
+        index: Index,
+        stop: Stop<'a>,
+    ) -> Result<Progress<'a>, AllocError>
+        ensures { IfOk result (λ p. progress_doc p
+            ≡ wants (record {
+              nodes = nodes_doc nodes;
+              outer = task_doc stop.entry.task ∷ map task_doc outer.items;
+              index = index_doc index;
+              fetched = [];
+              waiting = waiting_in (nodes_doc nodes) stop.entry.at;
+            })
+            (metafile_doc stop.entry.entry.now)) }
+    {
+        let Stop { task, at, entry } = stop;
+        outer.push_front(task)?;
+        let growth = Growth::begin(alloc, nodes, outer, index, at)?;
+        Ok(Progress::Wants(growth, entry))
+    }
+
+    // A list is done: those that stopped for it go on, and so on outwards.
+    fn settle<'a>(
+        alloc: Global,
+        snapshot: &'a Snapshot,
+        mut nodes: Nodes,
+        mut outer: VecDeque<Task>,
+        mut index: Index,
+    ) -> Result<Progress<'a>, AllocError>
+        ensures { IfOk result (λ p. progress_doc p
+            ≡ settle (metas_of snapshot.now) (index_doc index) (nodes_doc nodes)
+            (map task_doc outer.items)) }
+    {
+        while let Some(task) = outer.pop_front() {
+            if let Some(stop) = take_turns(alloc, snapshot, &mut nodes, &mut index, task)? {
+                return Growth::stop_at(alloc, nodes, outer, index, stop);
+            }
         }
+        Ok(Progress::Grown(nodes.into_tree()))
+    }
+
+    // A list was fetched: its roles get their turns.
+    fn give<'a>(self, alloc: Global, snapshot: &'a Snapshot) -> Result<Progress<'a>, AllocError>
+        ensures { IfOk result (λ p. progress_doc p
+            ≡ give (metas_of snapshot.now) (work_doc self)) }
+    {
+        let Growth {
+            nodes,
+            mut outer,
+            index,
+            fetched,
+            ..
+        } = self;
+        let node = nodes.last_number();
+        outer.push_front(Task {
+            node,
+            at: 0,
+            fetched,
+        })?;
+        Growth::settle(alloc, snapshot, nodes, outer, index)
+    }
+
+    /// Begins with the targets that the snapshot names.
+    pub fn new(alloc: Global, targets: Signed<Targets>) -> Result<Growth, AllocError>
+        ensures { IfOk result (λ g. work_doc g ≡ first_work (top_held targets)) }
+    {
+        let nodes = Nodes::new(alloc, Targets::named(targets, String::new(alloc)));
+        Growth::begin(alloc, nodes, VecDeque::new(alloc), Index::new(alloc), 0)
     }
 
     /// The role whose document is wanted.
@@ -145,6 +169,15 @@ impl Growth {
             Some(delegations) => Some(delegations),
             None => None,
         }
+    }
+
+    /// The first role of the name in the list that the wanted role stands in: it says which keys sign a document of this name.
+    pub fn role_named(&self, name: &str) -> Option<&DelegatedRole>
+        ensures { option_map (λ r. delegated_role_doc r.now) result
+            ≡ option_and_then (λ g. role_named name.now g.roles) (holder_of (work_doc self.now)) }
+    {
+        let roles = roles_of(self.nodes.last());
+        roles.get(self.firsts.get(name)?)
     }
 
     /// Takes the document that was wanted, under its role's name.
@@ -179,7 +212,7 @@ impl Growth {
             roles_of(self.nodes.last()),
             self.at,
         )? {
-            Look::Through => give(alloc, snapshot, self),
+            Look::Through => self.give(alloc, snapshot),
             Look::Unlisted(name) => {
                 let Growth {
                     nodes,
@@ -188,7 +221,7 @@ impl Growth {
                     ..
                 } = self;
                 index.pass_over(name)?;
-                settle(alloc, snapshot, nodes, outer, index)
+                Growth::settle(alloc, snapshot, nodes, outer, index)
             }
             Look::Wanted(at, entry) => {
                 self.at = at;

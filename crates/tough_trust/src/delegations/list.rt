@@ -3,7 +3,7 @@
 ghost use Rattle.std.specs.Prelude.{◌≡◌};
 ghost use Rattle.tough_schema.specs.Whole.{held_doc};
 ghost use Rattle.tough_trust.specs.delegations.Numbered.{only, dressed};
-ghost use Rattle.tough_trust.specs.delegations.View.{listed_in};
+ghost use Rattle.tough_trust.specs.delegations.Documents.{listed_in};
 
 use tough_roles::Signed;
 use tough_schema::{DelegatedRole, DelegatedTargets};

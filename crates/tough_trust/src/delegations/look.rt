@@ -3,7 +3,8 @@
 ghost use Rattle.std.specs.Prelude.{◌≡◌, IfOk, drop, option_map};
 ghost use Rattle.tough_roles.specs.Timestamp.{metafile_doc};
 ghost use Rattle.tough_trust.specs.delegations.Growing.{listed_as, look, names_of};
-ghost use Rattle.tough_trust.specs.delegations.View.{metas_of, entries_of, index_doc, look_doc};
+ghost use Rattle.tough_trust.specs.delegations.Documents.{entries_of};
+ghost use Rattle.tough_trust.specs.delegations.View.{metas_of, index_doc, look_doc};
 
 use crate::delegations::index::Index;
 use std::alloc::{AllocError, Global};

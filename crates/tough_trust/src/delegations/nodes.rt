@@ -5,7 +5,7 @@ ghost use Rattle.tough_roles.specs.Signature.{signed_doc};
 ghost use Rattle.tough_schema.specs.Whole.{role_tree, tree_doc, held_doc};
 ghost use Rattle.tough_trust.specs.delegations.Numbered.{targets, also, last_number, last_document, roles_at, tree_of, unnamed, put_at};
 ghost use Rattle.tough_trust.specs.delegations.Growing.{first_of};
-ghost use Rattle.tough_trust.specs.delegations.View.{entries_of, node_doc, nodes_doc};
+ghost use Rattle.tough_trust.specs.delegations.Documents.{entries_of, node_doc, nodes_doc};
 
 use crate::delegations::list::{roles_of, set_document};
 use std::alloc::{AllocError, Global};

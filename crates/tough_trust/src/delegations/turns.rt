@@ -2,8 +2,9 @@
 
 ghost use Rattle.std.specs.Prelude.{◌≡◌, IfOk, option_map, string_bytes};
 ghost use Rattle.tough_schema.specs.Whole.{role_tree};
-ghost use Rattle.tough_trust.specs.delegations.Growing.{names_of, offered, fetched_for, fetched_after, placed, resumed};
-ghost use Rattle.tough_trust.specs.delegations.View.{metas_of, fetched_doc, index_doc, node_doc, nodes_doc, task_doc, turn_doc, turns_doc};
+ghost use Rattle.tough_trust.specs.delegations.Growing.{names_of, offer_for, fetched_for, fetched_after, place_node, resumed};
+ghost use Rattle.tough_trust.specs.delegations.Documents.{node_doc, nodes_doc};
+ghost use Rattle.tough_trust.specs.delegations.View.{metas_of, fetched_doc, index_doc, task_doc, turn_doc, turns_doc};
 
 use crate::delegations::index::Index;
 use crate::delegations::list::roles_of;
@@ -39,7 +40,7 @@ pub(crate) struct Stop<'a> {
 // The document that a role gets, with its place: the one that was fetched for its name, unless the name was loaded by then.
 fn take_offer(task: &mut Task, role: &DelegatedRole, index: &Index) -> Option<Node>
     ensures offer { option_map node_doc result
-        ≡ offered (names_of (index_doc index.now)) task.old.node task.old.at (role_tree role.now).0
+        ≡ offer_for (names_of (index_doc index.now)) task.old.node task.old.at (role_tree role.now).0
         (fetched_for (role_tree role.now).0 (fetched_doc task.old.fetched.entries)) }
     ensures fetched { fetched_doc task.new.fetched.entries
         ≡ fetched_after (role_tree role.now).0 (fetched_doc task.old.fetched.entries) }
@@ -66,7 +67,7 @@ fn enter<'a>(
     node: Node,
 ) -> Result<Option<(usize, &'a Metafile)>, AllocError>
     ensures { IfOk result (λ o. turn_doc (nodes_doc nodes.new) (index_doc index.new) o
-        ≡ placed (metas_of snapshot.now) (nodes_doc nodes.old) (index_doc index.old)
+        ≡ place_node (metas_of snapshot.now) (nodes_doc nodes.old) (index_doc index.old)
         (string_bytes name) (node_doc node)) }
 {
     nodes.push(node)?;

@@ -1,6 +1,7 @@
 use Rattle.std.proofs.Common.{◌≡◌, ◌-◌, drop, length}
 use Rattle.tough_trust.specs.delegations.Growing.{look, names_of}
-use Rattle.tough_trust.specs.delegations.View.{metas_of, entries_of, index_doc}
+use Rattle.tough_trust.specs.delegations.Documents.{entries_of}
+use Rattle.tough_trust.specs.delegations.View.{metas_of, index_doc}
 use Rattle.tough_trust.proofs.delegations.look.look_from.Given as goal
 
 abbrev pub invariant-loop-role : goal.invariant-loop-role

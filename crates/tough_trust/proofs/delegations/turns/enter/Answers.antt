@@ -2,7 +2,8 @@ use Rattle.std.proofs.Common.{rules, ◌≡◌, drop, string_bytes, Some, ap, �
 use Rattle.tough_roles.specs.Timestamp.{metafile_doc}
 use Rattle.tough_trust.specs.delegations.Numbered.{also, last_number}
 use Rattle.tough_trust.specs.delegations.Growing.{put, names_of, through, unlisted, wanted, look, past}
-use Rattle.tough_trust.specs.delegations.View.{metas_of, entries_of, index_doc, node_doc, nodes_doc}
+use Rattle.tough_trust.specs.delegations.Documents.{entries_of, node_doc, nodes_doc}
+use Rattle.tough_trust.specs.delegations.View.{metas_of, index_doc}
 use Rattle.tough_trust.proofs.Turning.{enters, enters-wanted}
 use Rattle.tough_trust.proofs.delegations.turns.enter.Goals as goal
 

@@ -2,9 +2,10 @@ use Rattle.std.proofs.Common.{rules, ◌≡◌, true, false, Some, None, option_
 use Rattle.std.specs.Map.{lookup, remove_entry}
 use Rattle.tough_schema.specs.declared.delegations.DelegatedRole.{out-DelegatedRole}
 use Rattle.tough_trust.specs.delegations.Growing.{names_of}
-use Rattle.tough_trust.specs.delegations.View.{index_doc, node_doc}
+use Rattle.tough_trust.specs.delegations.Documents.{node_doc}
+use Rattle.tough_trust.specs.delegations.View.{index_doc}
 use Rattle.tough_trust.proofs.Listing.{query}
-use Rattle.tough_trust.proofs.Turning.{left-after, offered-none, offered-known, offered-new}
+use Rattle.tough_trust.proofs.Turning.{left-after, offer_for-none, offer_for-known, offer_for-new}
 use Rattle.tough_trust.proofs.delegations.turns.take_offer.Goals as goal
 
 pub returns-in_err-document-clause-offer : goal.returns-in_err-document-clause-offer
@@ -13,7 +14,7 @@ returns-in_err-document-clause-offer c =
     let none : c.from_residual.result ≡ None = search rules in
     let missing : c.remove.result ≡ None = search rules in
     let here : c.remove.result ≡ lookup (query (string_bytes (out-DelegatedRole c.args.role.now).name)) es = c.remove.ensures.value ∙ ap (λ n. lookup (query n) es) c.as_str.ensures.value in
-    ap (option_map node_doc) none ∙ offered-none c.args.role.now es (names_of (index_doc c.args.index.now)) c.args.task.now.node c.args.task.now.at (sym missing ∙ here)
+    ap (option_map node_doc) none ∙ offer_for-none c.args.role.now es (names_of (index_doc c.args.index.now)) c.args.task.now.node c.args.task.now.at (sym missing ∙ here)
 
 pub returns-in_err-document-clause-fetched : goal.returns-in_err-document-clause-fetched
 returns-in_err-document-clause-fetched c =
@@ -28,7 +29,7 @@ returns-then-contains-clause-offer c =
     let found : c.remove.result ≡ Some c.in_ok-document.document = search rules in
     let here : c.remove.result ≡ lookup (query name) es = c.remove.ensures.value ∙ ap (λ n. lookup (query n) es) c.as_str.ensures.value in
     let known : names name ≡ true = search rules in
-    offered-known c.args.role.now es names c.args.task.now.node c.args.task.now.at c.in_ok-document.document (sym found ∙ here) known
+    offer_for-known c.args.role.now es names c.args.task.now.node c.args.task.now.at c.in_ok-document.document (sym found ∙ here) known
 
 pub returns-then-contains-clause-fetched : goal.returns-then-contains-clause-fetched
 returns-then-contains-clause-fetched c =
@@ -43,7 +44,7 @@ returns-clause-offer c =
     let found : c.remove.result ≡ Some c.in_ok-document.document = search rules in
     let here : c.remove.result ≡ lookup (query name) es = c.remove.ensures.value ∙ ap (λ n. lookup (query n) es) c.as_str.ensures.value in
     let new : names name ≡ false = search rules in
-    offered-new c.args.role.now es names c.args.task.now.node c.args.task.now.at c.in_ok-document.document (sym found ∙ here) new
+    offer_for-new c.args.role.now es names c.args.task.now.node c.args.task.now.at c.in_ok-document.document (sym found ∙ here) new
 
 pub returns-clause-fetched : goal.returns-clause-fetched
 returns-clause-fetched c =

@@ -4,11 +4,12 @@ use Rattle.tough_schema.specs.declared.delegations.DelegatedRole.{out-DelegatedR
 use Rattle.tough_schema.specs.Update.{listed_roles}
 use Rattle.tough_schema.specs.Whole.{role_tree}
 use Rattle.tough_trust.specs.delegations.Numbered.{also, last_number, roles_at}
-use Rattle.tough_trust.specs.delegations.Growing.{names_of, put, past, stopped, stopped_at, look, offered, fetched_for, placed, TaskDoc, resumed}
-use Rattle.tough_trust.specs.delegations.View.{metas_of, waiting_in, index_doc, node_doc, nodes_doc, task_doc}
+use Rattle.tough_trust.specs.delegations.Growing.{names_of, put, past, stopped, stopped_at, look, offer_for, fetched_for, place_node, TaskDoc, resumed}
+use Rattle.tough_trust.specs.delegations.Documents.{node_doc, nodes_doc}
+use Rattle.tough_trust.specs.delegations.View.{metas_of, waiting_in, index_doc, task_doc}
 use Rattle.tough_trust.proofs.Listing.{role-name}
 use Rattle.tough_trust.proofs.Sizing.{small-roles}
-use Rattle.tough_trust.proofs.Turning.{some-within, entered-nodes, next-is, turn-none, turn-some, resumed-past, resumed-stopped, still-there}
+use Rattle.tough_trust.proofs.Turning.{some-within, turn_by_look-nodes, next-is, turn-none, turn-some, resumed-past, resumed-stopped, still-there}
 use Rattle.tough_trust.proofs.delegations.turns.take_turns.Goals as goal
 
 pub overflow_add-task : goal.overflow_add-task
@@ -35,8 +36,8 @@ returns-in-Some-2 c =
     let waiting = waiting_in ms c.in-Some-2.at in
     let m = metafile_doc c.in-Some-2.entry.now in
     let key : name ≡ string_bytes (out-DelegatedRole r).name = search rules in
-    let offer : Some n ≡ offered (names_of x) t.node t.at e (fetched_for e t.fetched) = c.in-Some-offer.ensures.offer in
-    let went : stopped ms waiting m more ≡ placed metas ns x name n = search rules in
+    let offer : Some n ≡ offer_for (names_of x) t.node t.at e (fetched_for e t.fetched) = c.in-Some-offer.ensures.offer in
+    let went : stopped ms waiting m more ≡ place_node metas ns x name n = search rules in
     ap (λ (u : TaskDoc). stopped_at ms u waiting m more)
     (next-is t e c.take_offer-offer.new.task.node c.take_offer-offer.new.task.at (task_doc c.take_offer-offer.new.task).fetched c.take_offer-offer.ensures.place.0 c.take_offer-offer.ensures.place.1 c.take_offer-offer.ensures.fetched)
     ∙ resumed-stopped metas x ns t e c.in-Some.ensures ms more waiting m (turn-some metas x ns t e c.in-Some.ensures n name (stopped ms waiting m more) offer (key ∙ sym (role-name r)) went)
@@ -54,10 +55,10 @@ loop-role-smaller-in_default-2 c =
     let n = node_doc c.in-Some-offer.node in
     let name = string_bytes c.in_ok-name.name in
     let es = roles_at t.node ns in
-    let went : past ms more ≡ placed metas ns x name n = search rules in
+    let went : past ms more ≡ place_node metas ns x name n = search rules in
     let y = put name (Some (last_number (also ns n))) x in
     let kept : roles_at t.node ms ≡ es =
-    ap (roles_at t.node) (entered-nodes ms (also ns n) more y (look metas (names_of y) (listed_roles n.document.below)) went) ∙ still-there metas x ns t e c.in-Some.ensures n in
+    ap (roles_at t.node) (turn_by_look-nodes ms (also ns n) more y (look metas (names_of y) (listed_roles n.document.below)) went) ∙ still-there metas x ns t e c.in-Some.ensures n in
     let within : t.at < length es = some-within es t.at e c.in-Some.ensures in
     let left : length (roles_at c.take_offer-offer.new.task.node ms) ≡ length es = ap (λ k. length (roles_at k ms)) c.take_offer-offer.ensures.place.0 ∙ ap length kept in
     let same : c.take_offer-offer.new.task.at ≡ t.at = c.take_offer-offer.ensures.place.1 in
@@ -76,11 +77,11 @@ loop-role-preserved-in_default-2 c =
     let n = node_doc c.in-Some-offer.node in
     let name = string_bytes c.in_ok-name.name in
     let key : name ≡ string_bytes (out-DelegatedRole r).name = search rules in
-    let offer : Some n ≡ offered (names_of x) t.node t.at e (fetched_for e t.fetched) = c.in-Some-offer.ensures.offer in
-    let went : past ms more ≡ placed metas ns x name n = search rules in
+    let offer : Some n ≡ offer_for (names_of x) t.node t.at e (fetched_for e t.fetched) = c.in-Some-offer.ensures.offer in
+    let went : past ms more ≡ place_node metas ns x name n = search rules in
     let y = put name (Some (last_number (also ns n))) x in
     let kept : roles_at t.node ms ≡ roles_at t.node ns =
-    ap (roles_at t.node) (entered-nodes ms (also ns n) more y (look metas (names_of y) (listed_roles n.document.below)) went) ∙ still-there metas x ns t e c.in-Some.ensures n in
+    ap (roles_at t.node) (turn_by_look-nodes ms (also ns n) more y (look metas (names_of y) (listed_roles n.document.below)) went) ∙ still-there metas x ns t e c.in-Some.ensures n in
     ap (resumed metas more ms)
     (next-is t e c.take_offer-offer.new.task.node c.take_offer-offer.new.task.at (task_doc c.take_offer-offer.new.task).fetched c.take_offer-offer.ensures.place.0 c.take_offer-offer.ensures.place.1 c.take_offer-offer.ensures.fetched)
     ∙ resumed-past metas x ns t e c.in-Some.ensures ms more (turn-some metas x ns t e c.in-Some.ensures n name (past ms more) offer (key ∙ sym (role-name r)) went) kept
@@ -93,7 +94,7 @@ loop-role-preserved c =
     let ns = nodes_doc c.loop-role.nodes in
     let t = task_doc c.loop-role.task in
     let e = (role_tree c.in-Some.role.now).0 in
-    let offer : None ≡ offered (names_of x) t.node t.at e (fetched_for e t.fetched) = search rules in
+    let offer : None ≡ offer_for (names_of x) t.node t.at e (fetched_for e t.fetched) = search rules in
     ap (resumed metas x ns)
     (next-is t e c.take_offer-offer.new.task.node c.take_offer-offer.new.task.at (task_doc c.take_offer-offer.new.task).fetched c.take_offer-offer.ensures.place.0 c.take_offer-offer.ensures.place.1 c.take_offer-offer.ensures.fetched)
     ∙ resumed-past metas x ns t e c.in-Some.ensures ns x (turn-none metas x ns t e c.in-Some.ensures offer) refl

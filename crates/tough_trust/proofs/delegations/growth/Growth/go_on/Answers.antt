@@ -2,7 +2,8 @@ use Rattle.std.proofs.Common.{◌≡◌, List, drop, map, string_bytes, ap, sym,
 use Rattle.tough_roles.specs.Timestamp.{metafile_doc}
 use Rattle.tough_schema.specs.Tree.{Entry}
 use Rattle.tough_trust.specs.delegations.Growing.{names_of, through, unlisted, wanted, look, wants, by_look, give, go_on, settle}
-use Rattle.tough_trust.specs.delegations.View.{metas_of, waiting_in, entries_of, index_doc, look_doc, nodes_doc, task_doc, work_doc, progress_doc}
+use Rattle.tough_trust.specs.delegations.Documents.{entries_of, nodes_doc}
+use Rattle.tough_trust.specs.delegations.View.{metas_of, waiting_in, index_doc, look_doc, task_doc, work_doc, progress_doc}
 use Rattle.tough_trust.proofs.Turning.{if_ok-to, listed-last}
 use Rattle.tough_trust.proofs.delegations.growth.Growth.go_on.Goals as goal
 

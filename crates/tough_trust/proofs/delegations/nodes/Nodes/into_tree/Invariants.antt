@@ -1,6 +1,6 @@
 use Rattle.std.proofs.Common.{◌≡◌}
 use Rattle.tough_trust.specs.delegations.Numbered.{last_number, tree_of}
-use Rattle.tough_trust.specs.delegations.View.{nodes_doc}
+use Rattle.tough_trust.specs.delegations.Documents.{nodes_doc}
 use Rattle.tough_trust.proofs.delegations.nodes.Nodes.into_tree.Given as goal
 
 abbrev pub invariant-loop-node : goal.invariant-loop-node

@@ -1,14 +1,15 @@
 use Rattle.std.proofs.Common.{rules, ◌≡◌, ◌∷◌, map, ap, ◌∙◌}
 use Rattle.tough_trust.specs.delegations.Growing.{TaskDoc, give, settle}
-use Rattle.tough_trust.specs.delegations.View.{metas_of, index_doc, nodes_doc, task_doc, fetched_doc, work_doc, progress_doc}
+use Rattle.tough_trust.specs.delegations.Documents.{nodes_doc}
+use Rattle.tough_trust.specs.delegations.View.{metas_of, index_doc, task_doc, fetched_doc, work_doc, progress_doc}
 use Rattle.tough_trust.specs.declared.delegations.turns.Task.{Task}
 use Rattle.tough_trust.proofs.Turning.{if_ok-to}
-use Rattle.tough_trust.proofs.delegations.growth.give.Goals as goal
+use Rattle.tough_trust.proofs.delegations.growth.Growth.give.Goals as goal
 
 pub returns : goal.returns
 returns c =
     let metas = metas_of c.args.snapshot.now in
-    let g = c.args.growth in
+    let g = c.args.self in
     let x = index_doc g.index in
     let ns = nodes_doc g.nodes in
     let task : Task = record { node = c.last_number-node.result; at = 0; fetched = g.fetched } in

@@ -1,7 +1,8 @@
 use Rattle.std.proofs.Common.{◌≡◌, map, length}
 use Rattle.tough_trust.specs.delegations.Growing.{settle}
-use Rattle.tough_trust.specs.delegations.View.{metas_of, index_doc, nodes_doc, task_doc}
-use Rattle.tough_trust.proofs.delegations.growth.settle.Given as goal
+use Rattle.tough_trust.specs.delegations.Documents.{nodes_doc}
+use Rattle.tough_trust.specs.delegations.View.{metas_of, index_doc, task_doc}
+use Rattle.tough_trust.proofs.delegations.growth.Growth.settle.Given as goal
 
 abbrev pub invariant-loop-task : goal.invariant-loop-task
 invariant-loop-task l =
