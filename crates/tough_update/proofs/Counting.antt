@@ -1,5 +1,5 @@
 -- How many files are asked for.
-use Rattle.std.specs.Prelude.{◌≡◌, ◌≤◌, ◌<◌, ◌⊎◌, ℕ, zero, suc, ◌+◌, ◌-◌, ◌^◌, ◌==◌, List, [], ◌∷◌, ◌++◌, length, Option, Some, None, false, IsTrue, Result, Ok, Err, nat_lt, not, if◌then◌else◌}
+use Rattle.std.specs.Prelude.{◌≡◌, ◌≤◌, ◌<◌, ◌⊎◌, ℕ, zero, suc, ◌+◌, ◌-◌, List, [], ◌∷◌, ◌++◌, length, Option, Some, None, false, IsTrue, Result, Ok, Err, nat_lt}
 use Rattle.std.proofs.Common.{refl, sym, ◌∙◌, ap, subst, inl, inr, arith}
 use Rattle.std.proofs.lemmas.Bool.{ltb-true}
 use Rattle.std.proofs.lemmas.List.{append-nil, append_assoc, length-append}
@@ -7,15 +7,13 @@ use Rattle.tough_keys.specs.Same.{Verifies}
 use Rattle.tough_roles.specs.Signature.{SignedDoc}
 use Rattle.tough_roles.specs.Timestamp.{TimestampDoc, MetafileDoc}
 use Rattle.tough_roles.specs.declared.role_type.RoleType.TheVariants as role
-use Rattle.tough_checks.specs.Checks.{ExpiredMetadata, is_expired}
 use Rattle.tough_checks.specs.Documents.{root_in, timestamp_in, snapshot_in, metafile_in}
 use Rattle.tough_checks.specs.Files.{snapshot_file, targets_file}
 use Rattle.tough_trust.specs.declared.limits.Limits.{Limits}
-use Rattle.tough_trust.specs.Failure.{Failure, ParseMetadata, MaxUpdatesExceeded, Checked}
+use Rattle.tough_trust.specs.Failure.{Failure, ParseMetadata}
 use Rattle.tough_trust.specs.Walk.{first_root, next_root}
-use Rattle.tough_trust.specs.Outcomes.{holds_json, if_read}
-use Rattle.tough_trust.specs.Requests.{RequestDoc, root_request, timestamp_request}
-use Rattle.tough_trust.specs.Rotation.{is_rotated}
+use Rattle.tough_trust.specs.Outcomes.{holds_json}
+use Rattle.tough_trust.specs.Requests.{RequestDoc, root_request}
 use Rattle.tough_trust.specs.Listed.{by_root, judged}
 use Rattle.tough_update.specs.Delegated.{metas_in, is_reserved, if_found, grown_on, given, role_given, role_stored, with_received}
 use Rattle.tough_trust.specs.Listed.{wanted_name, role_holder}
@@ -30,7 +28,7 @@ use Rattle.tough_update.specs.Stages as at
 use Rattle.tough_update.specs.Questions as ask
 use Rattle.tough_update.specs.Answered.{AnswerDoc}
 use Rattle.tough_update.specs.Answered as got
-use Rattle.tough_update.specs.Machine.{question, answered, walked, base_of, walk_ended, want_snapshot, known_of, want_targets, read_wanted, after, settled, stage_after}
+use Rattle.tough_update.specs.Machine.{question, answered, walked, walk_ended, want_snapshot, known_of, want_targets, read_wanted, after, settled, stage_after}
 use Rattle.tough_update.specs.Runs.{run, IsFresh}
 use Rattle.tough_update.specs.Asking.{fetched, requests, roots_after, first_version, IsOfRole, AsksFew}
 use Rattle.tough_update.proofs.Turning.{Fine, if-fine, and_then-fine, walking, ending, reading, waits, keeps-answer}

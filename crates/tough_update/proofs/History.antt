@@ -1,20 +1,18 @@
 -- What is so of each stage after given answers: what the clock told, which roots were met, and which files may be asked for.
-use Rattle.std.specs.Prelude.{◌≡◌, ℕ, ℤ, ◌+◌, ◌-◌, ◌^◌, ◌==◌, List, [], ◌∷◌, ◌++◌, codes, Option, Some, None, Bool, true, false, ⊤, Result, Ok, Err, nat_lt, not, if◌then◌else◌}
+use Rattle.std.specs.Prelude.{◌≡◌, ℕ, ℤ, ◌+◌, List, [], ◌∷◌, ◌++◌, codes, Option, Some, None, Bool, true, false, ⊤, Result, Ok, Err, not, if◌then◌else◌}
 use Rattle.std.proofs.Common.{refl, sym, ◌∙◌, ap, subst, inl, inr}
-use Rattle.std.proofs.lemmas.Bool.{eqb-true}
 use Rattle.tough_keys.specs.Same.{Verifies}
 use Rattle.tough_roles.specs.Signature.{SignedDoc}
 use Rattle.tough_roles.specs.Root.{RootDoc}
 use Rattle.tough_roles.specs.Timestamp.{TimestampDoc, MetafileDoc}
-use Rattle.tough_roles.specs.Verdict.{Refused}
 use Rattle.tough_roles.specs.declared.role_type.RoleType.TheVariants as role
 use Rattle.tough_checks.specs.Checks.{ExpiredMetadata, is_expired}
 use Rattle.tough_checks.specs.Documents.{root_in, timestamp_in, snapshot_in, metafile_in}
 use Rattle.tough_checks.specs.Files.{snapshot_file, targets_file}
 use Rattle.tough_vault.specs.Act.{Act, ClearRotated, AdvanceSnapshot}
-use Rattle.tough_trust.specs.Failure.{Failure, ParseTrustedMetadata, VerifyTrustedMetadata, ParseMetadata, MaxUpdatesExceeded, Checked}
+use Rattle.tough_trust.specs.Failure.{Failure, ParseMetadata, Checked}
 use Rattle.tough_trust.specs.Walk.{first_root, next_root}
-use Rattle.tough_trust.specs.Outcomes.{holds_json, if_read}
+use Rattle.tough_trust.specs.Outcomes.{holds_json}
 use Rattle.tough_trust.specs.Outcomes.{unless}
 use Rattle.tough_trust.specs.Requests.{RequestDoc, root_request, timestamp_request}
 use Rattle.tough_trust.specs.Rotation.{is_rotated}

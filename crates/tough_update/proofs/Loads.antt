@@ -25,7 +25,7 @@ use Rattle.tough_vault.specs.Steps.{time_text, needs}
 use Rattle.tough_vault.specs.Act.{Act}
 use Rattle.tough_vault.specs.Act as act
 use Rattle.tough_checks.specs.Files.{snapshot_file, targets_file}
-use Rattle.tough_trust.specs.Failure.{Failure, ParseTrustedMetadata, VerifyTrustedMetadata, ParseMetadata, MaxUpdatesExceeded, Checked}
+use Rattle.tough_trust.specs.Failure.{Failure, ParseTrustedMetadata, ParseMetadata, MaxUpdatesExceeded, Checked}
 use Rattle.tough_trust.specs.Walk.{if_trusted, root_verdict, first_root}
 use Rattle.tough_trust.specs.Outcomes.{holds_json, if_read}
 use Rattle.tough_trust.specs.Outcomes.{unless, and_then}
@@ -44,7 +44,7 @@ use Rattle.tough_trust.proofs.lemmas.Laws.{work, grows-whole}
 use Rattle.tough_schema.specs.Delegations.{DelegationsDoc}
 use Rattle.tough_schema.specs.Tree.{Entry}
 use Rattle.tough_schema.specs.Verify.{ReachesDelegated}
-use Rattle.tough_schema.specs.Whole.{HeldDoc, top_doc}
+use Rattle.tough_schema.specs.Whole.{top_doc}
 use Rattle.tough_schema.specs.Entries.{first_missing}
 use Rattle.std.proofs.lemmas.List.{append-nil, append_assoc, map-append}
 use Rattle.std.proofs.lemmas.List.Sums.{sum_by-append}

@@ -1,38 +1,32 @@
 -- What holds of each stage, and that each answer keeps it.
-use Rattle.std.specs.Prelude.{◌≡◌, ℕ, ℤ, ◌+◌, ◌-◌, ◌^◌, ◌==◌, ◌≤◌, List, [], ◌∷◌, ◌++◌, length, codes, Option, Some, None, IfSome, Bool, true, false, IsTrue, ⊤, Result, Ok, Err, nat_lt, nat_le, not, ◌&&◌, if◌then◌else◌}
+use Rattle.std.specs.Prelude.{◌≡◌, ℕ, ℤ, ◌+◌, ◌-◌, ◌^◌, ◌≤◌, List, [], ◌∷◌, ◌++◌, length, codes, Option, Some, None, IfSome, Bool, true, false, IsTrue, ⊤, Ok, Err, nat_le}
 use Rattle.std.proofs.Common.{◌≤ℤ◌, int_lt, refl, sym, ◌∙◌, ap, subst, arith}
 use Rattle.jiff_core.proofs.SignedLemmas.{signed_arith}
-use Rattle.std.proofs.lemmas.Bool.{eqb-true, leb-true}
-use Rattle.std.proofs.lemmas.Slice.Eq.{bytes_eq-Decides}
-use Rattle.sha2.specs.Sha256.{sha256}
+use Rattle.std.proofs.lemmas.Bool.{leb-true}
 use Rattle.tough_keys.specs.Same.{Verifies}
 use Rattle.tough_roles.specs.Signature.{SignedDoc}
 use Rattle.tough_roles.specs.Root.{RootDoc}
 use Rattle.tough_roles.specs.Timestamp.{TimestampDoc, MetafileDoc, timestamp_json}
 use Rattle.tough_roles.specs.Snapshot.{SnapshotDoc, snapshot_json}
-use Rattle.tough_roles.specs.Verdict.{Refused, verdict}
-use Rattle.tough_roles.specs.Chain.{text_by, ReachesUnder, IsNext}
-use Rattle.tough_roles.specs.declared.role_type.RoleType.{RoleType}
+use Rattle.tough_roles.specs.Verdict.{verdict}
+use Rattle.tough_roles.specs.Chain.{text_by, ReachesUnder}
 use Rattle.tough_roles.specs.declared.role_type.RoleType.TheVariants as role
-use Rattle.tough_roles.proofs.lemmas.Reached.{reaches-from, ok-reaches}
-use Rattle.tough_checks.specs.Checks.{Reason, refuse, or_else, VersionMismatch, VerifyMetadata, OlderMetadata, TimestampMetaLength, expiry, is_expired, ExpiredMetadata, verified, timestamp_first, timestamp_form, snapshot_first, snapshot_form}
-use Rattle.tough_checks.specs.Documents.{root_in, timestamp_in, snapshot_in, metafile_in, timestamp_verdict, snapshot_verdict}
+use Rattle.tough_roles.proofs.lemmas.Reached.{ok-reaches}
+use Rattle.tough_checks.specs.Checks.{expiry, is_expired, snapshot_first}
+use Rattle.tough_checks.specs.Documents.{timestamp_in, snapshot_in, metafile_in, snapshot_verdict}
 use Rattle.tough_checks.specs.Files.{snapshot_file, targets_file}
-use Rattle.tough_trust.specs.Failure.{Failure, ParseTrustedMetadata, VerifyTrustedMetadata, ParseMetadata, MaxUpdatesExceeded, Checked}
+use Rattle.tough_trust.specs.Failure.{Failure, ParseMetadata}
 use Rattle.tough_trust.specs.Walk.{first_root, next_root}
 use Rattle.tough_trust.specs.Outcomes.{holds_json, if_read}
-use Rattle.tough_trust.specs.Requests.{RequestDoc, bound, stated_digest, has_digest, fits_request, root_request, timestamp_request}
+use Rattle.tough_trust.specs.Requests.{RequestDoc, bound, stated_digest, has_digest, fits_request, root_request}
 use Rattle.tough_schema.specs.Targets.{TargetsDoc, targets_json}
-use Rattle.tough_trust.specs.Outcomes.{unrefused}
-use Rattle.tough_trust.specs.Rotation.{is_rotated}
-use Rattle.tough_trust.specs.Listed.{targets_in, HolderDoc, by_root, by_delegations, targets_verdict, targets_refusal, judged}
+use Rattle.tough_trust.specs.Listed.{targets_in, by_root, by_delegations, targets_verdict, judged}
 use Rattle.tough_update.specs.Delegated.{metas_in, is_reserved, if_found, grown_on, roles_begun, given, role_given, role_stored, with_received, new_role}
 use Rattle.tough_trust.specs.Listed.{first_name, wanted_name, role_holder}
 use Rattle.tough_names.specs.Named.{Named as ListedName}
-use Rattle.tough_roles.specs.Policy.{Policy}
 use Rattle.tough_schema.specs.Delegations.{DelegationsDoc}
 use Rattle.tough_schema.specs.Tree.{Entry}
-use Rattle.tough_schema.specs.Verify.{delegated_policy, ReachesDelegated}
+use Rattle.tough_schema.specs.Verify.{delegated_policy}
 use Rattle.tough_schema.specs.Whole.{TreeDoc, HeldDoc}
 use Rattle.tough_schema.specs.Fresh.{carriers_below}
 use Rattle.tough_schema.specs.Entries.{IsValid, first_missing}
@@ -50,10 +44,10 @@ use Rattle.tough_update.specs.Stages.{WalkDoc, BaseDoc, KnownDoc, WantedDoc, Pen
 use Rattle.tough_update.specs.Stages as at
 use Rattle.tough_update.specs.Answered.{AnswerDoc}
 use Rattle.tough_update.specs.Answered as got
-use Rattle.tough_update.specs.Machine.{walked, began, new_root, base_of, walk_ended, want_snapshot, known_of, want_targets, new_targets, read_wanted, after, stage_after, question_at}
+use Rattle.tough_update.specs.Machine.{walked, began, new_root, walk_ended, want_snapshot, known_of, want_targets, new_targets, read_wanted, after, stage_after, question_at}
 use Rattle.tough_update.specs.Trusted.{Chain, handed_in, followed, Lists, IsVouched}
 use Rattle.tough_update.specs.Runs.{Keeps, EndsWalk}
-use Rattle.tough_trust.proofs.lemmas.Passing.{size-stated, digest-stated, has-true, if_read-ok, not-true, timestamp-passes, snapshot-passes, not-expired, or_first, or_second, refuse-none}
+use Rattle.tough_trust.proofs.lemmas.Passing.{size-stated, digest-stated, has-true, not-true, timestamp-passes, snapshot-passes, not-expired}
 use Rattle.tough_trust.proofs.lemmas.Walking.{first-passed, next-fine}
 use Rattle.tough_trust.proofs.lemmas.Judging.{judged-ok, delegated-at}
 use Rattle.tough_update.proofs.Turning.{Fine, if-fine, and_then-fine, walking, ending, keeps-answer}

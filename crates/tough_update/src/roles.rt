@@ -81,13 +81,8 @@ pub(crate) fn begin_roles(
     ensures { Gives stage_doc
         (roles_begun limits.now (known_doc known) (signed_doc tree_doc targets)) result }
 {
-    grow_on(
-        alloc,
-        limits,
-        known,
-        Growth::new(alloc, targets)?,
-        Vec::new(alloc),
-    )
+    let growth = Growth::new(alloc, targets)?;
+    grow_on(alloc, limits, known, growth, Vec::new(alloc))
 }
 
 /// A role gets its document.

@@ -1,6 +1,6 @@
 use Rattle.std.proofs.Common.{rules, ◌≡◌, Bool, true, false, not, Some, Result, Err}
 use Rattle.tough_roles.specs.declared.role_type.RoleType.TheVariants as role
-use Rattle.tough_checks.specs.Checks.{Reason, RefusedBy, enforces, expiry, is_expired, refuse, reason_of, ExpiredMetadata}
+use Rattle.tough_checks.specs.Checks.{Reason, enforces, is_expired, refuse, reason_of, ExpiredMetadata}
 use Rattle.tough_checks.specs.declared.checks.Refusal.{Refusal}
 use Rattle.tough_trust.specs.Failure as failure
 use Rattle.tough_trust.specs.Failure.{Failure}
