@@ -8,7 +8,6 @@ mod decoded;
 mod documents;
 mod files;
 mod folder;
-mod growth;
 mod json;
 pub mod judge;
 mod keys;
@@ -49,9 +48,6 @@ fn of_documents(alloc: Global, call: &str, case: &Value) -> Result<Option<String
         return Ok(Some(told));
     }
     if let Some(told) = trees::answer(alloc, call, case)? {
-        return Ok(Some(told));
-    }
-    if let Some(told) = growth::answer(alloc, call, case)? {
         return Ok(Some(told));
     }
     made::answer(alloc, call, case)
