@@ -10,6 +10,7 @@ ghost use Rattle.tough_checks.specs.Files.{snapshot_file};
 ghost use Rattle.tough_checks.specs.Versions.{pair_of, pair_where, time_where};
 ghost use Rattle.tough_checks.specs.Checks.{Checked, RefusedBy, VersionMismatch, refuse, verified, expiry, later, time_after, snapshot_version, timestamp_form, timestamp_first, timestamp_older, timestamp_below, timestamp_against, timestamp_tip, timestamp_after, timestamp_where, enforces};
 ghost use Rattle.tough_roles.specs.declared.error.Error.TheVariants as error;
+ghost use Rattle.tough_checks.specs.declared.checks.Refusal.TheVariants as refusal;
 ghost use Rattle.tough_checks.specs.declared.checks.StepError.TheVariants as step;
 ghost use Rattle.tough_checks.specs.declared.checks.StepError.TheVariants.{Refused};
 
@@ -244,6 +245,8 @@ pub fn check_signed(role: RoleType, answer: Result<(), Error>) -> Result<(), Ste
     ensures signed { (verdict : _) → Answers answer verdict
         → Checked (verified role verdict) result }
     ensures memory { result ≡ Err step.Memory → answer ≡ Err error.Memory }
+    ensures source { (told : _) (source : _)
+        → result ≡ Err (Refused (refusal.VerifyMetadata told source)) → answer ≡ Err source }
 {
     match answer {
         Ok(()) => Ok(()),

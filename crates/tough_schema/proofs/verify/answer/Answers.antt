@@ -8,7 +8,7 @@ use Rattle.tough_roles.proofs.lemmas.Verdicts.{verdict-missing}
 use Rattle.tough_schema.specs.declared.delegations.DelegatedRole.{DelegatedRole}
 use Rattle.tough_schema.specs.Delegations.{DelegatedRoleDoc, delegated_role_doc, delegations_doc}
 use Rattle.tough_schema.specs.Verify.{role_keys, role_named}
-use Rattle.tough_schema.proofs.Delegated.{names-judged}
+use Rattle.tough_schema.proofs.lemmas.Names.{names-judged}
 use Rattle.tough_schema.proofs.verify.answer.Goals as goal
 
 pub returns-in_ok-keys-in-Some-clause-verdict : goal.returns-in_ok-keys-in-Some-clause-verdict
