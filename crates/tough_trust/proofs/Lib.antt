@@ -2,9 +2,7 @@ pub mod lemmas
 pub mod Rotated
 pub mod Listing
 pub mod Firsts
-pub mod Dressing
 pub mod Setting
-pub mod Noding
 pub mod Sizing
 pub mod NodeSteps
 pub mod Turning

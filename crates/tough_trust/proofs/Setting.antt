@@ -12,7 +12,7 @@ use Rattle.tough_schema.specs.declared.targets.Targets.{Targets, out-Targets, ro
 use Rattle.tough_schema.specs.Whole.{TreeDoc, tree, Branches, HeldDoc, RoleTree, NamedTree, DelegationsTree, branches_from, role_level, delegations_level, delegated_level, targets_level, tree_doc, role_tree, held_doc, entries_in}
 use Rattle.tough_schema.proofs.lemmas.Wholes.{own, tree-roll, tree-inner, delegations-roll, role-out, named-out, named-roll}
 use Rattle.tough_trust.specs.delegations.Numbered.{dressed_from, dressed_tree, dressed, only}
-use Rattle.tough_trust.proofs.Dressing.{Has, dress-at, dress-none, only-other}
+use Rattle.tough_trust.proofs.lemmas.Dressing.{Has, dress-at, dress-none, only-other}
 use Rattle.tough_trust.proofs.Listing.{entries-from}
 
 -- the role with this document

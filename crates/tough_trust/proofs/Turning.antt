@@ -21,7 +21,7 @@ use Rattle.tough_trust.specs.delegations.Growing.{Metas, Index, put, names_of, L
 use Rattle.tough_trust.specs.delegations.Documents.{entries_of, listed_in}
 use Rattle.tough_trust.specs.delegations.View.{fetched_doc}
 use Rattle.tough_trust.proofs.Listing.{Held, query, role-name, listed-held, fetched-lookup, fetched-removed}
-use Rattle.tough_trust.proofs.Noding.{roles-kept}
+use Rattle.tough_trust.proofs.lemmas.Noding.{roles-kept}
 
 pub if_ok-to : {A E : Type 0} (r : Result A E) (P Q : A → Type 0) → ((a : A) → P a → Q a) → IfOk r P → IfOk r Q
 if_ok-to (Ok a) P Q f h = f a h

@@ -3,14 +3,5 @@ pub mod Passing
 pub mod Walking
 pub mod Judging
 pub mod Bare
-pub mod Levels
-pub mod Once
-pub mod Under
-pub mod Listed
-pub mod Indexed
-pub mod Full
-pub mod Tallied
-pub mod Kept
-pub mod Trees
-pub mod Standing
-pub mod Laws
+pub mod Dressing
+pub mod Noding

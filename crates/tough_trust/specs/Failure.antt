@@ -75,10 +75,14 @@ abbrev pub Gives : {X A : Type 0} → (X → A) → Result A Failure → Result 
 Gives view answer (Ok x) = answer ≡ Ok (view x)
 Gives view answer (Err e) = IsRefused (failure_of e) answer
 
--- the failure that a refused step is
+-- the error that a refused step is
+abbrev pub error_of : StepError → UpdateError
+error_of (steps.Refused r) = error.Refused r
+error_of (steps.DatastoreOpen path) = error.DatastoreOpen path
+error_of (steps.DatastoreCreate path) = error.DatastoreCreate path
+error_of (steps.DatastoreRemove path) = error.DatastoreRemove path
+error_of steps.Memory = error.Memory
+
+-- its failure
 abbrev pub step_failure : StepError → Failure
-step_failure (steps.Refused r) = Checked (reason_of r)
-step_failure (steps.DatastoreOpen path) = DatastoreOpen (string_bytes path)
-step_failure (steps.DatastoreCreate path) = DatastoreCreate (string_bytes path)
-step_failure (steps.DatastoreRemove path) = DatastoreRemove (string_bytes path)
-step_failure steps.Memory = Memory
+step_failure e = failure_of (error_of e)

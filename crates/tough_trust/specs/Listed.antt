@@ -5,12 +5,13 @@ use Rattle.tough_keys.specs.Same.{Verifies}
 use Rattle.tough_roles.specs.Signature.{SignedDoc, signed_at, signed_json}
 use Rattle.tough_roles.specs.Root.{RootDoc}
 use Rattle.tough_roles.specs.Policy.{Policy, policy}
-use Rattle.tough_roles.specs.Verdict.{Refused, verdict}
+use Rattle.tough_roles.specs.Verdict.{Names, Refused, verdict}
 use Rattle.tough_roles.specs.Chain.{text_by}
 use Rattle.tough_roles.specs.declared.role_type.RoleType.TheVariants as role
+use Rattle.tough_roles.specs.declared.error.Error.{Error}
 use Rattle.tough_schema.specs.Delegations.{DelegationsDoc}
 use Rattle.tough_schema.specs.Targets.{TargetsDoc, targets_at, targets_json}
-use Rattle.tough_schema.specs.Verify.{delegated_policy}
+use Rattle.tough_schema.specs.Verify.{NamesDelegated, delegated_policy}
 use Rattle.tough_schema.specs.Whole.{TreeDoc}
 use Rattle.tough_trust.specs.delegations.Bare.{bare}
 use Rattle.tough_trust.specs.delegations.Growing.{WorkDoc, holder_of}
@@ -58,6 +59,11 @@ holder_in root (Some w) = role_holder w
 
 abbrev pub targets_verdict : Verifies → HolderDoc → SignedDoc TargetsDoc → Result Unit Refused
 targets_verdict verifies holder d = verdict verifies (policy_in holder) (text_by targets_json d.role) d.signatures
+
+-- what an error of their verification names: the role, or an identifier that stands twice
+abbrev pub NamesHeld : HolderDoc → SignedDoc TargetsDoc → Error → Type 0
+NamesHeld (by_root root) d e = Names role.Targets d.signatures e
+NamesHeld (by_delegations g name) d e = NamesDelegated name role.Targets d.signatures e
 
 -- The check that refuses them, if one does: they must reach the threshold, have the listed version, and not be expired when the update
 -- began.

@@ -4,9 +4,3 @@ pub mod Firsts
 pub mod Documents
 pub mod View
 pub mod Bare
-pub mod Once
-pub mod Under
-pub mod Listed
-pub mod Indexed
-pub mod Full
-pub mod Tallies

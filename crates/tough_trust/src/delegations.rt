@@ -3,7 +3,6 @@
 mod firsts;
 mod growth;
 mod index;
-pub mod laws;
 mod list;
 mod look;
 mod nodes;

@@ -101,9 +101,9 @@ impl From<AllocError> for UpdateError {
 }
 
 impl From<StepError> for UpdateError {
-    ghost use Rattle.tough_trust.specs.Failure.{step_failure, failure_of};
+    ghost use Rattle.tough_trust.specs.Failure.{error_of};
 
-    ghost from_gives = { λ s e. failure_of e ≡ step_failure s };
+    ghost from_gives = { λ s e. e ≡ error_of s };
 
     fn from(error: StepError) -> UpdateError {
         match error {

@@ -1,16 +1,19 @@
 //! Whether targets are taken: those of a repository, and those of a delegated role (TUF specification 5.6).
 
-ghost use Rattle.std.specs.Prelude.{◌≡◌, option_map};
+ghost use Rattle.std.specs.Prelude.{◌≡◌, Err, IfErr, Some, option_map};
 ghost use Rattle.tough_roles.specs.Signature.{signed_doc};
 ghost use Rattle.tough_roles.specs.Root.{root_doc};
 ghost use Rattle.tough_roles.specs.Verdict.{Answers};
 ghost use Rattle.tough_checks.specs.Checks.{Checked, enforces};
+ghost use Rattle.tough_checks.specs.declared.checks.Refusal.TheVariants.{VerifyMetadata};
+ghost use Rattle.tough_checks.specs.declared.checks.StepError.TheVariants as step;
 ghost use Rattle.tough_schema.specs.Targets.{targets_doc};
 ghost use Rattle.tough_schema.specs.Whole.{tree_doc};
 ghost use Rattle.tough_schema.specs.Entries.{first_missing};
 ghost use Rattle.tough_trust.specs.delegations.View.{work_doc};
 ghost use Rattle.tough_trust.specs.Failure.{Gives};
-ghost use Rattle.tough_trust.specs.Listed.{wanted_name, role_holder, holder_in, targets_verdict, targets_refusal, judged, all_found};
+ghost use Rattle.tough_trust.specs.declared.error.UpdateError.TheVariants.{Refused};
+ghost use Rattle.tough_trust.specs.Listed.{targets_in, wanted_name, role_holder, holder_in, targets_verdict, NamesHeld, targets_refusal, judged, all_found};
 ghost use Rattle.tough_trust.specs.View.{holder_doc};
 
 use crate::delegations::Growth;
@@ -60,8 +63,10 @@ fn verify_wanted<V: Verify>(
     targets: &Signed<Targets>,
     verifier: &V,
 ) -> Result<(), schema::Error>
-    ensures { Answers result (targets_verdict (V.verifies verifier.now)
+    ensures verdict { Answers result (targets_verdict (V.verifies verifier.now)
         (role_holder (work_doc growth.now)) (signed_doc targets_doc targets.now)) }
+    ensures named { IfErr result
+        (λ e. NamesHeld (role_holder (work_doc growth.now)) (signed_doc targets_doc targets.now) e) }
 {
     let name = wanted_name(growth);
     if let Some(delegations) = growth.holder() {
@@ -83,8 +88,10 @@ impl Holder<'_> {
         targets: &Signed<Targets>,
         verifier: &V,
     ) -> Result<(), schema::Error>
-        ensures { Answers result (targets_verdict (V.verifies verifier.now) (holder_doc self.now)
-            (signed_doc targets_doc targets.now)) }
+        ensures verdict { Answers result (targets_verdict (V.verifies verifier.now)
+            (holder_doc self.now) (signed_doc targets_doc targets.now)) }
+        ensures named { IfErr result
+            (λ e. NamesHeld (holder_doc self.now) (signed_doc targets_doc targets.now) e) }
     {
         match self {
             Holder::Root(root) => root.verify_role(alloc, targets, verifier),
@@ -103,9 +110,12 @@ fn check<V: Verify>(
     targets: &Signed<Targets>,
     verifier: &V,
 ) -> Result<(), StepError>
-    ensures { Checked (targets_refusal (V.verifies verifier.now) (enforces enforcement)
+    ensures answer { Checked (targets_refusal (V.verifies verifier.now) (enforces enforcement)
         start.nanosecond (holder_doc holder.now) listed
         (signed_doc targets_doc targets.now)) result }
+    ensures named { (role : _) (source : _)
+        → result ≡ Err (step.Refused (VerifyMetadata role source))
+        → NamesHeld (holder_doc holder.now) (signed_doc targets_doc targets.now) source }
 {
     let role = RoleType::Targets;
     check_signed(role, holder.verify(alloc, targets, verifier))?;
@@ -125,9 +135,12 @@ pub fn judge<V: Verify>(
     bytes: &[u8],
     verifier: &V,
 ) -> Result<Signed<Targets>, UpdateError>
-    ensures { Gives (signed_doc tree_doc)
+    ensures answer { Gives (signed_doc tree_doc)
         (judged (V.verifies verifier.now) (enforces enforcement) start.nanosecond
         (holder_doc holder.now) listed bytes.now) result }
+    ensures named { (page : _) (role : _) (source : _) → targets_in bytes.now ≡ Some page
+        → result ≡ Err (Refused (VerifyMetadata role source))
+        → NamesHeld (holder_doc holder.now) page source }
 {
     let targets = match Signed::<Targets>::read(alloc, bytes) {
         Ok(targets) => targets,

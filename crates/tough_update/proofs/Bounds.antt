@@ -15,10 +15,10 @@ use Rattle.tough_schema.specs.Entries.{entries, documents_below, first_missing}
 use Rattle.tough_schema.specs.Fresh.{IsUnloaded}
 use Rattle.tough_trust.specs.delegations.Growing.{WorkDoc, Progress, wants, grown, go_on, begun}
 use Rattle.tough_trust.specs.delegations.Bare.{held_as}
-use Rattle.tough_trust.specs.delegations.Tallies.{tally_work}
+use Rattle.tough_update.specs.growth.Tallies.{tally_work}
 use Rattle.tough_trust.proofs.lemmas.Bare.{bare-none}
-use Rattle.tough_trust.proofs.lemmas.Tallied.{IsKeyed, bare-keyed}
-use Rattle.tough_trust.proofs.lemmas.Laws.{WorkGrows, ProgressGrows, begun-grows, taken-grows, grows-more, grows-listed}
+use Rattle.tough_update.proofs.growth.Tallied.{IsKeyed, bare-keyed}
+use Rattle.tough_update.proofs.growth.Laws.{WorkGrows, ProgressGrows, begun-grows, taken-grows, grows-more, grows-listed}
 use Rattle.tough_update.specs.declared.counts.Counts.{Counts}
 use Rattle.tough_trust.specs.Failure.{Failure, ParseMetadata}
 use Rattle.tough_trust.specs.Walk.{first_root, next_root}

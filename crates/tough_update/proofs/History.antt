@@ -24,10 +24,10 @@ use Rattle.tough_schema.specs.Whole.{TreeDoc, HeldDoc}
 use Rattle.tough_schema.specs.Entries.{first_missing}
 use Rattle.tough_trust.specs.delegations.Growing.{Progress, wants, grown, go_on, begun}
 use Rattle.tough_trust.specs.delegations.Bare.{held_as}
-use Rattle.tough_trust.specs.delegations.Once.{runs}
-use Rattle.tough_trust.specs.delegations.Listed.{WantsListed}
-use Rattle.tough_trust.proofs.lemmas.Listed.{wanted-listed}
-use Rattle.tough_trust.proofs.lemmas.Laws.{runs-more}
+use Rattle.tough_update.specs.growth.Once.{runs}
+use Rattle.tough_update.specs.growth.Listed.{WantsListed}
+use Rattle.tough_update.proofs.growth.Listed.{wanted-listed}
+use Rattle.tough_update.proofs.growth.Laws.{runs-more}
 use Rattle.tough_update.specs.Stages.{WalkDoc, BaseDoc, KnownDoc, WantedDoc, PendingDoc, ReceivedDoc, RolesDoc, LoadedDoc, StageDoc, CoreDoc}
 use Rattle.tough_update.specs.Stages as at
 use Rattle.tough_update.specs.Questions.{Question}

@@ -14,8 +14,8 @@ use Rattle.tough_schema.specs.Fresh.{IsUnloaded}
 use Rattle.tough_trust.specs.delegations.Growing.{Progress, wants, grown, go_on, begun}
 use Rattle.tough_trust.specs.delegations.Bare.{held_as}
 use Rattle.tough_trust.proofs.lemmas.Bare.{bare-none}
-use Rattle.tough_trust.proofs.lemmas.Kept.{tree-few}
-use Rattle.tough_trust.proofs.lemmas.Laws.{WorkKeeps, ProgressKeeps, begun-keeps, taken-keeps}
+use Rattle.tough_update.proofs.growth.Kept.{tree-few}
+use Rattle.tough_update.proofs.growth.Laws.{WorkKeeps, ProgressKeeps, begun-keeps, taken-keeps}
 use Rattle.tough_update.specs.declared.counts.Counts.{Counts}
 use Rattle.tough_trust.specs.Failure.{Failure, ParseMetadata}
 use Rattle.tough_trust.specs.Walk.{first_root, next_root}

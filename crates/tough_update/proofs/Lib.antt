@@ -1,3 +1,4 @@
+pub mod growth
 pub mod lemmas
 pub mod Turning
 pub mod Sound

@@ -36,11 +36,11 @@ use Rattle.tough_trust.specs.Listed.{by_root, by_delegations, targets_text, targ
 use Rattle.tough_update.specs.Delegated.{metas_in, is_reserved, if_found, grown_on, roles_begun, role_given, role_stored, with_received}
 use Rattle.tough_trust.specs.Listed.{role_holder}
 use Rattle.tough_trust.specs.delegations.Bare.{bare, top_page, held_as}
-use Rattle.tough_trust.specs.delegations.Full.{fetch_order}
+use Rattle.tough_update.specs.growth.Full.{fetch_order}
 use Rattle.tough_trust.specs.delegations.Numbered.{Nodes, last_document}
 use Rattle.tough_trust.specs.delegations.Growing.{Metas, Index, listed_as, Fetched, TaskDoc, Progress, wants, grown, begun, go_on}
 use Rattle.tough_trust.proofs.lemmas.Bare.{top-bare}
-use Rattle.tough_trust.proofs.lemmas.Laws.{work, grows-whole}
+use Rattle.tough_update.proofs.growth.Laws.{work, grows-whole}
 use Rattle.tough_schema.specs.Delegations.{DelegationsDoc}
 use Rattle.tough_schema.specs.Tree.{Entry}
 use Rattle.tough_schema.specs.Verify.{ReachesDelegated}

@@ -33,13 +33,13 @@ use Rattle.tough_schema.specs.Entries.{IsValid, first_missing}
 use Rattle.tough_schema.proofs.lemmas.Valid.{valid-missing}
 use Rattle.tough_trust.specs.delegations.Growing.{WorkDoc, Progress, wants, grown, first_of, holder_of, go_on, begun}
 use Rattle.tough_trust.specs.delegations.Bare.{bare, top_page, held_as}
-use Rattle.tough_trust.specs.delegations.Once.{AreBare, Distinct, runs}
-use Rattle.tough_trust.specs.delegations.Under.{page_of, Relation, Below, AllTaken}
-use Rattle.tough_trust.specs.delegations.Listed.{WantsListed}
+use Rattle.tough_update.specs.growth.Once.{AreBare, Distinct, runs}
+use Rattle.tough_update.specs.growth.Under.{page_of, Relation, Below, AllTaken}
+use Rattle.tough_update.specs.growth.Listed.{WantsListed}
 use Rattle.tough_trust.proofs.lemmas.Bare.{top-bare, bare-none}
-use Rattle.tough_trust.proofs.lemmas.Listed.{wanted-listed}
-use Rattle.tough_trust.proofs.lemmas.Under.{bare-more}
-use Rattle.tough_trust.proofs.lemmas.Laws.{grows-once, stands-under, runs-more, all-more}
+use Rattle.tough_update.proofs.growth.Listed.{wanted-listed}
+use Rattle.tough_update.proofs.growth.Under.{bare-more}
+use Rattle.tough_update.proofs.growth.Laws.{grows-once, stands-under, runs-more, all-more}
 use Rattle.tough_update.specs.Stages.{WalkDoc, BaseDoc, KnownDoc, WantedDoc, PendingDoc, ReceivedDoc, RolesDoc, StageDoc, SettingDoc}
 use Rattle.tough_update.specs.Stages as at
 use Rattle.tough_update.specs.Answered.{AnswerDoc}

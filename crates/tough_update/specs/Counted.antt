@@ -2,7 +2,7 @@
 use Rattle.std.specs.Prelude.{◌≡◌, ◌≤◌, ◌⊎◌, ℕ, length, Ok}
 use Rattle.tough_keys.specs.Same.{Verifies}
 use Rattle.tough_schema.specs.Entries.{entries, documents_below}
-use Rattle.tough_trust.specs.delegations.Tallies.{tally_work}
+use Rattle.tough_update.specs.growth.Tallies.{tally_work}
 use Rattle.tough_update.specs.declared.counts.Counts.{Counts}
 use Rattle.tough_update.specs.Answered.{AnswerDoc}
 use Rattle.tough_update.specs.Counts.{none_yet, with_fetch, with_tree}

@@ -1,3 +1,4 @@
+pub mod growth
 pub mod Stages
 pub mod Delegated
 pub mod Questions

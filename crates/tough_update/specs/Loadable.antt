@@ -26,10 +26,10 @@ use Rattle.tough_checks.specs.Files.{snapshot_file, targets_file}
 use Rattle.tough_trust.specs.Requests.{RequestDoc, fits_request, root_request, timestamp_request, snapshot_request, targets_request, role_request}
 use Rattle.tough_schema.specs.Entries.{first_missing}
 use Rattle.tough_trust.specs.delegations.Bare.{top_page}
-use Rattle.tough_trust.specs.delegations.Full.{IsFull, fetch_order}
+use Rattle.tough_update.specs.growth.Full.{IsFull, fetch_order}
 use Rattle.tough_trust.specs.delegations.Growing.{listed_as}
-use Rattle.tough_trust.specs.delegations.Once.{Distinct}
-use Rattle.tough_trust.specs.delegations.Under.{Below}
+use Rattle.tough_update.specs.growth.Once.{Distinct}
+use Rattle.tough_update.specs.growth.Under.{Below}
 use Rattle.tough_update.specs.Delegated.{metas_in, is_reserved}
 use Rattle.tough_trust.specs.Listed.{targets_in, targets_text}
 use Rattle.tough_trust.specs.Failure.{Checked}

@@ -16,8 +16,8 @@ use Rattle.tough_schema.specs.Whole.{TreeDoc}
 use Rattle.tough_schema.specs.Fresh.{carriers_below}
 use Rattle.tough_schema.specs.Entries.{IsValid}
 use Rattle.tough_trust.specs.delegations.Bare.{top_page}
-use Rattle.tough_trust.specs.delegations.Once.{Distinct}
-use Rattle.tough_trust.specs.delegations.Under.{Below}
+use Rattle.tough_update.specs.growth.Once.{Distinct}
+use Rattle.tough_update.specs.growth.Under.{Below}
 use Rattle.tough_checks.specs.Files.{snapshot_file, targets_file}
 use Rattle.tough_trust.specs.Requests.{stated_digest}
 use Rattle.tough_trust.specs.Listed.{targets_in}

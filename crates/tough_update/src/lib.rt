@@ -3,6 +3,7 @@
 
 mod ask;
 mod counts;
+pub mod growth_laws;
 pub mod laws;
 mod machine;
 mod roles;

@@ -97,9 +97,12 @@ pub(crate) fn give_role(
         (role_given limits.now (known_doc known) (roles_doc roles)
         (signed_doc tree_doc targets)) result }
 {
-    let Roles { growth, received } = roles;
+    let Roles {
+        mut growth,
+        received,
+    } = roles;
     let name = String::from_str(alloc, wanted_name(&growth))?;
-    let growth = growth.take(Targets::named(targets, name))?;
+    growth.take(Targets::named(targets, name))?;
     grow_on(alloc, limits, known, growth, received)
 }
 

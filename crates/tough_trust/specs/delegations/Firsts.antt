@@ -1,5 +1,6 @@
 -- Which role of a list says who signs for a name: the first of that name (TUF specification 1.0, section 5.6.7).
-use Rattle.std.specs.Prelude.{ℕ, suc, List, [], ◌∷◌, Option, Some, None, cond}
+use Rattle.std.specs.Prelude.{ℕ, List, Option}
+use Rattle.std.specs.List.{position_from}
 use Rattle.std.specs.Str.{bytes_eq}
 use Rattle.tough_schema.specs.Tree.{Entry}
 
@@ -7,7 +8,6 @@ use Rattle.tough_schema.specs.Tree.{Entry}
 abbrev pub Firsts : Type 0
 Firsts = List ℕ → Option ℕ
 
--- the place of the first role of the name, counted from this number on
-abbrev pub first_from : ℕ → List Entry → Firsts
-first_from at [] name = None
-first_from at (e ∷ rest) name = cond (bytes_eq e.name name) (Some at) (first_from (suc at) rest name)
+-- the place of the first role of each name
+abbrev pub first_places : List Entry → Firsts
+first_places roles name = position_from (λ e. bytes_eq e.name name) 0 roles

@@ -2,7 +2,7 @@
 
 ghost use Rattle.std.specs.Prelude.{◌≡◌, IfOk};
 ghost use Rattle.tough_trust.specs.delegations.Documents.{entries_of, firsts_doc};
-ghost use Rattle.tough_trust.specs.delegations.Firsts.{first_from};
+ghost use Rattle.tough_trust.specs.delegations.Firsts.{first_places};
 
 use std::alloc::{AllocError, Global};
 use std::collections::BTreeMap;
@@ -17,7 +17,7 @@ pub(crate) struct Firsts {
 impl Firsts {
     /// Those of this list.
     pub(crate) fn new(alloc: Global, roles: &[DelegatedRole]) -> Result<Firsts, AllocError>
-        ensures { IfOk result (λ f. firsts_doc f ≡ first_from 0 (entries_of roles.now)) }
+        ensures { IfOk result (λ f. firsts_doc f ≡ first_places (entries_of roles.now)) }
     {
         let mut places = BTreeMap::new(alloc);
         for at in (0..roles.len()).rev() {

@@ -2,7 +2,7 @@
 
 ghost use Rattle.std.specs.Prelude.{◌≡◌, ℕ, List};
 ghost use Rattle.tough_trust.specs.delegations.Documents.{firsts_doc, nodes_doc};
-ghost use Rattle.tough_trust.specs.delegations.Firsts.{first_from};
+ghost use Rattle.tough_trust.specs.delegations.Firsts.{first_places};
 ghost use Rattle.tough_trust.specs.delegations.Numbered.{last_roles};
 
 use crate::delegations::firsts::Firsts;
@@ -32,7 +32,7 @@ pub struct Growth {
     // Where the first role of each name stands in the list.
     firsts: Firsts,
     ghost first: { (name : List ℕ)
-        → firsts_doc firsts name ≡ first_from 0 (last_roles (nodes_doc nodes)) name },
+        → firsts_doc firsts name ≡ first_places (last_roles (nodes_doc nodes)) name },
 }
 
 /// How far a tree has grown.
@@ -45,7 +45,7 @@ pub enum Progress<'a> {
 }
 
 impl Growth {
-    ghost use Rattle.std.specs.Prelude.{[], ◌∷◌, IfOk, map, option_map, option_and_then};
+    ghost use Rattle.std.specs.Prelude.{[], ◌∷◌, IfOk, OnOk, map, option_map, option_and_then};
     ghost use Rattle.tough_roles.specs.Timestamp.{metafile_doc};
     ghost use Rattle.tough_schema.specs.Delegations.{delegated_role_doc, delegations_doc};
     ghost use Rattle.tough_schema.specs.Verify.{role_named};
@@ -181,18 +181,17 @@ impl Growth {
     }
 
     /// Takes the document that was wanted, under its role's name.
-    pub fn take(self, document: Signed<DelegatedTargets>) -> Result<Growth, AllocError>
-        ensures { IfOk result (λ g. work_doc g
-            ≡ with_taken (work_doc self) (work_doc self).waiting (held_doc document)) }
+    pub fn take(&mut self, document: Signed<DelegatedTargets>) -> Result<(), AllocError>
+        ensures { OnOk result (work_doc self.new
+            ≡ with_taken (work_doc self.old) (work_doc self.old).waiting (held_doc document)) }
     {
-        let mut growth = self;
-        let Some(role) = growth.role() else {
-            return Ok(growth);
+        let Some(role) = self.role() else {
+            return Ok(());
         };
         let name = role.name.clone()?;
-        growth.fetched.insert(name, document)?;
-        growth.at += 1;
-        Ok(growth)
+        self.fetched.insert(name, document)?;
+        self.at += 1;
+        Ok(())
     }
 
     /// How far the tree grows without a further document: the list is looked at from the role on that is next. The snapshot is always the

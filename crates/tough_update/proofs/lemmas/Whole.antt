@@ -16,7 +16,7 @@ use Rattle.tough_update.proofs.History.{tells-at}
 use Rattle.tough_update.proofs.Noting.{once}
 use Rattle.tough_update.proofs.Sound.{Holds, Told, KnownFine, RoleFine, TreeFine, answer-fine, in-time}
 use Rattle.tough_update.specs.Trusted.{IsVouched}
-use Rattle.tough_trust.proofs.lemmas.Under.{below-to}
+use Rattle.tough_update.proofs.growth.Under.{below-to}
 
 module _ (v : Verifies) (c : CoreDoc) (fresh : IsFresh c) (all : List AnswerDoc) where
   abbrev Last : SignedDoc RootDoc → Type 0

@@ -17,5 +17,5 @@ returns c =
     let d = signed_doc tree_doc c.args.targets in
     let name : string_bytes c.in_ok-name.name ≡ wanted_name w = search rules in
     let named : held_doc c.named.result ≡ held_as (wanted_name w) d = c.named.ensures ∙ ap (λ n. held_as n d) name in
-    let taken : work_doc c.in_ok-growth.growth ≡ given w d = c.in_ok-growth.ensures ∙ ap (with_taken w w.waiting) named in
+    let taken : work_doc c.take.new.self ≡ given w d = c.in_ok-take.ensures ∙ ap (with_taken w w.waiting) named in
     subst (λ x. Gives stage_doc (grown_on c.args.limits.now k (received_docs c.args.roles.received.items) (go_on (metas_in k) x)) c.grow_on.result) taken c.grow_on.ensures

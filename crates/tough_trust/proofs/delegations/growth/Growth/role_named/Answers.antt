@@ -11,16 +11,16 @@ use Rattle.tough_schema.specs.declared.delegations.DelegatedRole.{DelegatedRole}
 use Rattle.tough_schema.specs.declared.targets.DelegatedTargets.{DelegatedTargets}
 use Rattle.tough_trust.specs.declared.delegations.growth.Growth.{Growth}
 use Rattle.tough_trust.specs.delegations.Documents.{entries_of, firsts_doc, listed_in, nodes_doc}
-use Rattle.tough_trust.specs.delegations.Firsts.{first_from}
+use Rattle.tough_trust.specs.delegations.Firsts.{first_places}
 use Rattle.tough_trust.specs.delegations.Numbered.{last_document}
 use Rattle.tough_trust.proofs.Firsts.{none-in, some-in}
 use Rattle.tough_trust.proofs.Listing.{listed-held}
 use Rattle.tough_trust.proofs.delegations.growth.Growth.role_named.Goals as goal
 
 -- what the map tells is so in the document whose list it is
-told : (g : Growth) (s : Signed DelegatedTargets) (name : List ℕ) (place : Option ℕ) → held_doc s ≡ last_document (nodes_doc g.nodes) → place ≡ firsts_doc g.firsts name → first_from 0 (entries_of (listed_in s)) name ≡ place
+told : (g : Growth) (s : Signed DelegatedTargets) (name : List ℕ) (place : Option ℕ) → held_doc s ≡ last_document (nodes_doc g.nodes) → place ≡ firsts_doc g.firsts name → first_places (entries_of (listed_in s)) name ≡ place
 told g s name place last found =
-    ap (λ (es : List Entry). first_from 0 es name) (listed-held s) ∙ ap (λ (h : HeldDoc). first_from 0 (listed_roles h.below) name) last ∙ sym (found ∙ g.first name)
+    ap (λ (es : List Entry). first_places es name) (listed-held s) ∙ ap (λ (h : HeldDoc). first_places (listed_roles h.below) name) last ∙ sym (found ∙ g.first name)
 
 pub returns-in_err-get : goal.returns-in_err-get
 returns-in_err-get c =

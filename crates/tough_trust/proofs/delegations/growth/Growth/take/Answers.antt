@@ -13,9 +13,9 @@ use Rattle.tough_trust.proofs.Sizing.{small-last}
 use Rattle.tough_trust.proofs.Turning.{some-within, first-some, drop-next, fetched-inserted, taken-some}
 use Rattle.tough_trust.proofs.delegations.growth.Growth.take.Goals as goal
 
-pub overflow_add-growth : goal.overflow_add-growth
-overflow_add-growth c =
-    let g = c.args.self in
+pub overflow_add-self : goal.overflow_add-self
+overflow_add-self c =
+    let g = c.args.self.now in
     let es = listed_roles (last_document (nodes_doc g.nodes)).below in
     let within : g.at < length es = some-within es g.at (role_tree c.in-Some.role.now).0 c.in-Some.ensures in
     let small : length es < 2 ^ 63 = small-last g.nodes in
@@ -23,7 +23,7 @@ overflow_add-growth c =
 
 pub returns : goal.returns
 returns c =
-    let g = c.args.self in
+    let g = c.args.self.now in
     let role = c.in-Some.role.now in
     let e = (role_tree role).0 in
     let h = held_doc c.args.document in

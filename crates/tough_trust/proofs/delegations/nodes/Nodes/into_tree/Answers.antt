@@ -4,7 +4,7 @@ use Rattle.tough_schema.specs.Whole.{TreeDoc, HeldDoc, held_doc}
 use Rattle.tough_trust.specs.declared.delegations.nodes.Nodes.{Nodes}
 use Rattle.tough_trust.specs.delegations.Numbered.{also, last_number, tree_of}
 use Rattle.tough_trust.specs.delegations.Documents.{node_doc, nodes_doc}
-use Rattle.tough_trust.proofs.Noding.{put-number, tree-step}
+use Rattle.tough_trust.proofs.lemmas.Noding.{put-number, tree-step}
 use Rattle.tough_trust.proofs.NodeSteps.{nodes-more, tree-top}
 use Rattle.tough_trust.proofs.delegations.nodes.Nodes.into_tree.Goals as goal
 

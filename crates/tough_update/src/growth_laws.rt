@@ -5,7 +5,7 @@ ghost use Rattle.tough_roles.specs.Signature.{SignedDoc};
 ghost use Rattle.tough_schema.specs.Whole.{HeldDoc, TreeDoc};
 ghost use Rattle.tough_trust.specs.delegations.Growing.{Metas, grown, begun};
 ghost use Rattle.tough_schema.specs.Fresh.{carriers_below, IsFresh, IsFreshDelegated};
-ghost use Rattle.tough_trust.specs.delegations.Once.{IsBare, AreBare, Distinct, runs};
+ghost use Rattle.tough_update.specs.growth.Once.{IsBare, AreBare, Distinct, runs};
 
 /// No name carries a document twice, whatever documents are taken.
 pub fn grows_once()
@@ -17,7 +17,7 @@ pub fn grows_once()
 ghost use Rattle.std.specs.Prelude.{ℕ, Bool, IsTrue, Option};
 ghost use Rattle.tough_schema.specs.Delegations.{DelegationsDoc};
 ghost use Rattle.tough_schema.specs.Targets.{TargetsDoc};
-ghost use Rattle.tough_trust.specs.delegations.Under.{AllTaken, Below, page_of};
+ghost use Rattle.tough_update.specs.growth.Under.{AllTaken, Below, page_of};
 ghost use Rattle.tough_trust.specs.delegations.Bare.{top_page};
 
 /// What is asked of each document that is taken, of the delegations that ask for it, the name of the role and the document without those
@@ -37,7 +37,7 @@ pub fn grows_under()
         → runs metas (begun metas top) documents ≡ grown t → top_page t ≡ page_of top }
 {}
 
-ghost use Rattle.tough_trust.specs.delegations.Listed.{WantsListed};
+ghost use Rattle.tough_update.specs.growth.Listed.{WantsListed};
 
 /// A document that is wanted is one that the snapshot lists so, for a role of the document whose list is being fetched.
 pub fn wanted_is_listed()
@@ -45,7 +45,7 @@ pub fn wanted_is_listed()
         → WantsListed metas (runs metas (begun metas top) documents) }
 {}
 
-ghost use Rattle.tough_trust.specs.delegations.Indexed.{WantsIndexed};
+ghost use Rattle.tough_update.specs.growth.Indexed.{WantsIndexed};
 
 /// As long as the tree grows, its index tells where the documents stand: a name has a number exactly where the document of that number has
 /// its place under a role of the name.

@@ -1,4 +1,4 @@
-use Rattle.tough_trust.proofs.delegations.laws.read_is_bare.Goals as goal
+use Rattle.tough_update.proofs.growth_laws.read_is_bare.Goals as goal
 
 pub returns-clause-top : goal.returns-clause-top
 returns-clause-top c = λ s h. h

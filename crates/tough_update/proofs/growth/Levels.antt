@@ -14,8 +14,8 @@ use Rattle.tough_schema.specs.Update.{listed_roles}
 use Rattle.tough_schema.specs.Entries.{entries}
 use Rattle.tough_schema.specs.Search.{Names, no_names, add}
 use Rattle.tough_trust.specs.delegations.Growing.{Metas, Look, through, unlisted, wanted, look, Fetched, at_name, first_of}
-use Rattle.tough_trust.specs.delegations.Once.{IsBare}
-use Rattle.tough_trust.specs.delegations.Under.{Relation, page_of}
+use Rattle.tough_update.specs.growth.Once.{IsBare}
+use Rattle.tough_update.specs.growth.Under.{Relation, page_of}
 
 -- each role with what was fetched for it; of two roles of one name the first gets it
 abbrev pub with_fetched : Fetched → List Entry → List RoleTree

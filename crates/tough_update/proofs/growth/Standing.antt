@@ -15,15 +15,15 @@ use Rattle.tough_schema.specs.Whole.{TreeDoc, tree, Branches, no_branches, unloa
 use Rattle.tough_trust.specs.delegations.Numbered.{NodeDoc, Nodes, targets, also, last_number, last_document, roles_at, Hanging, nothing_hangs, hang, dressed, tree_with, tree_of}
 use Rattle.tough_trust.specs.delegations.Growing as numbers
 use Rattle.tough_trust.specs.delegations.Growing.{Metas, Index, put, names_of, Look, through, unlisted, wanted, look, Fetched, fetched_for, fetched_after, offer_for, TaskDoc, WorkDoc, Progress}
-use Rattle.tough_trust.specs.delegations.Once.{IsBare, AreBare, runs}
-use Rattle.tough_trust.specs.delegations.Under.{Relation, AllTaken}
-use Rattle.tough_trust.specs.delegations.Tallies.{tally}
-use Rattle.tough_trust.proofs.lemmas.Levels as levels
-use Rattle.tough_trust.proofs.lemmas.Levels.{with_fetched, refilled, with_roles, OpenDoc}
-use Rattle.tough_trust.proofs.lemmas.Once.{BareAt, BareFetched, lookup-bare, removed-bare, inserted-bare}
-use Rattle.tough_trust.proofs.lemmas.Tallied.{size, size_below, roles-size, entries-size}
-use Rattle.tough_trust.proofs.Dressing.{dressed-none}
-use Rattle.tough_trust.proofs.lemmas.Trees.{roles_in, same-number, below-number, node_at, Free, none-free, hang-free, hang_all, all-number, all-last-none, all-last-some, dressed-all, tree-only}
+use Rattle.tough_update.specs.growth.Once.{IsBare, AreBare, runs}
+use Rattle.tough_update.specs.growth.Under.{Relation, AllTaken}
+use Rattle.tough_update.specs.growth.Tallies.{tally}
+use Rattle.tough_update.proofs.growth.Levels as levels
+use Rattle.tough_update.proofs.growth.Levels.{with_fetched, refilled, with_roles, OpenDoc}
+use Rattle.tough_update.proofs.growth.Once.{BareAt, BareFetched, lookup-bare, removed-bare, inserted-bare}
+use Rattle.tough_update.proofs.growth.Tallied.{size, size_below, roles-size, entries-size}
+use Rattle.tough_trust.proofs.lemmas.Dressing.{dressed-none}
+use Rattle.tough_update.proofs.growth.Trees.{roles_in, same-number, below-number, node_at, Free, none-free, hang-free, hang_all, all-number, all-last-none, all-last-some, dressed-all, tree-only}
 
 -- ---- the roles of the documents
 

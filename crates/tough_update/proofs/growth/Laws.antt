@@ -15,24 +15,24 @@ use Rattle.tough_schema.specs.Tree.{Entry}
 use Rattle.tough_schema.specs.Update.{listed_roles}
 use Rattle.tough_schema.specs.Whole.{TreeDoc, HeldDoc, top_doc}
 use Rattle.tough_trust.specs.delegations.Bare.{bare, top_page, held_as}
-use Rattle.tough_trust.specs.delegations.Full.{IsFull, fetch_order}
+use Rattle.tough_update.specs.growth.Full.{IsFull, fetch_order}
 use Rattle.tough_trust.specs.delegations.Numbered.{NodeDoc, Nodes, targets, also, last_document}
 use Rattle.tough_trust.specs.delegations.Growing.{Metas, Index, listed_as, Fetched, TaskDoc, WorkDoc, Progress, wants, grown, first_of, holder_of, go_on, begun, taken}
-use Rattle.tough_trust.specs.delegations.Once.{IsBare, AreBare, Distinct, runs}
-use Rattle.tough_trust.specs.delegations.Tallies.{tally, tally_work}
-use Rattle.tough_trust.specs.delegations.Under.{page_of, Relation, Below, AllTaken}
+use Rattle.tough_update.specs.growth.Once.{IsBare, AreBare, Distinct, runs}
+use Rattle.tough_update.specs.growth.Tallies.{tally, tally_work}
+use Rattle.tough_update.specs.growth.Under.{page_of, Relation, Below, AllTaken}
 use Rattle.tough_trust.proofs.lemmas.Bare.{bare-none}
-use Rattle.tough_trust.proofs.lemmas.Levels as levels
-use Rattle.tough_trust.proofs.lemmas.Levels.{OpenDoc}
-use Rattle.tough_trust.proofs.lemmas.Once as once
-use Rattle.tough_trust.proofs.lemmas.Once.{BareFetched, inserted-bare}
-use Rattle.tough_trust.proofs.lemmas.Under as under
-use Rattle.tough_trust.proofs.lemmas.Kept as kept
-use Rattle.tough_trust.proofs.lemmas.Full as full
-use Rattle.tough_trust.proofs.lemmas.Tallied as tallied
-use Rattle.tough_trust.proofs.lemmas.Tallied.{IsKeyed}
-use Rattle.tough_trust.proofs.lemmas.Trees.{roles_in}
-use Rattle.tough_trust.proofs.lemmas.Standing.{hung_size, tally-length, fetched-length, Step, Stands, level_of, Alike, taken-alike, begun-alike, runs-alike, all-alike}
+use Rattle.tough_update.proofs.growth.Levels as levels
+use Rattle.tough_update.proofs.growth.Levels.{OpenDoc}
+use Rattle.tough_update.proofs.growth.Once as once
+use Rattle.tough_update.proofs.growth.Once.{BareFetched, inserted-bare}
+use Rattle.tough_update.proofs.growth.Under as under
+use Rattle.tough_update.proofs.growth.Kept as kept
+use Rattle.tough_update.proofs.growth.Full as full
+use Rattle.tough_update.proofs.growth.Tallied as tallied
+use Rattle.tough_update.proofs.growth.Tallied.{IsKeyed}
+use Rattle.tough_update.proofs.growth.Trees.{roles_in}
+use Rattle.tough_update.proofs.growth.Standing.{hung_size, tally-length, fetched-length, Step, Stands, level_of, Alike, taken-alike, begun-alike, runs-alike, all-alike}
 
 -- ---- no name twice, and what stands under what
 

@@ -6,7 +6,7 @@ use Rattle.tough_schema.specs.Update.{listed_roles}
 use Rattle.tough_schema.specs.Whole.{HeldDoc}
 use Rattle.tough_trust.specs.delegations.Numbered.{NodeDoc, Nodes, targets, also, last_number, last_document, roles_at, Hanging, nothing_hangs, hang, dressed, tree_with, tree_of, only, put_at}
 use Rattle.tough_trust.specs.delegations.Documents.{all_also}
-use Rattle.tough_trust.proofs.Dressing.{Has, or_else, or-none, both, dressed-twice, dressed-none}
+use Rattle.tough_trust.proofs.lemmas.Dressing.{Has, or_else, or-none, both, dressed-twice, dressed-none}
 
 -- ---- one more
 

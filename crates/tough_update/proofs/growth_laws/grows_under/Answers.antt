@@ -1,6 +1,6 @@
 use Rattle.std.specs.Prelude.{IsTrue}
-use Rattle.tough_trust.proofs.lemmas.Laws.{stands-under}
-use Rattle.tough_trust.proofs.delegations.laws.grows_under.Goals as goal
+use Rattle.tough_update.proofs.growth.Laws.{stands-under}
+use Rattle.tough_update.proofs.growth_laws.grows_under.Goals as goal
 
 pub returns-clause-under : goal.returns-clause-under
 returns-clause-under c = λ fits metas top hs t bare all is. (stands-under (λ g name page. IsTrue (fits g name page)) metas top hs t bare all is).0
