@@ -7,14 +7,16 @@ use crate::entries::{metafile, target};
 use crate::error::DemoError;
 use crate::files::{RepositoryFile, RepositoryFiles};
 use crate::keys::{PUBLIC, demo_signer, ed25519};
-use crate::plans::RolePlan;
-use crate::roles::{delegated_role, delegations, role_key};
+use crate::plans::{PlannedPaths, RolePlan};
+use crate::roles::{by_pattern, by_prefix, delegated_role, delegations, role_key};
 use crate::text::{pretty, sign};
 use std::alloc::{AllocError, Global};
 use std::collections::BTreeMap;
 use std::num::NonZeroU64;
 use tough_base::TargetName;
-use tough_schema::{DelegatedTargets, Delegations, DemoSign, Metafile, Role, Target, Targets};
+use tough_schema::{
+    DelegatedTargets, Delegations, DemoSign, Metafile, PathSet, Role, Target, Targets,
+};
 
 // The version that a number is.
 fn version(number: u64) -> NonZeroU64
@@ -156,6 +158,14 @@ fn sealed(
     Ok(RepositoryFiles { root, files })
 }
 
+// The path set of a planned role.
+fn paths_of(alloc: Global, planned: &PlannedPaths) -> Result<PathSet, DemoError> {
+    match planned {
+        PlannedPaths::Pattern(pattern) => by_pattern(alloc, pattern.as_str()),
+        PlannedPaths::Prefix(prefix) => by_prefix(alloc, prefix.as_str()),
+    }
+}
+
 // The roles of the plan to which this one delegates, or the targets.
 fn roles_under(
     alloc: Global,
@@ -165,7 +175,7 @@ fn roles_under(
     let mut roles = Vec::new(alloc);
     for role in plan {
         if role.above == above {
-            let paths = role.paths.clone()?;
+            let paths = paths_of(alloc, &role.paths)?;
             roles.push(delegated_role(alloc, role.name.as_str(), paths, role.terminating)?)?;
         }
     }

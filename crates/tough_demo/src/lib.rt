@@ -20,6 +20,6 @@ pub use entries::{hashes, metafile, target};
 pub use error::DemoError;
 pub use files::{RepositoryFile, RepositoryFiles};
 pub use keys::{PUBLIC, demo_signer, ed25519};
-pub use plans::{RolePlan, chain, fan, mixed};
+pub use plans::{PlannedPaths, RolePlan, chain, fan, mixed};
 pub use roles::{by_pattern, by_prefix, delegated_role, delegations, role_key};
 pub use text::{pretty, sign};

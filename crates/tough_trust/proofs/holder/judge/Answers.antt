@@ -1,4 +1,4 @@
-use Rattle.std.proofs.Common.{rules, ◌≡◌, Some, Ok, Err, ap, sym, subst, refl, ◌∙◌}
+use Rattle.std.proofs.Common.{rules, ◌≡◌, Some, Ok, Err, ap, sym, subst, ◌∙◌}
 use Rattle.tough_checks.specs.Checks.{enforces}
 use Rattle.tough_checks.specs.declared.checks.Refusal.{Refusal}
 use Rattle.tough_checks.specs.declared.checks.Refusal.TheVariants.{VerifyMetadata}
