@@ -3,14 +3,19 @@
 use crate::load::{over_files, over_memory};
 use anyhow::Error;
 use std::alloc::Global;
-use tough_demo::{RepositoryFile, RepositoryFiles, RolePlan};
+use tough_demo::{DemoError, RepositoryFile, RepositoryFiles};
 
-// The roles of a chain, or those of a fan.
-fn plan(alloc: Global, is_chain: bool, roles: usize, each: usize) -> Result<Vec<RolePlan>, Error> {
+// The repository of a chain of roles, or of a fan.
+fn repository(
+    alloc: Global,
+    is_chain: bool,
+    roles: usize,
+    each: usize,
+) -> Result<RepositoryFiles, DemoError> {
     if is_chain {
-        Ok(tough_demo::chain(alloc, roles, each)?)
+        tough_demo::chain(alloc, roles, each)
     } else {
-        Ok(tough_demo::fan(alloc, roles, each)?)
+        tough_demo::fan(alloc, roles, each)
     }
 }
 
@@ -50,13 +55,7 @@ pub fn run(
 ) -> Result<(), Error> {
     let each = targets.checked_div(roles).unwrap_or(0);
     println!(rt; "{roles} roles with {each} targets each")?;
-    let plan = plan(rt.alloc(), is_chain, roles, each)?;
-    let RepositoryFiles { root, files } = tough_demo::delegated_repository(
-        rt.alloc(),
-        0,
-        &plan,
-        true,
-    )?;
+    let RepositoryFiles { root, files } = repository(rt.alloc(), is_chain, roles, each)?;
     let metadata = metadata_of(rt.alloc(), files)?;
     measure(rt, root.as_slice(), metadata.as_slice(), folder)
 }

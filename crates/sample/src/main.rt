@@ -51,10 +51,10 @@ fn read_words(rt: &HostRuntime) -> Result<Option<Words>, Error> {
 // Makes the repository that is asked for.
 fn made(alloc: Global, words: &Words) -> Result<RepositoryFiles, DemoError> {
     if words.delegated {
-        let plan = tough_demo::mixed(alloc)?;
-        return tough_demo::delegated_repository(alloc, TARGETS, &plan, words.consistent);
+        tough_demo::mixed(alloc, TARGETS, words.consistent)
+    } else {
+        tough_demo::repository(alloc, TARGETS, words.consistent)
     }
-    tough_demo::repository(alloc, TARGETS, words.consistent)
 }
 
 // Makes the repository, and writes it.

@@ -1,18 +1,26 @@
 -- What the documents of demonstrations hold, and how they are signed and written.
-use Rattle.std.specs.Prelude.{◌≡◌, ℕ, List, [], ◌∷◌, ◌++◌, Option, Some, Ok, map, All, option_map, codes}
+use Rattle.std.specs.Prelude.{◌≡◌, ℕ, Bool, List, [], ◌∷◌, ◌++◌, Option, Some, Ok, map, All, option_map, codes}
+use Rattle.std.specs.BTreeMap.{insert_entry}
+use Rattle.std.specs.Cmp.Lexicographic.{slice_cmp}
+use Rattle.std.specs.Ordering.{nat_cmp, on}
 use Rattle.json.specs.Layout.{pretty}
 use Rattle.json.specs.Lex.{tokens}
 use Rattle.serde_json.specs.Data.{Data}
 use Rattle.serde_json.specs.Written.{IsInOrder}
 use Rattle.jiff.specs.Words.{parse_timestamp}
 use Rattle.tough_base.specs.Spelled.{Spelled}
-use Rattle.tough_keys.specs.Key.{KeyDoc, key_id_of}
+use Rattle.sha2.specs.Sha256.{sha256}
+use Rattle.tough_keys.specs.declared.key.Key.{Key}
+use Rattle.tough_keys.specs.Key.{KeyDoc, key_doc, key_id_of}
 use Rattle.tough_keys.specs.Demo.{demo_signature}
 use Rattle.tough_roles.specs.Head.{Head}
 use Rattle.tough_roles.specs.Root.{RoleKeysDoc}
 use Rattle.tough_roles.specs.declared.role_type.RoleType.{RoleType}
 use Rattle.tough_roles.specs.declared.role_type.RoleType.TheVariants as types
 use Rattle.tough_roles.specs.Signature.{SignatureDoc}
+use Rattle.tough_schema.specs.declared.delegations.Delegations.{Delegations}
+use Rattle.tough_schema.specs.Delegations.{DelegatedRoleDoc, delegations_doc, keys_held}
+use Rattle.tough_schema.specs.Paths.{PathsDoc}
 
 -- the head of a document of this version, of version 1.0.0 of the specification, which expires at the instant of this
 -- text (TUF specification 1.0, section 4.2.1)
@@ -47,3 +55,17 @@ pub record IsPretty (d : Data) (bytes : List ℕ) : Type 0 where
   pub line : bytes ≡ text ++ 10 ∷ []
   pub layout : text ≡ pretty (tokens text)
   pub order : IsInOrder text d
+
+-- the role of this name in a list of roles, which the one key of this identifier signs alone
+abbrev pub role_alone : List ℕ → PathsDoc → Bool → Spelled → DelegatedRoleDoc
+role_alone name paths terminating id = record { name = name; keyids = id ∷ []; threshold = 1; paths = paths; terminating = terminating }
+
+-- what delegating to the role of this name adds: its key, whose public part is the digest of the name, under the key's
+-- identifier, and the role after the others (TUF specification 1.0, section 4.5)
+pub record IsDelegated (name : List ℕ) (paths : PathsDoc) (terminating : Bool) (before after : Delegations) : Type 0 where
+  pub id : Spelled
+  pub key : Key
+  pub is_of_name : (key_doc key).public.bytes ≡ sha256 name
+  pub identifier : key_id_of (key_doc key) ≡ Some id.bytes
+  pub keys : keys_held after ≡ insert_entry (on (λ d. d.bytes) (slice_cmp nat_cmp)) (keys_held before) id key
+  pub roles : (delegations_doc after).roles ≡ (delegations_doc before).roles ++ role_alone name paths terminating id ∷ []

@@ -3,16 +3,16 @@
 #![tactic(auto)]
 
 mod build;
+mod builder;
 mod documents;
 mod entries;
 mod error;
 mod files;
 mod keys;
-mod plans;
 mod roles;
 mod text;
 
-pub use build::{delegated_repository, repository};
+pub use build::{chain, fan, mixed, repository};
 pub use documents::{
     EXPIRES, expires, root, root_with, snapshot, snapshot_of, targets, timestamp, timestamp_of,
 };
@@ -20,6 +20,5 @@ pub use entries::{hashes, metafile, target};
 pub use error::DemoError;
 pub use files::{RepositoryFile, RepositoryFiles};
 pub use keys::{PUBLIC, demo_signer, ed25519};
-pub use plans::{PlannedPaths, RolePlan, chain, fan, mixed};
-pub use roles::{by_pattern, by_prefix, delegated_role, delegations, role_key};
+pub use roles::{by_pattern, by_prefix, delegate, delegation, no_roles, role_key};
 pub use text::{pretty, sign};

@@ -1,9 +1,11 @@
 //! Delegated roles (TUF specification 1.0, section 4.5).
-ghost use Rattle.std.specs.Prelude.{◌≡◌, [], ◌∷◌, IfOk, map};
+ghost use Rattle.std.specs.Prelude.{◌≡◌, [], ◌∷◌, IfOk, OnOk};
 ghost use Rattle.sha2.specs.Sha256.{sha256};
 ghost use Rattle.tough_keys.specs.Key.{key_doc};
-ghost use Rattle.tough_schema.specs.Delegations.{delegated_role_doc, delegations_doc};
+ghost use Rattle.tough_schema.specs.declared.delegations.Delegations.{Delegations};
+ghost use Rattle.tough_schema.specs.Delegations.{delegations_doc, no_delegations};
 ghost use Rattle.tough_schema.specs.Paths.{paths_doc, patterns, prefixes};
+ghost use Rattle.tough_demo.specs.Demo.{IsDelegated};
 
 use crate::entries::hashes;
 use crate::error::DemoError;
@@ -48,39 +50,55 @@ pub fn by_prefix(alloc: Global, prefix: &str) -> Result<PathSet, DemoError>
     Ok(PathSet::PathHashPrefixes(prefixes))
 }
 
-/// The role of this name, without its document; its own key signs it alone.
-pub fn delegated_role(
+/// No role and no key.
+pub fn no_roles(alloc: Global) -> Delegations
+    ensures { delegations_doc result ≡ no_delegations }
+{
+    Delegations {
+        keys: BTreeMap::new(alloc),
+        roles: Vec::new(alloc),
+    }
+}
+
+/// Delegates to the role of this name, after the others. Its own key signs it alone.
+pub fn delegate(
     alloc: Global,
+    delegations: &mut Delegations,
     name: &str,
     paths: PathSet,
     terminating: bool,
-) -> Result<DelegatedRole, DemoError>
-    ensures name { IfOk result (λ r. (delegated_role_doc r).name ≡ name.now) }
-    ensures paths { IfOk result (λ r. (delegated_role_doc r).paths ≡ paths_doc paths) }
-    ensures terminating { IfOk result (λ r. (delegated_role_doc r).terminating ≡ terminating) }
-    ensures threshold { IfOk result (λ r. (delegated_role_doc r).threshold ≡ 1) }
+) -> Result<(), DemoError>
+    ensures { OnOk result (IsDelegated name.now (paths_doc paths) terminating
+        delegations.old delegations.new) }
 {
     let key = role_key(alloc, name)?;
+    let keyid = identifier(alloc, &key)?;
     let mut keyids = Vec::new(alloc);
-    keyids.push(identifier(alloc, &key)?)?;
-    Ok(DelegatedRole {
+    keyids.push(keyid.clone()?)?;
+    let role = DelegatedRole {
         name: String::from_str(alloc, name)?,
         keyids,
         threshold: NonZeroU64::MIN,
         paths,
         terminating,
         targets: None,
-    })
+    };
+    drop(delegations.keys.insert(keyid, key)?);
+    delegations.roles.push(role)?;
+    Ok(())
 }
 
-/// Delegations to these roles, with the key of each.
-pub fn delegations(alloc: Global, roles: Vec<DelegatedRole>) -> Result<Delegations, DemoError>
-    ensures { IfOk result (λ g. (delegations_doc g).roles ≡ map delegated_role_doc roles.items) }
+/// Delegations to the role of this name alone, as `delegate` makes them.
+pub fn delegation(
+    alloc: Global,
+    name: &str,
+    paths: PathSet,
+    terminating: bool,
+) -> Result<Delegations, DemoError>
+    ensures { IfOk result (λ g. (e : Delegations) × (delegations_doc e ≡ no_delegations)
+        × IsDelegated name.now (paths_doc paths) terminating e g) }
 {
-    let mut keys = BTreeMap::new(alloc);
-    for role in &roles {
-        let key = role_key(alloc, role.name.as_str())?;
-        keys.insert(identifier(alloc, &key)?, key)?;
-    }
-    Ok(Delegations { keys, roles })
+    let mut delegations = no_roles(alloc);
+    delegate(alloc, &mut delegations, name, paths, terminating)?;
+    Ok(delegations)
 }
