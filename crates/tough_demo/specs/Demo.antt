@@ -1,8 +1,6 @@
 -- What the documents of demonstrations hold, and how they are signed and written.
 use Rattle.std.specs.Prelude.{◌≡◌, ℕ, Bool, List, [], ◌∷◌, ◌++◌, Option, Some, Ok, map, All, option_map, codes}
 use Rattle.std.specs.BTreeMap.{insert_entry}
-use Rattle.std.specs.Cmp.Lexicographic.{slice_cmp}
-use Rattle.std.specs.Ordering.{nat_cmp, on}
 use Rattle.json.specs.Layout.{pretty}
 use Rattle.json.specs.Lex.{tokens}
 use Rattle.serde_json.specs.Data.{Data}
@@ -14,7 +12,7 @@ use Rattle.tough_keys.specs.declared.key.Key.{Key}
 use Rattle.tough_keys.specs.Key.{KeyDoc, key_doc, key_id_of}
 use Rattle.tough_keys.specs.Demo.{demo_signature}
 use Rattle.tough_roles.specs.Head.{Head}
-use Rattle.tough_roles.specs.Root.{RoleKeysDoc}
+use Rattle.tough_roles.specs.Root.{RoleKeysDoc, by_bytes}
 use Rattle.tough_roles.specs.declared.role_type.RoleType.{RoleType}
 use Rattle.tough_roles.specs.declared.role_type.RoleType.TheVariants as types
 use Rattle.tough_roles.specs.Signature.{SignatureDoc}
@@ -67,5 +65,5 @@ pub record IsDelegated (name : List ℕ) (paths : PathsDoc) (terminating : Bool)
   pub key : Key
   pub is_of_name : (key_doc key).public.bytes ≡ sha256 name
   pub identifier : key_id_of (key_doc key) ≡ Some id.bytes
-  pub keys : keys_held after ≡ insert_entry (on (λ d. d.bytes) (slice_cmp nat_cmp)) (keys_held before) id key
+  pub keys : keys_held after ≡ insert_entry by_bytes (keys_held before) id key
   pub roles : (delegations_doc after).roles ≡ (delegations_doc before).roles ++ role_alone name paths terminating id ∷ []

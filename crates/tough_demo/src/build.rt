@@ -6,7 +6,7 @@ use crate::documents::targets;
 use crate::entries::hashes;
 use crate::error::DemoError;
 use crate::files::RepositoryFiles;
-use crate::roles::{by_pattern, by_prefix, delegate, delegation, no_roles};
+use crate::roles::{by_pattern, by_prefix, delegate, delegation};
 use std::alloc::{AllocError, Global};
 use std::collections::BTreeMap;
 use tough_base::TargetName;
@@ -42,7 +42,7 @@ pub fn repository(alloc: Global, count: u64, consistent: bool) -> Result<Reposit
     ensures { IfOk result (λ r. length r.files.items ≡ count + 4) }
 {
     let mut builder = Builder::new(alloc, consistent);
-    let top = add_targets(alloc, count, no_roles(alloc), &mut builder)?;
+    let top = add_targets(alloc, count, Delegations::new(alloc), &mut builder)?;
     builder.finish(alloc, top)
 }
 
@@ -127,7 +127,7 @@ fn link(alloc: Global, number: usize, roles: usize) -> Result<Delegations, DemoE
         let name = numbered(alloc, number)?;
         delegation(alloc, name.as_str(), by_pattern(alloc, "*")?, false)
     } else {
-        Ok(no_roles(alloc))
+        Ok(Delegations::new(alloc))
     }
 }
 
@@ -155,13 +155,19 @@ pub fn fan(alloc: Global, roles: usize, each: usize) -> Result<RepositoryFiles, 
     ensures { IfOk result (λ r. length r.files.items ≡ roles * (each + 1) + 4) }
 {
     let mut builder = Builder::new(alloc, true);
-    let mut below = no_roles(alloc);
+    let mut below = Delegations::new(alloc);
     for number in 0..roles {
         let name = numbered(alloc, number)?;
         let pattern = format!(in alloc; "{name}/*")?;
         let paths = by_pattern(alloc, pattern.as_str())?;
         delegate(alloc, &mut below, name.as_str(), paths, false)?;
-        add_role_of_many(alloc, name.as_str(), each, no_roles(alloc), &mut builder)?;
+        add_role_of_many(
+            alloc,
+            name.as_str(),
+            each,
+            Delegations::new(alloc),
+            &mut builder,
+        )?;
     }
     let top = add_targets(alloc, 0, below, &mut builder)?;
     builder.finish(alloc, top)
@@ -185,11 +191,17 @@ pub fn mixed(alloc: Global, count: u64, consistent: bool) -> Result<RepositoryFi
     ensures { IfOk result (λ r. length r.files.items ≡ count + 12) }
 {
     let mut builder = Builder::new(alloc, consistent);
-    add_role_of_one(alloc, "red", "red", no_roles(alloc), &mut builder)?;
-    add_role_of_one(alloc, "green", "green", no_roles(alloc), &mut builder)?;
+    add_role_of_one(alloc, "red", "red", Delegations::new(alloc), &mut builder)?;
+    add_role_of_one(
+        alloc,
+        "green",
+        "green",
+        Delegations::new(alloc),
+        &mut builder,
+    )?;
     let below = delegation(alloc, "a/b", by_pattern(alloc, "a-b*")?, false)?;
     add_role_of_one(alloc, "a", "a", below, &mut builder)?;
-    add_role_of_one(alloc, "a/b", "a-b", no_roles(alloc), &mut builder)?;
+    add_role_of_one(alloc, "a/b", "a-b", Delegations::new(alloc), &mut builder)?;
     let top = add_targets(alloc, count, three(alloc)?, &mut builder)?;
     builder.finish(alloc, top)
 }

@@ -20,5 +20,5 @@ pub use entries::{hashes, metafile, target};
 pub use error::DemoError;
 pub use files::{RepositoryFile, RepositoryFiles};
 pub use keys::{PUBLIC, demo_signer, ed25519};
-pub use roles::{by_pattern, by_prefix, delegate, delegation, no_roles, role_key};
+pub use roles::{by_pattern, by_prefix, delegate, delegation, role_key};
 pub use text::{pretty, sign};

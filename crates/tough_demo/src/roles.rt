@@ -12,7 +12,6 @@ use crate::error::DemoError;
 use crate::keys::identifier;
 use serde_json::Map;
 use std::alloc::Global;
-use std::collections::BTreeMap;
 use std::num::NonZeroU64;
 use tough_base::{PathHashPrefix, PathPattern};
 use tough_schema::{DelegatedRole, Delegations, Ed25519Key, Ed25519Scheme, Hashes, Key, PathSet};
@@ -48,16 +47,6 @@ pub fn by_prefix(alloc: Global, prefix: &str) -> Result<PathSet, DemoError>
     let mut prefixes = Vec::new(alloc);
     prefixes.push(PathHashPrefix::from_str(alloc, prefix)?)?;
     Ok(PathSet::PathHashPrefixes(prefixes))
-}
-
-/// No role and no key.
-pub fn no_roles(alloc: Global) -> Delegations
-    ensures { delegations_doc result ≡ no_delegations }
-{
-    Delegations {
-        keys: BTreeMap::new(alloc),
-        roles: Vec::new(alloc),
-    }
 }
 
 /// Delegates to the role of this name, after the others. Its own key signs it alone.
@@ -98,7 +87,7 @@ pub fn delegation(
     ensures { IfOk result (λ g. (e : Delegations) × (delegations_doc e ≡ no_delegations)
         × IsDelegated name.now (paths_doc paths) terminating e g) }
 {
-    let mut delegations = no_roles(alloc);
+    let mut delegations = Delegations::new(alloc);
     delegate(alloc, &mut delegations, name, paths, terminating)?;
     Ok(delegations)
 }

@@ -8,7 +8,6 @@ use Rattle.tough_schema.specs.declared.delegations.Delegations.{out-Delegations,
 use Rattle.tough_schema.specs.declared.delegations.DelegatedRole.{out-roll-DelegatedRole}
 use Rattle.tough_demo.proofs.roles.delegate.Goals as goal
 
--- src/roles.rt:64:1
 pub returns : goal.returns
 returns c =
     let id : Spelled = c.in_ok-keyid.keyid in
