@@ -11,9 +11,8 @@ use Rattle.tough_schema.specs.declared.targets.DelegatedTargets.{DelegatedTarget
 use Rattle.tough_schema.specs.declared.targets.Targets.{Targets, out-Targets, roll-Targets}
 use Rattle.tough_schema.specs.Whole.{TreeDoc, tree, Branches, HeldDoc, RoleTree, NamedTree, DelegationsTree, branches_from, role_level, delegations_level, delegated_level, targets_level, tree_doc, role_tree, held_doc, entries_in}
 use Rattle.tough_schema.proofs.lemmas.Wholes.{own, tree-roll, tree-inner, delegations-roll, role-out, named-out, named-roll}
-use Rattle.tough_trust.specs.delegations.Numbered.{dressed_from, dressed_tree, dressed, only}
-use Rattle.tough_trust.proofs.lemmas.Dressing.{Has, dress-at, dress-none, only-other}
-use Rattle.tough_trust.proofs.Listing.{entries-from}
+use Rattle.tough_trust.specs.delegations.Dressed.{dressed_from, dressed_tree, dressed, only}
+use Rattle.tough_trust.proofs.lemmas.Dressing.{Has, dress-at, dress-none, only-other, entries-from}
 
 -- the role with this document
 pub role-set : (r : DelegatedRole) (s : Signed DelegatedTargets) → role_tree (roll-DelegatedRole (record (out-DelegatedRole r) { targets = Some s })) ≡ ((role_tree r).0, Some (held_doc s))

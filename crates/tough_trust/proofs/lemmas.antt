@@ -4,4 +4,3 @@ pub mod Walking
 pub mod Judging
 pub mod Bare
 pub mod Dressing
-pub mod Noding

@@ -1,22 +1,20 @@
 -- Targets as an update takes them: those of a repository, and the documents of delegated roles (TUF specification 1.0, section 5.6).
-use Rattle.std.specs.Prelude.{ℕ, ℤ, ◌==◌, List, [], ◌∷◌, Option, Some, None, Bool, not, option_and_then, Result, Ok, Err}
+use Rattle.std.specs.Prelude.{ℕ, ℤ, ◌==◌, List, [], ◌∷◌, Option, Some, None, Bool, not, option_map, option_and_then, Result, Ok, Err}
 use Rattle.tough_json.specs.Results.{json_of}
 use Rattle.tough_keys.specs.Same.{Verifies}
 use Rattle.tough_roles.specs.Signature.{SignedDoc, signed_at, signed_json}
 use Rattle.tough_roles.specs.Root.{RootDoc}
-use Rattle.tough_roles.specs.Policy.{Policy, policy}
+use Rattle.tough_roles.specs.Policy.{Policy, policy, policy_of}
 use Rattle.tough_roles.specs.Verdict.{Names, Refused, verdict}
 use Rattle.tough_roles.specs.Chain.{text_by}
 use Rattle.tough_roles.specs.declared.role_type.RoleType.TheVariants as role
 use Rattle.tough_roles.specs.declared.error.Error.{Error}
-use Rattle.tough_schema.specs.Delegations.{DelegationsDoc}
+use Rattle.tough_schema.specs.Delegations.{DelegationsDoc, DelegatedRoleDoc}
 use Rattle.tough_schema.specs.Targets.{TargetsDoc, targets_at, targets_json}
-use Rattle.tough_schema.specs.Verify.{NamesDelegated, delegated_policy}
+use Rattle.tough_schema.specs.Verify.{NamesDelegated, role_named, role_keys}
 use Rattle.tough_schema.specs.Whole.{TreeDoc}
 use Rattle.tough_trust.specs.delegations.Bare.{bare}
-use Rattle.tough_trust.specs.delegations.Growing.{WorkDoc, holder_of}
 use Rattle.tough_names.specs.Named.{Named}
-use Rattle.tough_schema.specs.Tree.{Entry}
 use Rattle.tough_checks.specs.Checks.{Reason, VersionMismatch, first_of, refuse, verified, expiry}
 use Rattle.tough_checks.specs.Documents.{stored_text}
 use Rattle.tough_trust.specs.Failure.{Failure, ParseMetadata, InvalidPath}
@@ -30,32 +28,24 @@ targets_in bytes = option_and_then (signed_at targets_at) (json_of bytes)
 abbrev pub targets_text : SignedDoc TargetsDoc → Option (List ℕ)
 targets_text d = option_and_then stored_text (signed_json targets_json d)
 
--- who vouches for targets: a root, or the delegations, if there are any, that the first role of this name stands in
+-- who vouches for targets: a root, or, of delegations, if there are any, the role that says which keys sign for this name, if one does
 pub data HolderDoc : Type 0 where
   by_root : RootDoc → HolderDoc
-  by_delegations : Option DelegationsDoc → List ℕ → HolderDoc
+  by_role : Option DelegationsDoc → Option DelegatedRoleDoc → List ℕ → HolderDoc
+
+-- of delegations it is the first role of the name
+abbrev pub by_delegations : Option DelegationsDoc → List ℕ → HolderDoc
+by_delegations g name = by_role g (option_and_then (λ d. role_named name d.roles) g) name
 
 -- what they ask of the signatures
 abbrev pub policy_in : HolderDoc → Option Policy
 policy_in (by_root root) = policy root role.Targets
-policy_in (by_delegations g name) = option_and_then (λ d. delegated_policy d name) g
+policy_in (by_role g r name) = option_and_then (λ d. option_map (λ (x : DelegatedRoleDoc). policy_of d.keys (role_keys x)) r) g
 
--- the role whose document is wanted
-abbrev pub first_name : List Entry → List ℕ
-first_name [] = []
-first_name (e ∷ rest) = e.name
-
-abbrev pub wanted_name : WorkDoc → List ℕ
-wanted_name w = first_name w.waiting
-
--- who vouches for the document that is wanted: the delegations that its role stands in
-abbrev pub role_holder : WorkDoc → HolderDoc
-role_holder w = by_delegations (holder_of w) (wanted_name w)
-
--- for the targets it is the root
-abbrev pub holder_in : RootDoc → Option WorkDoc → HolderDoc
+-- for the targets it is the root, for the document of a delegated role that role
+abbrev pub holder_in : RootDoc → Option HolderDoc → HolderDoc
 holder_in root None = by_root root
-holder_in root (Some w) = role_holder w
+holder_in root (Some h) = h
 
 abbrev pub targets_verdict : Verifies → HolderDoc → SignedDoc TargetsDoc → Result Unit Refused
 targets_verdict verifies holder d = verdict verifies (policy_in holder) (text_by targets_json d.role) d.signatures
@@ -63,7 +53,7 @@ targets_verdict verifies holder d = verdict verifies (policy_in holder) (text_by
 -- what an error of their verification names: the role, or an identifier that stands twice
 abbrev pub NamesHeld : HolderDoc → SignedDoc TargetsDoc → Error → Type 0
 NamesHeld (by_root root) d e = Names role.Targets d.signatures e
-NamesHeld (by_delegations g name) d e = NamesDelegated name role.Targets d.signatures e
+NamesHeld (by_role g r name) d e = NamesDelegated name role.Targets d.signatures e
 
 -- The check that refuses them, if one does: they must reach the threshold, have the listed version, and not be expired when the update
 -- began.

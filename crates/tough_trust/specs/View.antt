@@ -1,4 +1,5 @@
 -- Requests, steps, and who vouches for targets, seen as plain data.
+use Rattle.std.specs.BTreeMap.{get_by_text}
 use Rattle.std.specs.Prelude.{option_map, string_bytes, Result, Ok, Err, ⊤}
 use Rattle.tough_roles.specs.Signature.{signed_doc}
 use Rattle.tough_roles.specs.Timestamp.{timestamp_doc}
@@ -18,15 +19,29 @@ use Rattle.tough_trust.specs.declared.act.Act.{Act}
 use Rattle.tough_trust.specs.declared.act.Act.TheVariants as to
 use Rattle.tough_trust.specs.Failure.{Failure, step_failure}
 use Rattle.tough_trust.specs.Requests.{RequestDoc}
-use Rattle.tough_trust.specs.Listed.{HolderDoc, by_root, role_holder, targets_text}
-use Rattle.tough_trust.specs.delegations.View.{work_doc}
+use Rattle.tough_trust.specs.Listed.{HolderDoc, by_root, by_role, targets_text}
+use Rattle.tough_trust.specs.declared.holder.RoleHolder.{RoleHolder}
+use Rattle.tough_trust.specs.declared.delegations.index.Index.{Index}
+use Rattle.tough_trust.specs.delegations.Indexed as plain
+use Rattle.tough_schema.specs.Delegations.{delegations_doc, delegated_role_doc}
 
 abbrev pub request_doc : Request → RequestDoc
 request_doc r = record { name = string_bytes r.name; max_size = r.max_size; specifier = r.specifier.now; sha256 = option_map (λ d. d.items) r.sha256 }
 
+-- ---- who vouches for targets
+
+abbrev pub role_holder_doc : RoleHolder → HolderDoc
+role_holder_doc r = by_role (option_map (λ g. delegations_doc g.now) r.delegations) (option_map (λ x. delegated_role_doc x.now) r.role) r.name.now
+
 abbrev pub holder_doc : Holder → HolderDoc
 holder_doc (holds.Root root) = by_root (root_doc root.now)
-holder_doc (holds.Role growth) = role_holder (work_doc growth.now)
+holder_doc (holds.Role role) = role_holder_doc role
+
+-- ---- names that had their turn
+
+-- the number of the document of each name that had its turn
+abbrev pub index_doc : Index → plain.Index
+index_doc x q = get_by_text x.numbers q
 
 -- ---- steps on a store
 

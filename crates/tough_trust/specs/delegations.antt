@@ -1,6 +1,3 @@
-pub mod Numbered
-pub mod Growing
-pub mod Firsts
-pub mod Documents
-pub mod View
 pub mod Bare
+pub mod Indexed
+pub mod Dressed

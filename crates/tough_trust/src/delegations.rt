@@ -1,11 +1,7 @@
-//! The documents of delegated roles: which one is fetched next, and the tree that they make (TUF specification 1.0, section 5.6.7).
+//! The documents of delegated roles: which names had their turn, and how a role gets its document (TUF specification 1.0, section 5.6.7).
 
-mod firsts;
-mod growth;
 mod index;
 mod list;
-mod look;
-mod nodes;
-mod turns;
 
-pub use growth::{Growth, Progress};
+pub use index::Index;
+pub use list::{roles_of, set_document};

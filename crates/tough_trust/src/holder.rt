@@ -10,74 +10,75 @@ ghost use Rattle.tough_checks.specs.declared.checks.StepError.TheVariants as ste
 ghost use Rattle.tough_schema.specs.Targets.{targets_doc};
 ghost use Rattle.tough_schema.specs.Whole.{tree_doc};
 ghost use Rattle.tough_schema.specs.Entries.{first_missing};
-ghost use Rattle.tough_trust.specs.delegations.View.{work_doc};
 ghost use Rattle.tough_trust.specs.Failure.{Gives};
 ghost use Rattle.tough_trust.specs.declared.error.UpdateError.TheVariants.{Refused};
-ghost use Rattle.tough_trust.specs.Listed.{targets_in, wanted_name, role_holder, holder_in, targets_verdict, NamesHeld, targets_refusal, judged, all_found};
-ghost use Rattle.tough_trust.specs.View.{holder_doc};
+ghost use Rattle.tough_trust.specs.Listed.{targets_in, holder_in, targets_verdict, NamesHeld, targets_refusal, judged, all_found};
+ghost use Rattle.tough_trust.specs.View.{holder_doc, role_holder_doc};
 
-use crate::delegations::Growth;
 use crate::error::UpdateError;
 use jiff::Timestamp as Instant;
 use std::alloc::Global;
 use tough_roles::verify::verify_by;
 use tough_roles::{self as schema, ReadError, RoleType, Root, Signed, Verify};
-use tough_schema::Targets;
+use tough_schema::{DelegatedRole, Delegations, Targets};
 use tough_vault::{ExpirationEnforcement, StepError, check_expiry, check_signed, check_version};
 
-/// Who vouches for targets: a root, or the delegations that a role stands in, with its name.
+/// Who vouches for the document of a delegated role: the delegations that the role stands in, and of these the role that says which keys
+/// sign for its name, where there is one.
+#[derive(Clone, Copy, Drop)]
+pub struct RoleHolder<'a> {
+    /// The role's name.
+    pub name: &'a str,
+    /// The delegations.
+    pub delegations: Option<&'a Delegations>,
+    /// The first role of the name.
+    pub role: Option<&'a DelegatedRole>,
+}
+
+/// Who vouches for targets: a root, or delegations.
 #[derive(Drop)]
 pub enum Holder<'a> {
     /// A root.
     Root(&'a Root),
-    /// The delegations and the name of the role whose document is wanted.
-    Role(&'a Growth),
-}
-
-/// The name of the role whose document is wanted.
-pub fn wanted_name(growth: &Growth) -> &str
-    ensures { result.now ≡ wanted_name (work_doc growth.now) }
-{
-    match growth.role() {
-        Some(role) => role.name.as_str(),
-        None => "",
-    }
+    /// Delegations, for the document of a role.
+    Role(RoleHolder<'a>),
 }
 
 /// Who vouches for the targets that are wanted: the root, or, where the document of a delegated role is wanted, the delegations that the
 /// role stands in.
-pub fn holder_of<'a>(root: &'a Root, growth: Option<&'a Growth>) -> Holder<'a>
+pub fn holder_of<'a>(root: &'a Root, role: Option<RoleHolder<'a>>) -> Holder<'a>
     ensures { holder_doc result
-        ≡ holder_in (root_doc root.now) (option_map (λ g. work_doc g.now) growth.entry) }
+        ≡ holder_in (root_doc root.now) (option_map role_holder_doc role.entry) }
 {
-    match growth {
+    match role {
         None => Holder::Root(root),
-        Some(growth) => Holder::Role(growth),
+        Some(role) => Holder::Role(role),
     }
 }
 
-// Whether the targets reach the threshold of the first role that has the name of the wanted one.
-fn verify_wanted<V: Verify>(
-    alloc: Global,
-    growth: &Growth,
-    targets: &Signed<Targets>,
-    verifier: &V,
-) -> Result<(), schema::Error>
-    ensures verdict { Answers result (targets_verdict (V.verifies verifier.now)
-        (role_holder (work_doc growth.now)) (signed_doc targets_doc targets.now)) }
-    ensures named { IfErr result
-        (λ e. NamesHeld (role_holder (work_doc growth.now)) (signed_doc targets_doc targets.now) e) }
-{
-    let name = wanted_name(growth);
-    if let Some(delegations) = growth.holder() {
-        if let Some(role) = growth.role_named(name) {
-            let keys = role.keys(alloc)?;
-            return verify_by(alloc, &delegations.keys, &keys, targets, verifier);
+impl RoleHolder<'_> {
+    // Whether the targets reach the threshold of the role.
+    fn verify<V: Verify>(
+        &self,
+        alloc: Global,
+        targets: &Signed<Targets>,
+        verifier: &V,
+    ) -> Result<(), schema::Error>
+        ensures verdict { Answers result (targets_verdict (V.verifies verifier.now)
+            (role_holder_doc self.now) (signed_doc targets_doc targets.now)) }
+        ensures named { IfErr result
+            (λ e. NamesHeld (role_holder_doc self.now) (signed_doc targets_doc targets.now) e) }
+    {
+        if let Some(delegations) = self.delegations {
+            if let Some(role) = self.role {
+                let keys = role.keys(alloc)?;
+                return verify_by(alloc, &delegations.keys, &keys, targets, verifier);
+            }
         }
+        Err(schema::Error::RoleNotFound {
+            name: String::from_str(alloc, self.name)?,
+        })
     }
-    Err(schema::Error::RoleNotFound {
-        name: String::from_str(alloc, name)?,
-    })
 }
 
 impl Holder<'_> {
@@ -95,7 +96,7 @@ impl Holder<'_> {
     {
         match self {
             Holder::Root(root) => root.verify_role(alloc, targets, verifier),
-            Holder::Role(growth) => verify_wanted(alloc, growth, targets, verifier),
+            Holder::Role(role) => role.verify(alloc, targets, verifier),
         }
     }
 }

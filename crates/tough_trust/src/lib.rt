@@ -3,7 +3,7 @@
 #![tactic(auto)]
 
 mod act;
-pub mod delegations;
+mod delegations;
 mod error;
 mod fault;
 mod holder;
@@ -16,10 +16,10 @@ mod timely;
 mod walk;
 
 pub use act::Act;
-pub use delegations::{Growth, Progress};
+pub use delegations::{Index, roles_of, set_document};
 pub use error::UpdateError;
 pub use fault::Fault;
-pub use holder::{Holder, check_tree, holder_of, judge, wanted_name};
+pub use holder::{Holder, RoleHolder, check_tree, holder_of, judge};
 pub use keeper::{Keeper, take_step};
 pub use limits::Limits;
 pub use listed::listed_target;

@@ -13,7 +13,7 @@ use Rattle.tough_names.specs.Named.{Named}
 use Rattle.tough_schema.specs.Whole.{TreeDoc}
 use Rattle.tough_schema.specs.Entries.{entries, documents_below, first_missing}
 use Rattle.tough_schema.specs.Fresh.{IsUnloaded}
-use Rattle.tough_trust.specs.delegations.Growing.{WorkDoc, Progress, wants, grown, go_on, begun}
+use Rattle.tough_update.specs.delegations.Growing.{WorkDoc, Progress, wants, grown, go_on, begun, wanted_name}
 use Rattle.tough_trust.specs.delegations.Bare.{held_as}
 use Rattle.tough_update.specs.growth.Tallies.{tally_work}
 use Rattle.tough_trust.proofs.lemmas.Bare.{bare-none}
@@ -25,8 +25,7 @@ use Rattle.tough_trust.specs.Walk.{first_root, next_root}
 use Rattle.tough_trust.specs.Outcomes.{holds_json}
 use Rattle.tough_trust.specs.Requests.{RequestDoc}
 use Rattle.tough_trust.specs.Listed.{by_root, judged}
-use Rattle.tough_update.specs.Delegated.{metas_in, is_reserved, if_found, grown_on, given, role_given, role_stored, with_received}
-use Rattle.tough_trust.specs.Listed.{wanted_name, role_holder}
+use Rattle.tough_update.specs.Delegated.{metas_in, is_reserved, if_found, grown_on, given, role_given, role_stored, with_received, role_holder}
 use Rattle.tough_update.specs.Stages.{WalkDoc, BaseDoc, KnownDoc, WantedDoc, PendingDoc, ReceivedDoc, RolesDoc, LoadedDoc, StageDoc, SettingDoc, CoreDoc}
 use Rattle.tough_update.specs.Stages as at
 use Rattle.tough_update.specs.Answered.{AnswerDoc}

@@ -15,12 +15,11 @@ use Rattle.tough_trust.specs.Walk.{first_root, next_root}
 use Rattle.tough_trust.specs.Outcomes.{holds_json}
 use Rattle.tough_trust.specs.Requests.{RequestDoc, root_request}
 use Rattle.tough_trust.specs.Listed.{by_root, judged}
-use Rattle.tough_update.specs.Delegated.{metas_in, is_reserved, if_found, grown_on, given, role_given, role_stored, with_received}
-use Rattle.tough_trust.specs.Listed.{wanted_name, role_holder}
+use Rattle.tough_update.specs.Delegated.{metas_in, is_reserved, if_found, grown_on, given, role_given, role_stored, with_received, role_holder}
+use Rattle.tough_update.specs.delegations.Growing.{wanted_name, Progress, wants, grown, go_on, begun}
 use Rattle.tough_names.specs.Named.{Named}
 use Rattle.tough_schema.specs.Whole.{TreeDoc}
 use Rattle.tough_schema.specs.Entries.{first_missing}
-use Rattle.tough_trust.specs.delegations.Growing.{Progress, wants, grown, go_on, begun}
 use Rattle.tough_trust.specs.delegations.Bare.{held_as}
 use Rattle.std.specs.List.{AllByRecursion}
 use Rattle.tough_update.specs.Stages.{WalkDoc, BaseDoc, KnownDoc, WantedDoc, PendingDoc, ReceivedDoc, RolesDoc, LoadedDoc, StageDoc, CoreDoc}

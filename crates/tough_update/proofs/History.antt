@@ -12,17 +12,15 @@ use Rattle.tough_checks.specs.Files.{snapshot_file, targets_file}
 use Rattle.tough_vault.specs.Act.{Act, ClearRotated, AdvanceSnapshot}
 use Rattle.tough_trust.specs.Failure.{Failure, ParseMetadata, Checked}
 use Rattle.tough_trust.specs.Walk.{first_root, next_root}
-use Rattle.tough_trust.specs.Outcomes.{holds_json}
-use Rattle.tough_trust.specs.Outcomes.{unless}
+use Rattle.tough_trust.specs.Outcomes.{holds_json, unless}
 use Rattle.tough_trust.specs.Requests.{RequestDoc, root_request, timestamp_request}
 use Rattle.tough_trust.specs.Rotation.{is_rotated}
 use Rattle.tough_trust.specs.Listed.{by_root, judged}
-use Rattle.tough_update.specs.Delegated.{metas_in, is_reserved, if_found, grown_on, given, role_given, role_stored, with_received}
-use Rattle.tough_trust.specs.Listed.{first_name, wanted_name, role_holder}
+use Rattle.tough_update.specs.Delegated.{metas_in, is_reserved, if_found, grown_on, given, role_given, role_stored, with_received, role_holder}
+use Rattle.tough_update.specs.delegations.Growing.{first_name, wanted_name, Progress, wants, grown, go_on, begun}
 use Rattle.tough_names.specs.Named.{Named}
 use Rattle.tough_schema.specs.Whole.{TreeDoc, HeldDoc}
 use Rattle.tough_schema.specs.Entries.{first_missing}
-use Rattle.tough_trust.specs.delegations.Growing.{Progress, wants, grown, go_on, begun}
 use Rattle.tough_trust.specs.delegations.Bare.{held_as}
 use Rattle.tough_update.specs.growth.Once.{runs}
 use Rattle.tough_update.specs.growth.Listed.{WantsListed}

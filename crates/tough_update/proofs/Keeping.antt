@@ -11,7 +11,7 @@ use Rattle.tough_names.specs.Named.{Named}
 use Rattle.tough_schema.specs.Whole.{TreeDoc}
 use Rattle.tough_schema.specs.Entries.{documents_below, first_missing}
 use Rattle.tough_schema.specs.Fresh.{IsUnloaded}
-use Rattle.tough_trust.specs.delegations.Growing.{Progress, wants, grown, go_on, begun}
+use Rattle.tough_update.specs.delegations.Growing.{Progress, wants, grown, go_on, begun, wanted_name}
 use Rattle.tough_trust.specs.delegations.Bare.{held_as}
 use Rattle.tough_trust.proofs.lemmas.Bare.{bare-none}
 use Rattle.tough_update.proofs.growth.Kept.{tree-few}
@@ -22,8 +22,7 @@ use Rattle.tough_trust.specs.Walk.{first_root, next_root}
 use Rattle.tough_trust.specs.Outcomes.{holds_json}
 use Rattle.tough_trust.specs.Requests.{RequestDoc}
 use Rattle.tough_trust.specs.Listed.{by_root, judged}
-use Rattle.tough_update.specs.Delegated.{metas_in, is_reserved, if_found, grown_on, given, role_given, role_stored, with_received}
-use Rattle.tough_trust.specs.Listed.{wanted_name, role_holder}
+use Rattle.tough_update.specs.Delegated.{metas_in, is_reserved, if_found, grown_on, given, role_given, role_stored, with_received, role_holder}
 use Rattle.tough_update.specs.Stages.{WalkDoc, BaseDoc, KnownDoc, WantedDoc, PendingDoc, ReceivedDoc, RolesDoc, LoadedDoc, StageDoc, SettingDoc, CoreDoc}
 use Rattle.tough_update.specs.Stages as at
 use Rattle.tough_update.specs.Answered.{AnswerDoc}

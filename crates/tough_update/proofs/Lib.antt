@@ -1,3 +1,4 @@
+pub mod tree
 pub mod growth
 pub mod lemmas
 pub mod Turning

@@ -27,18 +27,17 @@ use Rattle.tough_vault.specs.Act as act
 use Rattle.tough_checks.specs.Files.{snapshot_file, targets_file}
 use Rattle.tough_trust.specs.Failure.{Failure, ParseTrustedMetadata, ParseMetadata, MaxUpdatesExceeded, Checked}
 use Rattle.tough_trust.specs.Walk.{if_trusted, root_verdict, first_root}
-use Rattle.tough_trust.specs.Outcomes.{holds_json, if_read}
-use Rattle.tough_trust.specs.Outcomes.{unless, and_then}
+use Rattle.tough_trust.specs.Outcomes.{holds_json, if_read, unless, and_then}
 use Rattle.tough_trust.proofs.lemmas.Judging.{judged-to}
 use Rattle.tough_trust.specs.Requests.{RequestDoc, fits_request, root_request, timestamp_request, snapshot_request, targets_request, role_request}
 use Rattle.tough_trust.specs.Rotation.{is_rotated}
 use Rattle.tough_trust.specs.Listed.{by_root, by_delegations, targets_text, targets_verdict, targets_refusal, judged}
-use Rattle.tough_update.specs.Delegated.{metas_in, is_reserved, if_found, grown_on, roles_begun, role_given, role_stored, with_received}
-use Rattle.tough_trust.specs.Listed.{role_holder}
+use Rattle.tough_update.specs.Delegated.{metas_in, is_reserved, if_found, grown_on, roles_begun, role_given, role_stored, with_received, role_holder}
 use Rattle.tough_trust.specs.delegations.Bare.{bare, top_page, held_as}
 use Rattle.tough_update.specs.growth.Full.{fetch_order}
-use Rattle.tough_trust.specs.delegations.Numbered.{Nodes, last_document}
-use Rattle.tough_trust.specs.delegations.Growing.{Metas, Index, listed_as, Fetched, TaskDoc, Progress, wants, grown, begun, go_on}
+use Rattle.tough_update.specs.delegations.Numbered.{Nodes, last_document}
+use Rattle.tough_update.specs.delegations.Growing.{Metas, listed_as, Fetched, TaskDoc, Progress, wants, grown, begun, go_on}
+use Rattle.tough_trust.specs.delegations.Indexed.{Index}
 use Rattle.tough_trust.proofs.lemmas.Bare.{top-bare}
 use Rattle.tough_update.proofs.growth.Laws.{work, grows-whole}
 use Rattle.tough_schema.specs.Delegations.{DelegationsDoc}

@@ -21,8 +21,8 @@ use Rattle.tough_trust.specs.Outcomes.{holds_json, if_read}
 use Rattle.tough_trust.specs.Requests.{RequestDoc, bound, stated_digest, has_digest, fits_request, root_request}
 use Rattle.tough_schema.specs.Targets.{TargetsDoc, targets_json}
 use Rattle.tough_trust.specs.Listed.{targets_in, by_root, by_delegations, targets_verdict, judged}
-use Rattle.tough_update.specs.Delegated.{metas_in, is_reserved, if_found, grown_on, roles_begun, given, role_given, role_stored, with_received, new_role}
-use Rattle.tough_trust.specs.Listed.{first_name, wanted_name, role_holder}
+use Rattle.tough_update.specs.Delegated.{metas_in, is_reserved, if_found, grown_on, roles_begun, given, role_given, role_stored, with_received, new_role, role_holder}
+use Rattle.tough_update.specs.delegations.Growing.{first_name, wanted_name, WorkDoc, Progress, wants, grown, first_of, holder_of, go_on, begun}
 use Rattle.tough_names.specs.Named.{Named as ListedName}
 use Rattle.tough_schema.specs.Delegations.{DelegationsDoc}
 use Rattle.tough_schema.specs.Tree.{Entry}
@@ -31,7 +31,6 @@ use Rattle.tough_schema.specs.Whole.{TreeDoc, HeldDoc}
 use Rattle.tough_schema.specs.Fresh.{carriers_below}
 use Rattle.tough_schema.specs.Entries.{IsValid, first_missing}
 use Rattle.tough_schema.proofs.lemmas.Valid.{valid-missing}
-use Rattle.tough_trust.specs.delegations.Growing.{WorkDoc, Progress, wants, grown, first_of, holder_of, go_on, begun}
 use Rattle.tough_trust.specs.delegations.Bare.{bare, top_page, held_as}
 use Rattle.tough_update.specs.growth.Once.{AreBare, Distinct, runs}
 use Rattle.tough_update.specs.growth.Under.{page_of, Relation, Below, AllTaken}

@@ -6,12 +6,12 @@ use Rattle.tough_keys.specs.Same.{Verifies}
 use Rattle.tough_roles.specs.Signature.{SignedDoc}
 use Rattle.tough_schema.specs.Whole.{TreeDoc}
 use Rattle.tough_schema.specs.Entries.{first_missing}
-use Rattle.tough_trust.specs.delegations.Growing.{Metas, WorkDoc, Progress, wants, grown, first_work, with_taken, go_on}
+use Rattle.tough_update.specs.delegations.Growing.{Metas, WorkDoc, Progress, wants, grown, first_work, wanted_name, holder_of, with_taken, go_on}
 use Rattle.tough_trust.specs.delegations.Bare.{held_as}
 use Rattle.tough_checks.specs.Files.{time_file, root_file, timestamp_file, snapshot_file, targets_file}
 use Rattle.tough_trust.specs.declared.limits.Limits.{Limits}
 use Rattle.tough_trust.specs.Failure.{Failure}
-use Rattle.tough_trust.specs.Listed.{wanted_name, role_holder, all_found, judged}
+use Rattle.tough_trust.specs.Listed.{HolderDoc, by_delegations, all_found, judged}
 use Rattle.tough_trust.specs.Outcomes.{and_then}
 use Rattle.tough_trust.specs.Requests.{role_request}
 use Rattle.tough_update.specs.Stages.{KnownDoc, RolesDoc, ReceivedDoc, LoadedDoc, StageDoc, SettingDoc}
@@ -20,6 +20,10 @@ use Rattle.tough_update.specs.Stages as at
 -- what the snapshot lists
 abbrev pub metas_in : KnownDoc → Metas
 metas_in k = k.snapshot.role.meta
+
+-- who vouches for the document that is wanted: the delegations that its role stands in
+abbrev pub role_holder : WorkDoc → HolderDoc
+role_holder w = by_delegations (holder_of w) (wanted_name w)
 
 -- the names of files that no delegated document is stored by
 abbrev pub is_reserved : List ℕ → Bool

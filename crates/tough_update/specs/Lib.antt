@@ -1,3 +1,4 @@
+pub mod delegations
 pub mod growth
 pub mod Stages
 pub mod Delegated

@@ -27,7 +27,7 @@ use Rattle.tough_trust.specs.Requests.{RequestDoc, fits_request, root_request, t
 use Rattle.tough_schema.specs.Entries.{first_missing}
 use Rattle.tough_trust.specs.delegations.Bare.{top_page}
 use Rattle.tough_update.specs.growth.Full.{IsFull, fetch_order}
-use Rattle.tough_trust.specs.delegations.Growing.{listed_as}
+use Rattle.tough_update.specs.delegations.Growing.{listed_as}
 use Rattle.tough_update.specs.growth.Once.{Distinct}
 use Rattle.tough_update.specs.growth.Under.{Below}
 use Rattle.tough_update.specs.Delegated.{metas_in, is_reserved}

@@ -10,7 +10,7 @@ use Rattle.tough_schema.specs.declared.targets.Targets.{Targets}
 use Rattle.tough_roles.specs.Timestamp.{timestamp_doc}
 use Rattle.tough_roles.specs.Snapshot.{snapshot_doc}
 use Rattle.tough_schema.specs.Whole.{tree_doc}
-use Rattle.tough_trust.specs.delegations.View.{work_doc}
+use Rattle.tough_update.specs.delegations.View.{work_doc}
 use Rattle.tough_checks.specs.Checks.{enforces}
 use Rattle.tough_checks.specs.DocumentName.{name_of}
 use Rattle.tough_trust.specs.Failure.{Failure, failure_of}

@@ -3,7 +3,7 @@
 ghost use Rattle.std.specs.Prelude.{◌≡◌, List};
 ghost use Rattle.tough_roles.specs.Signature.{SignedDoc};
 ghost use Rattle.tough_schema.specs.Whole.{HeldDoc, TreeDoc};
-ghost use Rattle.tough_trust.specs.delegations.Growing.{Metas, grown, begun};
+ghost use Rattle.tough_update.specs.delegations.Growing.{Metas, grown, begun};
 ghost use Rattle.tough_schema.specs.Fresh.{carriers_below, IsFresh, IsFreshDelegated};
 ghost use Rattle.tough_update.specs.growth.Once.{IsBare, AreBare, Distinct, runs};
 
@@ -58,7 +58,7 @@ ghost use Rattle.tough_roles.specs.declared.signed.Signed.{Signed};
 ghost use Rattle.tough_schema.specs.Whole.{held_doc};
 ghost use Rattle.tough_schema.specs.declared.targets.DelegatedTargets.{DelegatedTargets};
 ghost use Rattle.tough_schema.specs.declared.targets.Targets.{Targets};
-ghost use Rattle.tough_trust.specs.delegations.View.{top_held};
+ghost use Rattle.tough_update.specs.delegations.View.{top_held};
 
 /// What reading ensures of targets, and of the document of a delegated role, is what these laws ask of them.
 pub fn read_is_bare()

@@ -3,6 +3,7 @@
 
 mod ask;
 mod counts;
+pub mod delegations;
 pub mod growth_laws;
 pub mod laws;
 mod machine;

@@ -5,21 +5,20 @@ ghost use Rattle.tough_roles.specs.Signature.{signed_doc};
 ghost use Rattle.tough_checks.specs.Checks.{enforces};
 ghost use Rattle.tough_checks.specs.DocumentName.{name_of};
 ghost use Rattle.tough_schema.specs.Whole.{tree_doc};
-ghost use Rattle.tough_trust.specs.delegations.Growing.{wants, go_on};
-ghost use Rattle.tough_trust.specs.delegations.View.{work_doc};
+ghost use Rattle.tough_update.specs.delegations.Growing.{wants, go_on, wanted_name};
+ghost use Rattle.tough_update.specs.delegations.View.{work_doc};
 ghost use Rattle.tough_trust.specs.Failure.{Gives};
-ghost use Rattle.tough_trust.specs.Listed.{wanted_name, role_holder, judged};
-ghost use Rattle.tough_update.specs.Delegated.{metas_in, with_received, finished, grown_on, roles_begun, role_given, role_stored, new_role};
+ghost use Rattle.tough_update.specs.Delegated.{role_holder, metas_in, with_received, finished, grown_on, roles_begun, role_given, role_stored, new_role};
+ghost use Rattle.tough_trust.specs.Listed.{judged};
 ghost use Rattle.tough_update.specs.View.{known_doc, roles_doc, received_docs, stage_doc, setting_doc};
 
+use crate::delegations::{Growth, Progress};
 use crate::stage::{Known, Loaded, Pending, Received, Roles, Stage, Wanted};
 use crate::turns::Setting;
 use std::alloc::{AllocError, Global};
 use tough_roles::{Signed, Verify};
 use tough_schema::Targets;
-use tough_trust::{
-    Growth, Limits, Progress, UpdateError, check_tree, holder_of, judge, role_request, wanted_name,
-};
+use tough_trust::{Limits, UpdateError, check_tree, holder_of, judge, role_request};
 use tough_vault::DocumentName;
 
 // The tree is complete: each name that it lists must be found.
@@ -62,7 +61,7 @@ fn grow_on(
     let consistent = known.root.signed.consistent_snapshot;
     match growth.go_on(alloc, &known.snapshot.signed)? {
         Progress::Wants(growth, meta) => {
-            let request = role_request(alloc, limits, consistent, wanted_name(&growth), meta)?;
+            let request = role_request(alloc, limits, consistent, growth.wanted_name(), meta)?;
             let listed = meta.version.get();
             let roles = Roles { growth, received };
             Ok(Stage::Fetch(Wanted::Role(known, roles, listed), request))
@@ -101,7 +100,7 @@ pub(crate) fn give_role(
         mut growth,
         received,
     } = roles;
-    let name = String::from_str(alloc, wanted_name(&growth))?;
+    let name = String::from_str(alloc, growth.wanted_name())?;
     growth.take(Targets::named(targets, name))?;
     grow_on(alloc, limits, known, growth, received)
 }
@@ -128,7 +127,7 @@ fn store_role(
 fn keep_bytes(alloc: Global, roles: &mut Roles, bytes: Vec<u8>) -> Result<(), AllocError>
     ensures { OnOk result (roles_doc roles.new ≡ with_received (roles_doc roles.old) bytes.items) }
 {
-    let role = String::from_str(alloc, wanted_name(&roles.growth))?;
+    let role = String::from_str(alloc, roles.growth.wanted_name())?;
     roles.received.push(Received { role, bytes })?;
     Ok(())
 }
@@ -147,7 +146,7 @@ pub(crate) fn take_role<V: Verify>(
         (new_role (V.verifies verifier.now) (setting_doc setting.now) (known_doc known)
         (roles_doc roles) listed (string_bytes file) bytes.items) result }
 {
-    let holder = holder_of(&known.root.signed, Some(&roles.growth));
+    let holder = holder_of(&known.root.signed, Some(roles.growth.holder()));
     let targets = match judge(
         setting.alloc,
         setting.enforcement,

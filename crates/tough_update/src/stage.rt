@@ -6,10 +6,11 @@ ghost use Rattle.tough_update.specs.Machine.{base_of, act_at};
 ghost use Rattle.tough_trust.specs.View.{act_of};
 ghost use Rattle.tough_update.specs.View.{latest, walk_doc, base_doc, pending_doc, root_of, timestamp_of, snapshot_of, targets_of, received_of};
 
+use crate::delegations::Growth;
 use jiff::Timestamp as Instant;
 use tough_roles::{Root, Signed, Snapshot, Timestamp};
 use tough_schema::Targets;
-use tough_trust::{Act, Growth, Request, UpdateError};
+use tough_trust::{Act, Request, UpdateError};
 use tough_vault::{DocumentName, ExpirationEnforcement};
 
 /// A walk from root to root.

@@ -1,10 +1,11 @@
 -- Documents with what their roles have.
-use Rattle.std.proofs.Common.{◌≡◌, ℕ, zero, suc, ◌+◌, ◌<◌, ◌≤◌, List, [], ◌∷◌, length, get_or, set, Bool, true, false, if◌then◌else◌, Option, Some, None, is_some, refl, ap, ◌∙◌, arith}
+use Rattle.std.proofs.Common.{◌≡◌, ℕ, zero, suc, ◌+◌, ◌<◌, ◌≤◌, List, [], ◌∷◌, map, length, get_or, set, Bool, true, false, if◌then◌else◌, Option, Some, None, is_some, refl, ap, ◌∙◌, arith}
 use Rattle.std.proofs.lemmas.Bool.{eq-eqb, ne_eqb, cond-true, cond-false}
 use Rattle.std.proofs.Math.Dec.{eqb}
+use Rattle.tough_schema.specs.declared.delegations.DelegatedRole.{DelegatedRole}
 use Rattle.tough_schema.specs.Update.{given}
-use Rattle.tough_schema.specs.Whole.{OwnDoc, TreeDoc, tree, Branches, no_branches, unloaded, loaded, HeldDoc, RoleTree, put_branch, branches_from, entries_in}
-use Rattle.tough_trust.specs.delegations.Numbered.{dressed_from, dressed_tree, dressed, only}
+use Rattle.tough_schema.specs.Whole.{OwnDoc, TreeDoc, tree, Branches, no_branches, unloaded, loaded, HeldDoc, RoleTree, put_branch, branches_from, entries_in, role_tree}
+use Rattle.tough_trust.specs.delegations.Dressed.{entries_of, dressed_from, dressed_tree, dressed, only}
 
 -- what a role has by its place
 abbrev pub Has : Type 0
@@ -95,3 +96,13 @@ dress-at (r ∷ rs) start (suc k) at h d lt e =
     dress-put (only at h) start r (branches_from rs)
     ∙ ap (λ (o : Option HeldDoc). put_branch (given r o) (dressed_from (only at h) (suc start) (branches_from rs))) (only-other at h start (λ same. omega arith))
     ∙ ap (put_branch r) (dress-at rs (suc start) k at h d (omega arith) (omega arith))
+
+-- ---- the roles of a document
+
+entries-put : (r : RoleTree) (bs : Branches) → entries_in (put_branch r bs) ≡ r.0 ∷ entries_in bs
+entries-put (e, None) bs = refl
+entries-put (e, Some h) bs = refl
+
+pub entries-from : (rs : List DelegatedRole) → entries_in (branches_from (map role_tree rs)) ≡ entries_of rs
+entries-from [] = refl
+entries-from (r ∷ rs) = entries-put (role_tree r) (branches_from (map role_tree rs)) ∙ ap (λ l. (role_tree r).0 ∷ l) (entries-from rs)

@@ -1,15 +1,14 @@
-//! The roles that a document lists.
+//! The roles of a document.
 
 ghost use Rattle.std.specs.Prelude.{◌≡◌};
 ghost use Rattle.tough_schema.specs.Whole.{held_doc};
-ghost use Rattle.tough_trust.specs.delegations.Numbered.{only, dressed};
-ghost use Rattle.tough_trust.specs.delegations.Documents.{listed_in};
+ghost use Rattle.tough_trust.specs.delegations.Dressed.{only, dressed, listed_in};
 
 use tough_roles::Signed;
 use tough_schema::{DelegatedRole, DelegatedTargets};
 
-// The roles of a document.
-pub(crate) fn roles_of(document: &Signed<DelegatedTargets>) -> &[DelegatedRole]
+/// The roles that a document lists.
+pub fn roles_of(document: &Signed<DelegatedTargets>) -> &[DelegatedRole]
     ensures { result.now ≡ listed_in document.now }
 {
     match &document.signed.targets.delegations {
@@ -18,8 +17,8 @@ pub(crate) fn roles_of(document: &Signed<DelegatedTargets>) -> &[DelegatedRole]
     }
 }
 
-// The role at this place, if there is one, gets its document.
-pub(crate) fn set_document(
+/// The role at this place, if there is one, gets its document.
+pub fn set_document(
     document: &mut Signed<DelegatedTargets>,
     place: usize,
     held: Signed<DelegatedTargets>,

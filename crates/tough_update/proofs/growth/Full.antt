@@ -23,7 +23,7 @@ use Rattle.tough_schema.specs.Search.{Names, no_names, add}
 use Rattle.tough_schema.specs.Fresh.{carriers, carriers_below}
 use Rattle.tough_schema.specs.Whole.{OwnDoc, TreeDoc, tree, Branches, no_branches, unloaded, loaded, branches_from, HeldDoc, RoleTree, entries_in, top_doc}
 use Rattle.tough_trust.specs.delegations.Bare.{all_unloaded, bare_tree, bare, held_as}
-use Rattle.tough_trust.specs.delegations.Growing.{Metas, listed_as, Look, wanted, look, Fetched, at_name}
+use Rattle.tough_update.specs.delegations.Growing.{Metas, listed_as, Look, wanted, look, Fetched, at_name}
 use Rattle.tough_update.proofs.growth.Levels.{with_fetched, refilled, with_roles, OpenDoc, past, turn_by_look, by_turn, turns, WorkDoc, Progress, wants, grown, by_turns, settle, give, by_look, go_on, begun}
 use Rattle.tough_update.specs.growth.Once.{is_among, Distinct}
 use Rattle.tough_update.specs.growth.Under.{Relation, Under, Below}

@@ -10,11 +10,12 @@ use Rattle.tough_schema.specs.Search.{Names}
 use Rattle.tough_schema.specs.Tree.{Entry}
 use Rattle.tough_schema.specs.Update.{listed_roles}
 use Rattle.tough_schema.specs.Whole.{HeldDoc}
-use Rattle.tough_trust.specs.delegations.Numbered.{NodeDoc, Nodes, targets, also, last_number, roles_at}
-use Rattle.tough_trust.specs.delegations.Growing.{Metas, Index, no_index, put, names_of, Look, through, unlisted, wanted, look, looked, listed_as, Fetched, fetched_for, fetched_after, offer_for, TaskDoc, Turn, past, stopped, turn_by_look, turn, Turns, all_past, stopped_at, by_turn, turns, resumed, WorkDoc, Progress, wants, grown, by_turns, settle, by_look, go_on, first_work, begun, first_of, with_taken, taken}
+use Rattle.tough_update.specs.delegations.Numbered.{NodeDoc, Nodes, targets, also, last_number, roles_at}
+use Rattle.tough_update.specs.delegations.Growing.{Metas, Look, through, unlisted, wanted, look, looked, listed_as, Fetched, fetched_for, fetched_after, offer_for, TaskDoc, Turn, past, stopped, turn_by_look, turn, Turns, all_past, stopped_at, by_turn, turns, resumed, WorkDoc, Progress, wants, grown, by_turns, settle, by_look, go_on, first_work, begun, first_of, with_taken, taken}
+use Rattle.tough_trust.specs.delegations.Indexed.{Index, no_index, put, names_of}
 use Rattle.tough_update.specs.growth.Indexed.{name_of, name_at, IsIndexOf, WantsIndexed}
 use Rattle.tough_update.specs.growth.Once.{runs}
-use Rattle.tough_trust.proofs.lemmas.Noding.{roles-kept}
+use Rattle.tough_update.proofs.tree.Noding.{roles-kept}
 use Rattle.tough_update.proofs.growth.Trees.{same-number, above-number, node_at}
 
 -- ---- names by numbers

@@ -19,7 +19,7 @@ use Rattle.tough_schema.specs.Whole.{TreeDoc, tree, Branches, no_branches, unloa
 use Rattle.tough_schema.specs.Entries.{documents_of, documents_below}
 use Rattle.tough_schema.specs.Fresh.{carriers, carriers_below}
 use Rattle.tough_schema.specs.Preorder.{Occurrence, preorder, preorder_below}
-use Rattle.tough_trust.specs.delegations.Growing.{Metas, listed_as, Look, through, unlisted, wanted, look, looked, Fetched, at_name}
+use Rattle.tough_update.specs.delegations.Growing.{Metas, listed_as, Look, through, unlisted, wanted, look, looked, Fetched, at_name}
 use Rattle.tough_update.proofs.growth.Levels.{with_fetched, refilled, with_roles, OpenDoc, Turn, past, stopped, turn_by_look, turn, Turns, all_past, stopped_at, by_turn, turns, WorkDoc, Progress, wants, grown, by_turns, taken_up, settle, give, by_look, go_on, first_work, begun, with_taken, taken}
 use Rattle.tough_update.specs.growth.Once.{is_among, Distinct, IsBare}
 use Rattle.tough_update.proofs.growth.Once.{at_role, in_roles, roles-last, WorkFine, ProgressFine, taken-fine, begun-fine}

@@ -16,8 +16,9 @@ use Rattle.tough_schema.specs.Update.{listed_roles}
 use Rattle.tough_schema.specs.Whole.{TreeDoc, HeldDoc, top_doc}
 use Rattle.tough_trust.specs.delegations.Bare.{bare, top_page, held_as}
 use Rattle.tough_update.specs.growth.Full.{IsFull, fetch_order}
-use Rattle.tough_trust.specs.delegations.Numbered.{NodeDoc, Nodes, targets, also, last_document}
-use Rattle.tough_trust.specs.delegations.Growing.{Metas, Index, listed_as, Fetched, TaskDoc, WorkDoc, Progress, wants, grown, first_of, holder_of, go_on, begun, taken}
+use Rattle.tough_update.specs.delegations.Numbered.{NodeDoc, Nodes, targets, also, last_document}
+use Rattle.tough_update.specs.delegations.Growing.{Metas, listed_as, Fetched, TaskDoc, WorkDoc, Progress, wants, grown, first_of, holder_of, go_on, begun, taken}
+use Rattle.tough_trust.specs.delegations.Indexed.{Index}
 use Rattle.tough_update.specs.growth.Once.{IsBare, AreBare, Distinct, runs}
 use Rattle.tough_update.specs.growth.Tallies.{tally, tally_work}
 use Rattle.tough_update.specs.growth.Under.{page_of, Relation, Below, AllTaken}

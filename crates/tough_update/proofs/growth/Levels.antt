@@ -13,7 +13,7 @@ use Rattle.tough_schema.specs.Whole.{TreeDoc, tree, branches_from, HeldDoc, Role
 use Rattle.tough_schema.specs.Update.{listed_roles}
 use Rattle.tough_schema.specs.Entries.{entries}
 use Rattle.tough_schema.specs.Search.{Names, no_names, add}
-use Rattle.tough_trust.specs.delegations.Growing.{Metas, Look, through, unlisted, wanted, look, Fetched, at_name, first_of}
+use Rattle.tough_update.specs.delegations.Growing.{Metas, Look, through, unlisted, wanted, look, Fetched, at_name, first_of}
 use Rattle.tough_update.specs.growth.Once.{IsBare}
 use Rattle.tough_update.specs.growth.Under.{Relation, page_of}
 

@@ -6,8 +6,9 @@ use Rattle.tough_schema.specs.Tree.{Entry}
 use Rattle.tough_schema.specs.Update.{listed_roles}
 use Rattle.tough_schema.specs.Search.{Names}
 use Rattle.tough_schema.specs.Whole.{HeldDoc}
-use Rattle.tough_trust.specs.delegations.Numbered.{NodeDoc, Nodes, also, last_number, last_document, roles_at}
-use Rattle.tough_trust.specs.delegations.Growing.{Metas, Index, put, names_of, Look, through, unlisted, wanted, look, looked, listed_as, offer_for, fetched_for, fetched_after, Fetched, TaskDoc, Turn, past, stopped, turn_by_look, turn, Turns, all_past, stopped_at, by_turn, turns, resumed, WorkDoc, here, Progress, wants, grown, by_turns, settle, by_look, go_on, first_work, begun, with_taken, taken}
+use Rattle.tough_update.specs.delegations.Numbered.{NodeDoc, Nodes, also, last_number, last_document, roles_at}
+use Rattle.tough_update.specs.delegations.Growing.{Metas, Look, through, unlisted, wanted, look, looked, listed_as, offer_for, fetched_for, fetched_after, Fetched, TaskDoc, Turn, past, stopped, turn_by_look, turn, Turns, all_past, stopped_at, by_turn, turns, resumed, WorkDoc, here, Progress, wants, grown, by_turns, settle, by_look, go_on, first_work, begun, with_taken, taken}
+use Rattle.tough_trust.specs.delegations.Indexed.{Index, put, names_of}
 use Rattle.tough_update.specs.growth.Listed.{IsListed, WantsListed}
 use Rattle.tough_update.specs.growth.Once.{runs}
 

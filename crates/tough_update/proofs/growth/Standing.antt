@@ -12,9 +12,11 @@ use Rattle.tough_schema.specs.Search.{Names, add}
 use Rattle.tough_schema.specs.Tree.{Entry}
 use Rattle.tough_schema.specs.Update.{listed_roles}
 use Rattle.tough_schema.specs.Whole.{TreeDoc, tree, Branches, no_branches, unloaded, loaded, branches_from, entries_in, HeldDoc, RoleTree}
-use Rattle.tough_trust.specs.delegations.Numbered.{NodeDoc, Nodes, targets, also, last_number, last_document, roles_at, Hanging, nothing_hangs, hang, dressed, tree_with, tree_of}
-use Rattle.tough_trust.specs.delegations.Growing as numbers
-use Rattle.tough_trust.specs.delegations.Growing.{Metas, Index, put, names_of, Look, through, unlisted, wanted, look, Fetched, fetched_for, fetched_after, offer_for, TaskDoc, WorkDoc, Progress}
+use Rattle.tough_update.specs.delegations.Numbered.{NodeDoc, Nodes, targets, also, last_number, last_document, roles_at, Hanging, nothing_hangs, hang, tree_with, tree_of}
+use Rattle.tough_trust.specs.delegations.Dressed.{dressed}
+use Rattle.tough_update.specs.delegations.Growing as numbers
+use Rattle.tough_update.specs.delegations.Growing.{Metas, Look, through, unlisted, wanted, look, Fetched, fetched_for, fetched_after, offer_for, TaskDoc, WorkDoc, Progress}
+use Rattle.tough_trust.specs.delegations.Indexed.{Index, put, names_of}
 use Rattle.tough_update.specs.growth.Once.{IsBare, AreBare, runs}
 use Rattle.tough_update.specs.growth.Under.{Relation, AllTaken}
 use Rattle.tough_update.specs.growth.Tallies.{tally}

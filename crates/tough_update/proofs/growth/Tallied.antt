@@ -17,9 +17,8 @@ use Rattle.tough_schema.specs.Entries.{entries}
 use Rattle.tough_schema.specs.Preorder.{preorder, preorder_below}
 use Rattle.tough_schema.specs.Whole.{TreeDoc, tree, Branches, no_branches, unloaded, loaded, branches_from, HeldDoc, RoleTree, entries_in}
 use Rattle.tough_trust.specs.delegations.Bare.{bare_tree}
-use Rattle.tough_trust.specs.delegations.Growing.{Metas, listed_as, Look, through, unlisted, wanted, look, looked, Fetched, at_name}
-use Rattle.tough_update.proofs.growth.Levels.{with_fetched, refilled, with_roles, OpenDoc, Turn, past, stopped, turn_by_look, turn, Turns, all_past, stopped_at, by_turn, turns, WorkDoc, Progress, wants, grown, by_turns, taken_up, settle, give, by_look, go_on, first_work, begun, with_taken}
-use Rattle.tough_update.proofs.growth.Levels.{tally_role, tally_roles, tally_open, tally_opens, tally_work}
+use Rattle.tough_update.specs.delegations.Growing.{Metas, listed_as, Look, through, unlisted, wanted, look, looked, Fetched, at_name}
+use Rattle.tough_update.proofs.growth.Levels.{with_fetched, refilled, with_roles, OpenDoc, Turn, past, stopped, turn_by_look, turn, Turns, all_past, stopped_at, by_turn, turns, WorkDoc, Progress, wants, grown, by_turns, taken_up, settle, give, by_look, go_on, first_work, begun, with_taken, tally_role, tally_roles, tally_open, tally_opens, tally_work}
 
 -- ---- how many roles a tree has
 

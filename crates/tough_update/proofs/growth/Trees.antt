@@ -7,7 +7,8 @@ use Rattle.tough_schema.specs.Fresh.{carriers, carriers_below}
 use Rattle.tough_schema.specs.Tree.{Entry}
 use Rattle.tough_schema.specs.Update.{listed_roles, given}
 use Rattle.tough_schema.specs.Whole.{TreeDoc, tree, Branches, no_branches, unloaded, loaded, put_branch, branches_from, entries_in, HeldDoc, RoleTree}
-use Rattle.tough_trust.specs.delegations.Numbered.{NodeDoc, Nodes, targets, also, last_number, Hanging, nothing_hangs, hang, dressed_from, dressed_tree, dressed, tree_with}
+use Rattle.tough_update.specs.delegations.Numbered.{NodeDoc, Nodes, targets, also, last_number, Hanging, nothing_hangs, hang, tree_with}
+use Rattle.tough_trust.specs.delegations.Dressed.{dressed_from, dressed_tree, dressed}
 use Rattle.tough_update.specs.growth.Once.{IsBare}
 use Rattle.tough_update.proofs.growth.Levels.{refilled, with_roles}
 

@@ -16,14 +16,12 @@ use Rattle.tough_schema.specs.Tree.{Entry}
 use Rattle.tough_schema.specs.Update.{listed_roles}
 use Rattle.tough_schema.specs.Search.{Names, no_names, add}
 use Rattle.tough_schema.specs.Whole.{OwnDoc, TreeDoc, tree, Branches, no_branches, unloaded, loaded, put_branch, branches_from, entries_in, HeldDoc, RoleTree, top_doc}
-use Rattle.tough_trust.specs.delegations.Growing.{Metas, Look, through, unlisted, wanted, look, Fetched, at_name, first_of}
-use Rattle.tough_update.proofs.growth.Levels.{with_fetched, refilled, with_roles, OpenDoc, Turn, past, stopped, turn_by_look, turn, Turns, all_past, stopped_at, by_turn, turns, WorkDoc, Progress, wants, grown, by_turns, taken_up, settle, give, by_look, first_work, begun, with_taken, taken, holder_of}
+use Rattle.tough_update.specs.delegations.Growing.{Metas, Look, through, unlisted, wanted, look, Fetched, at_name, first_of}
+use Rattle.tough_update.proofs.growth.Levels.{with_fetched, refilled, with_roles, OpenDoc, Turn, past, stopped, turn_by_look, turn, Turns, all_past, stopped_at, by_turn, turns, WorkDoc, Progress, wants, grown, by_turns, taken_up, settle, give, by_look, first_work, begun, with_taken, taken, holder_of, runs, AllTaken}
 use Rattle.tough_schema.specs.Fresh.{carriers, carriers_below}
 use Rattle.tough_update.specs.growth.Once.{IsBare, AreBare}
-use Rattle.tough_update.proofs.growth.Levels.{runs}
 use Rattle.tough_trust.specs.delegations.Bare.{top_page}
 use Rattle.tough_update.specs.growth.Under.{page_of, Relation, Under, Below}
-use Rattle.tough_update.proofs.growth.Levels.{AllTaken}
 
 abbrev entries : List RoleTree → List Entry
 entries rs = map (λ r. r.0) rs

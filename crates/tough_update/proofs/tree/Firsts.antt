@@ -15,8 +15,8 @@ use Rattle.tough_schema.specs.declared.delegations.DelegatedRole.{DelegatedRole,
 use Rattle.tough_schema.specs.declared.delegations.Delegations.{Delegations}
 use Rattle.tough_schema.specs.declared.targets.DelegatedTargets.{DelegatedTargets, out-DelegatedTargets}
 use Rattle.tough_schema.specs.declared.targets.Targets.{out-Targets}
-use Rattle.tough_trust.specs.delegations.Documents.{entries_of, listed_in}
-use Rattle.tough_trust.proofs.Listing.{role-name, delegations-held}
+use Rattle.tough_trust.specs.delegations.Dressed.{entries_of, listed_in}
+use Rattle.tough_update.proofs.tree.Listing.{role-name, delegations-held}
 
 -- ---- the role at a place
 

@@ -21,21 +21,14 @@ use Rattle.tough_schema.specs.declared.targets.Targets.{Targets, out-Targets}
 use Rattle.tough_schema.specs.Tree.{Entry}
 use Rattle.tough_schema.specs.Update.{listed_roles, roles_at, roles_within}
 use Rattle.tough_schema.specs.Search.{Names}
-use Rattle.tough_schema.specs.Whole.{Branches, RoleTree, NamedTree, DelegationsTree, put_branch, branches_from, branches_of, tree_doc, delegations_tree, role_tree, held_doc, entries_in, top_doc}
+use Rattle.tough_schema.specs.Whole.{RoleTree, NamedTree, DelegationsTree, branches_from, branches_of, tree_doc, delegations_tree, role_tree, held_doc, entries_in, top_doc}
 use Rattle.tough_schema.proofs.lemmas.Wholes.{tree-out, delegations-out, role-out, named-out, top-tells}
-use Rattle.tough_trust.specs.delegations.Growing.{Metas, unlisted, wanted, look, looked, listed_as, at_name, first_of}
-use Rattle.tough_trust.specs.delegations.Documents.{entries_of, listed_in}
-use Rattle.tough_trust.specs.delegations.View.{fetched_doc}
+use Rattle.tough_update.specs.delegations.Growing.{Metas, unlisted, wanted, look, looked, listed_as, at_name, first_of}
+use Rattle.tough_trust.specs.delegations.Dressed.{entries_of, listed_in}
+use Rattle.tough_update.specs.delegations.View.{fetched_doc}
+use Rattle.tough_trust.proofs.lemmas.Dressing.{entries-from}
 
 -- ---- the roles of a document
-
-entries-put : (r : RoleTree) (bs : Branches) → entries_in (put_branch r bs) ≡ r.0 ∷ entries_in bs
-entries-put (e, None) bs = refl
-entries-put (e, Some h) bs = refl
-
-pub entries-from : (rs : List DelegatedRole) → entries_in (branches_from (map role_tree rs)) ≡ entries_of rs
-entries-from [] = refl
-entries-from (r ∷ rs) = entries-put (role_tree r) (branches_from (map role_tree rs)) ∙ ap (λ l. (role_tree r).0 ∷ l) (entries-from rs)
 
 branches-within : (o : Option Delegations) → branches_of (option_map delegations_tree o) ≡ branches_from (map role_tree (roles_at o))
 branches-within None = refl

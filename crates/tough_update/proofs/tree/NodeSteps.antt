@@ -9,13 +9,14 @@ use Rattle.tough_schema.specs.declared.delegations.DelegatedRole.{DelegatedRole}
 use Rattle.tough_schema.specs.declared.targets.DelegatedTargets.{DelegatedTargets}
 use Rattle.tough_schema.specs.Update.{listed_roles}
 use Rattle.tough_schema.specs.Whole.{HeldDoc, held_doc}
-use Rattle.tough_trust.specs.declared.delegations.nodes.Node.{Node}
-use Rattle.tough_trust.specs.declared.delegations.nodes.Nodes.{Nodes}
-use Rattle.tough_trust.specs.delegations.Numbered.{NodeDoc, targets, also, last_number, last_document, roles_at, nothing_hangs, dressed, tree_of, only, put_at}
-use Rattle.tough_trust.specs.delegations.Documents.{entries_of, listed_in, node_doc, all_also, nodes_doc}
+use Rattle.tough_update.specs.declared.delegations.nodes.Node.{Node}
+use Rattle.tough_update.specs.declared.delegations.nodes.Nodes.{Nodes}
+use Rattle.tough_update.specs.delegations.Numbered.{NodeDoc, targets, also, last_number, last_document, roles_at, nothing_hangs, tree_of, put_at}
+use Rattle.tough_trust.specs.delegations.Dressed.{dressed, only, entries_of, listed_in}
+use Rattle.tough_update.specs.delegations.Documents.{node_doc, all_also, nodes_doc}
 use Rattle.tough_trust.proofs.lemmas.Dressing.{dressed-none}
-use Rattle.tough_trust.proofs.Listing.{listed-held}
-use Rattle.tough_trust.proofs.lemmas.Noding.{all-more, number-all, document-all, roles-early, roles-there, roles-past, put, put-early, put-there, put-past}
+use Rattle.tough_update.proofs.tree.Listing.{listed-held}
+use Rattle.tough_update.proofs.tree.Noding.{all-more, number-all, document-all, roles-early, roles-there, roles-past, put, put-early, put-there, put-past}
 
 module _ (ns : Nodes) where
   abbrev pub top : HeldDoc

@@ -4,8 +4,9 @@ use Rattle.std.proofs.lemmas.Bool.{eq-eqb, ne_eqb, eqb-true, eqb-false, cond-tru
 use Rattle.std.proofs.Math.Dec.{eqb}
 use Rattle.tough_schema.specs.Update.{listed_roles}
 use Rattle.tough_schema.specs.Whole.{HeldDoc}
-use Rattle.tough_trust.specs.delegations.Numbered.{NodeDoc, Nodes, targets, also, last_number, last_document, roles_at, Hanging, nothing_hangs, hang, dressed, tree_with, tree_of, only, put_at}
-use Rattle.tough_trust.specs.delegations.Documents.{all_also}
+use Rattle.tough_update.specs.delegations.Numbered.{NodeDoc, Nodes, targets, also, last_number, last_document, roles_at, Hanging, nothing_hangs, hang, tree_with, tree_of, put_at}
+use Rattle.tough_trust.specs.delegations.Dressed.{dressed, only}
+use Rattle.tough_update.specs.delegations.Documents.{all_also}
 use Rattle.tough_trust.proofs.lemmas.Dressing.{Has, or_else, or-none, both, dressed-twice, dressed-none}
 
 -- ---- one more

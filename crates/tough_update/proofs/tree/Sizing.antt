@@ -9,11 +9,12 @@ use Rattle.tough_schema.specs.declared.targets.Targets.{out-Targets}
 use Rattle.tough_schema.specs.Tree.{Entry}
 use Rattle.tough_schema.specs.Update.{listed_roles, roles_at as roles_under}
 use Rattle.tough_schema.specs.Whole.{role_tree, held_doc}
-use Rattle.tough_trust.specs.declared.delegations.nodes.Node.{Node}
-use Rattle.tough_trust.specs.declared.delegations.nodes.Nodes as real
-use Rattle.tough_trust.specs.delegations.Numbered.{Nodes, targets, also, last_number, last_document, roles_at}
-use Rattle.tough_trust.specs.delegations.Documents.{listed_in, node_doc, all_also, nodes_doc}
-use Rattle.tough_trust.proofs.Listing.{listed-held}
+use Rattle.tough_update.specs.declared.delegations.nodes.Node.{Node}
+use Rattle.tough_update.specs.declared.delegations.nodes.Nodes as real
+use Rattle.tough_update.specs.delegations.Numbered.{Nodes, targets, also, last_number, last_document, roles_at}
+use Rattle.tough_trust.specs.delegations.Dressed.{listed_in}
+use Rattle.tough_update.specs.delegations.Documents.{node_doc, all_also, nodes_doc}
+use Rattle.tough_update.proofs.tree.Listing.{listed-held}
 
 abbrev pub IsSmall : List Entry → Type 0
 IsSmall es = length es < 2 ^ 63

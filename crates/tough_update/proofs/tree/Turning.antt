@@ -16,12 +16,13 @@ use Rattle.tough_schema.specs.Search.{Names}
 use Rattle.tough_schema.specs.Whole.{HeldDoc, role_tree, held_doc}
 use Rattle.tough_schema.specs.declared.delegations.DelegatedRole.{DelegatedRole, out-DelegatedRole}
 use Rattle.tough_schema.specs.declared.targets.DelegatedTargets.{DelegatedTargets}
-use Rattle.tough_trust.specs.delegations.Numbered.{NodeDoc, Nodes, also, last_number, last_document, roles_at}
-use Rattle.tough_trust.specs.delegations.Growing.{Metas, Index, put, names_of, Look, through, unlisted, wanted, look, Turn, past, stopped, turn_by_look, place_node, offer_for, turn, by_turn, Turns, turns, Fetched, at_name, fetched_for, fetched_after, TaskDoc, WorkDoc, all_past, stopped_at, resumed, by_turns, settle, wants, first_of, with_taken}
-use Rattle.tough_trust.specs.delegations.Documents.{entries_of, listed_in}
-use Rattle.tough_trust.specs.delegations.View.{fetched_doc}
-use Rattle.tough_trust.proofs.Listing.{Held, query, role-name, listed-held, fetched-lookup, fetched-removed}
-use Rattle.tough_trust.proofs.lemmas.Noding.{roles-kept}
+use Rattle.tough_update.specs.delegations.Numbered.{NodeDoc, Nodes, also, last_number, last_document, roles_at}
+use Rattle.tough_update.specs.delegations.Growing.{Metas, Look, through, unlisted, wanted, look, Turn, past, stopped, turn_by_look, place_node, offer_for, turn, by_turn, Turns, turns, Fetched, at_name, fetched_for, fetched_after, TaskDoc, WorkDoc, all_past, stopped_at, resumed, by_turns, settle, wants, first_of, with_taken}
+use Rattle.tough_trust.specs.delegations.Indexed.{Index, put, names_of}
+use Rattle.tough_trust.specs.delegations.Dressed.{entries_of, listed_in}
+use Rattle.tough_update.specs.delegations.View.{fetched_doc}
+use Rattle.tough_update.proofs.tree.Listing.{Held, query, role-name, listed-held, fetched-lookup, fetched-removed}
+use Rattle.tough_update.proofs.tree.Noding.{roles-kept}
 
 pub if_ok-to : {A E : Type 0} (r : Result A E) (P Q : A → Type 0) → ((a : A) → P a → Q a) → IfOk r P → IfOk r Q
 if_ok-to (Ok a) P Q f h = f a h

@@ -1,25 +1,13 @@
--- Documents by numbers, and the roles that they list, seen as plain data.
+-- Documents by numbers, seen as plain data.
 use Rattle.std.specs.Prelude.{List, [], ◌∷◌, map}
 use Rattle.std.specs.BTreeMap.{get_by_text}
-use Rattle.tough_roles.specs.declared.signed.Signed.{Signed}
-use Rattle.tough_schema.specs.declared.targets.DelegatedTargets.{DelegatedTargets, out-DelegatedTargets}
-use Rattle.tough_schema.specs.declared.delegations.DelegatedRole.{DelegatedRole}
-use Rattle.tough_schema.specs.Tree.{Entry}
-use Rattle.tough_schema.specs.Whole.{role_tree, held_doc}
-use Rattle.tough_schema.specs.Update.{roles_within}
-use Rattle.tough_trust.specs.declared.delegations.firsts.Firsts.{Firsts}
-use Rattle.tough_trust.specs.declared.delegations.nodes.Node.{Node}
-use Rattle.tough_trust.specs.declared.delegations.nodes.Nodes.{Nodes}
-use Rattle.tough_trust.specs.delegations.Numbered as numbered
-use Rattle.tough_trust.specs.delegations.Numbered.{NodeDoc}
-use Rattle.tough_trust.specs.delegations.Firsts as plain
-
--- the roles that a document lists
-abbrev pub listed_in : Signed DelegatedTargets → List DelegatedRole
-listed_in s = roles_within (out-DelegatedTargets s.signed).targets
-
-abbrev pub entries_of : List DelegatedRole → List Entry
-entries_of rs = map (λ r. (role_tree r).0) rs
+use Rattle.tough_schema.specs.Whole.{held_doc}
+use Rattle.tough_update.specs.declared.delegations.firsts.Firsts.{Firsts}
+use Rattle.tough_update.specs.declared.delegations.nodes.Node.{Node}
+use Rattle.tough_update.specs.declared.delegations.nodes.Nodes.{Nodes}
+use Rattle.tough_update.specs.delegations.Numbered as numbered
+use Rattle.tough_update.specs.delegations.Numbered.{NodeDoc}
+use Rattle.tough_update.specs.delegations.Firsts as plain
 
 abbrev pub node_doc : Node → NodeDoc
 node_doc n = record { parent = n.parent; at = n.at; document = held_doc n.document }

@@ -1,11 +1,11 @@
 -- Which documents of delegated roles are fetched, and the tree that they make (TUF specification 1.0, section 5.6.7). A document's list
 -- of roles is fetched as a whole; then its roles get their documents in order, each with its own list before the next role. A document
 -- that gets its place gets the next number.
-use Rattle.std.specs.Prelude.{ℕ, suc, List, [], ◌∷◌, ◌++◌, drop, Option, Some, None, is_some, Bool, codes, if◌then◌else◌}
+use Rattle.std.specs.Prelude.{ℕ, suc, List, [], ◌∷◌, ◌++◌, drop, Option, Some, None, Bool, codes, if◌then◌else◌}
 use Rattle.std.specs.Ordering.{nat_cmp}
 use Rattle.std.specs.Str.{bytes_eq}
 use Rattle.std.specs.Cmp.Lexicographic.{slice_cmp}
-use Rattle.std.specs.Map.{lookup, remove_entry, update}
+use Rattle.std.specs.Map.{lookup, remove_entry}
 use Rattle.std.specs.BTreeMap.{is_at, insert_entry}
 use Rattle.tough_roles.specs.Signature.{SignedDoc}
 use Rattle.tough_roles.specs.Timestamp.{MetafileDoc}
@@ -14,7 +14,8 @@ use Rattle.tough_schema.specs.Tree.{Entry}
 use Rattle.tough_schema.specs.Whole.{TreeDoc, HeldDoc, top_doc}
 use Rattle.tough_schema.specs.Update.{listed_roles}
 use Rattle.tough_schema.specs.Search.{Names}
-use Rattle.tough_trust.specs.delegations.Numbered.{NodeDoc, Nodes, targets, also, last_number, last_document, roles_at, tree_of, unnamed}
+use Rattle.tough_trust.specs.delegations.Indexed.{Index, no_index, put, names_of}
+use Rattle.tough_update.specs.delegations.Numbered.{NodeDoc, Nodes, targets, also, last_number, last_document, roles_at, tree_of, unnamed}
 
 -- what a snapshot lists
 abbrev pub Metas : Type 0
@@ -23,21 +24,6 @@ Metas = List (List ℕ × MetafileDoc)
 -- what it lists for a role
 abbrev pub listed_as : Metas → List ℕ → Option MetafileDoc
 listed_as metas name = lookup (bytes_eq (name ++ codes ".json")) metas
-
--- ---- the names that had their turn
-
--- each name that was loaded, with the number of its document, and each name that isn't in the snapshot, with none
-abbrev pub Index : Type 0
-Index = List ℕ → Option (Option ℕ)
-
-abbrev pub no_index : Index
-no_index q = None
-
-abbrev pub put : List ℕ → Option ℕ → Index → Index
-put name number index = update bytes_eq index name (Some number)
-
-abbrev pub names_of : Index → Names
-names_of index q = is_some (index q)
 
 -- ---- looking at a list
 
@@ -182,6 +168,14 @@ begun metas top = go_on metas (first_work top)
 abbrev pub first_of : List Entry → Option Entry
 first_of [] = None
 first_of (e ∷ rest) = Some e
+
+-- its name
+abbrev pub first_name : List Entry → List ℕ
+first_name [] = []
+first_name (e ∷ rest) = e.name
+
+abbrev pub wanted_name : WorkDoc → List ℕ
+wanted_name w = first_name w.waiting
 
 -- the document whose list is being fetched
 abbrev pub here : WorkDoc → HeldDoc

@@ -1,9 +1,10 @@
 -- Documents by numbers, and the tree that they make (TUF specification 1.0, section 4.5).
-use Rattle.std.specs.Prelude.{ℕ, suc, ◌==◌, List, [], Option, Some, None, ◌&&◌, is_some, if◌then◌else◌}
+use Rattle.std.specs.Prelude.{ℕ, suc, ◌==◌, List, [], Option, Some, None, ◌&&◌, if◌then◌else◌}
 use Rattle.tough_roles.specs.Signature.{SignedDoc}
 use Rattle.tough_schema.specs.Tree.{Entry}
-use Rattle.tough_schema.specs.Whole.{TreeDoc, tree, Branches, no_branches, unloaded, loaded, HeldDoc, put_branch}
-use Rattle.tough_schema.specs.Update.{listed_roles, given}
+use Rattle.tough_schema.specs.Whole.{TreeDoc, HeldDoc}
+use Rattle.tough_schema.specs.Update.{listed_roles}
+use Rattle.tough_trust.specs.delegations.Dressed.{dressed, only}
 
 -- a document that has its place: in the document of this number, at this place of its list
 pub record NodeDoc : Type 0 where
@@ -46,20 +47,6 @@ nothing_hangs number place = None
 abbrev pub hang : NodeDoc → HeldDoc → Hanging → Hanging
 hang n h below number place = if number == n.parent && place == n.at then Some h else below number place
 
--- the roles from this place on, each with what it has
-abbrev pub dressed_from : (ℕ → Option HeldDoc) → ℕ → Branches → Branches
-dressed_from has place no_branches = no_branches
-dressed_from has place (unloaded e bs) = put_branch (given (e, None) (has place)) (dressed_from has (suc place) bs)
-dressed_from has place (loaded e name signatures t bs) =
-    put_branch (given (e, Some (record { name = name; signatures = signatures; below = t })) (has place)) (dressed_from has (suc place) bs)
-
-abbrev pub dressed_tree : (ℕ → Option HeldDoc) → TreeDoc → TreeDoc
-dressed_tree has (tree o bs) = tree o (if is_some o.keys then dressed_from has 0 bs else bs)
-
--- the document with what its roles have
-abbrev pub dressed : (ℕ → Option HeldDoc) → HeldDoc → HeldDoc
-dressed has h = record h { below = dressed_tree has h.below }
-
 -- the last document, with what its roles have, is what the role at its place has; and so on down to the targets
 abbrev pub tree_with : Nodes → Hanging → HeldDoc
 tree_with (targets h) below = dressed (below 0) h
@@ -73,10 +60,6 @@ abbrev pub unnamed : HeldDoc → SignedDoc TreeDoc
 unnamed h = record { role = h.below; signatures = h.signatures }
 
 -- ---- words of private clauses
-
--- a document for one role
-abbrev pub only : ℕ → HeldDoc → ℕ → Option HeldDoc
-only at h place = if place == at then Some h else None
 
 -- the role at this place of the list in the document of this number gets the document
 abbrev pub put_at : ℕ → ℕ → HeldDoc → Nodes → Nodes

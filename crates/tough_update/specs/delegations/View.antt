@@ -1,6 +1,5 @@
 -- The tree that grows, seen as plain data.
 use Rattle.std.specs.Prelude.{ℕ, List, [], map, drop, Option, Some, None, String, string_bytes}
-use Rattle.std.specs.BTreeMap.{get_by_text}
 use Rattle.std.specs.Borrow.{Bor}
 use Rattle.std.specs.declared.alloc.Global.{Global}
 use Rattle.tough_roles.specs.Signature.{signed_doc, signatures_doc}
@@ -12,19 +11,20 @@ use Rattle.tough_schema.specs.declared.targets.Targets.{Targets}
 use Rattle.tough_schema.specs.declared.targets.DelegatedTargets.{DelegatedTargets}
 use Rattle.tough_schema.specs.Tree.{Entry}
 use Rattle.tough_schema.specs.Whole.{HeldDoc, tree_doc, held_doc}
-use Rattle.tough_trust.specs.declared.delegations.look.Look.{Look}
-use Rattle.tough_trust.specs.declared.delegations.look.Look.TheVariants as seen
-use Rattle.tough_trust.specs.declared.delegations.index.Index.{Index}
-use Rattle.tough_trust.specs.declared.delegations.turns.Task.{Task}
-use Rattle.tough_trust.specs.declared.delegations.turns.Stop.{Stop}
-use Rattle.tough_trust.specs.declared.delegations.growth.Growth.{Growth}
-use Rattle.tough_trust.specs.declared.delegations.growth.Progress.{Progress}
-use Rattle.tough_trust.specs.declared.delegations.growth.Progress.TheVariants as step
-use Rattle.tough_trust.specs.delegations.Numbered as numbered
-use Rattle.tough_trust.specs.delegations.Numbered.{last_roles}
-use Rattle.tough_trust.specs.delegations.Documents.{nodes_doc}
-use Rattle.tough_trust.specs.delegations.Growing as plain
-use Rattle.tough_trust.specs.delegations.Growing.{Metas, Fetched, TaskDoc, WorkDoc}
+use Rattle.tough_update.specs.declared.delegations.look.Look.{Look}
+use Rattle.tough_update.specs.declared.delegations.look.Look.TheVariants as seen
+use Rattle.tough_trust.specs.delegations.Indexed.{Index}
+use Rattle.tough_trust.specs.View.{index_doc}
+use Rattle.tough_update.specs.declared.delegations.turns.Task.{Task}
+use Rattle.tough_update.specs.declared.delegations.turns.Stop.{Stop}
+use Rattle.tough_update.specs.declared.delegations.growth.Growth.{Growth}
+use Rattle.tough_update.specs.declared.delegations.growth.Progress.{Progress}
+use Rattle.tough_update.specs.declared.delegations.growth.Progress.TheVariants as step
+use Rattle.tough_update.specs.delegations.Numbered as numbered
+use Rattle.tough_update.specs.delegations.Numbered.{last_roles}
+use Rattle.tough_update.specs.delegations.Documents.{nodes_doc}
+use Rattle.tough_update.specs.delegations.Growing as plain
+use Rattle.tough_update.specs.delegations.Growing.{Metas, Fetched, TaskDoc, WorkDoc}
 
 abbrev pub metas_of : Snapshot → Metas
 metas_of s = metafiles_doc s.meta.entries
@@ -38,10 +38,6 @@ fetched_doc es = map (λ e. (string_bytes e.0, held_doc e.1)) es
 
 -- ---- the parts of the work
 
--- the number of the document of each name that had its turn
-abbrev pub index_doc : Index → plain.Index
-index_doc x q = get_by_text x.numbers q
-
 -- the roles of the last document, from this place on
 abbrev pub waiting_in : numbered.Nodes → ℕ → List Entry
 waiting_in ns at = drop at (last_roles ns)
@@ -54,11 +50,11 @@ look_doc es (seen.Wanted at m) = plain.wanted (drop at es) (metafile_doc m.now)
 abbrev pub task_doc : Task → TaskDoc
 task_doc t = record { node = t.node; at = t.at; fetched = fetched_doc t.fetched.entries }
 
-abbrev pub turn_doc : numbered.Nodes → plain.Index → Option (ℕ × Bor Metafile) → plain.Turn
+abbrev pub turn_doc : numbered.Nodes → Index → Option (ℕ × Bor Metafile) → plain.Turn
 turn_doc ns index None = plain.past ns index
 turn_doc ns index (Some (at, m)) = plain.stopped ns (waiting_in ns at) (metafile_doc m.now) index
 
-abbrev pub turns_doc : numbered.Nodes → plain.Index → Option Stop → plain.Turns
+abbrev pub turns_doc : numbered.Nodes → Index → Option Stop → plain.Turns
 turns_doc ns index None = plain.all_past ns index
 turns_doc ns index (Some s) = plain.stopped_at ns (task_doc s.task) (waiting_in ns s.at) (metafile_doc s.entry.now) index
 

@@ -1,7 +1,8 @@
 -- That the index tells where the documents of the roles stand (TUF specification 1.0, section 5.6.7).
 use Rattle.std.specs.Prelude.{◌≡◌, ◌↔◌, ◌==◌, ⊤, ℕ, suc, List, drop, Option, Some, None, option_map, if◌then◌else◌}
-use Rattle.tough_trust.specs.delegations.Numbered.{NodeDoc, Nodes, targets, also, last_number, roles_at}
-use Rattle.tough_trust.specs.delegations.Growing.{Index, Progress, wants, grown, first_of}
+use Rattle.tough_update.specs.delegations.Numbered.{NodeDoc, Nodes, targets, also, last_number, roles_at}
+use Rattle.tough_trust.specs.delegations.Indexed.{Index}
+use Rattle.tough_update.specs.delegations.Growing.{Progress, wants, grown, first_of}
 
 -- the name of the role under which a document has its place
 abbrev pub name_of : NodeDoc → Nodes → Option (List ℕ)

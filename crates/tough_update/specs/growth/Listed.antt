@@ -4,7 +4,7 @@ use Rattle.std.specs.Prelude.{◌≡◌, List, ◌∷◌, ◌++◌, Some, ⊤}
 use Rattle.tough_roles.specs.Timestamp.{MetafileDoc}
 use Rattle.tough_schema.specs.Tree.{Entry}
 use Rattle.tough_schema.specs.Update.{listed_roles}
-use Rattle.tough_trust.specs.delegations.Growing.{Metas, listed_as, here, Progress, wants, grown}
+use Rattle.tough_update.specs.delegations.Growing.{Metas, listed_as, here, Progress, wants, grown}
 
 -- the first role that waits is one of those, and the snapshot lists its document so
 pub record IsListed (metas : Metas) (roles waiting : List Entry) (m : MetafileDoc) : Type 0 where

@@ -3,7 +3,7 @@ use Rattle.std.specs.Prelude.{◌≡◌, ℕ, List, [], ◌∷◌, Bool, false, 
 use Rattle.std.specs.Str.{bytes_eq}
 use Rattle.tough_schema.specs.Whole.{HeldDoc}
 use Rattle.tough_schema.specs.Fresh.{IsUnloaded}
-use Rattle.tough_trust.specs.delegations.Growing.{Metas, Progress, wants, grown, taken}
+use Rattle.tough_update.specs.delegations.Growing.{Metas, Progress, wants, grown, taken}
 
 abbrev pub is_among : List ℕ → List (List ℕ) → Bool
 is_among n [] = false

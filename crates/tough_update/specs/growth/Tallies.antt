@@ -2,8 +2,8 @@
 -- (TUF specification 1.0, section 5.6.7).
 use Rattle.std.specs.Prelude.{ℕ, ◌+◌, length}
 use Rattle.tough_schema.specs.Update.{listed_roles}
-use Rattle.tough_trust.specs.delegations.Numbered.{Nodes, targets, also}
-use Rattle.tough_trust.specs.delegations.Growing.{WorkDoc}
+use Rattle.tough_update.specs.delegations.Numbered.{Nodes, targets, also}
+use Rattle.tough_update.specs.delegations.Growing.{WorkDoc}
 
 abbrev pub tally : Nodes → ℕ
 tally (targets h) = length (listed_roles h.below)

@@ -4,7 +4,7 @@ use Rattle.tough_roles.specs.Signature.{SignedDoc}
 use Rattle.tough_schema.specs.Delegations.{DelegationsDoc}
 use Rattle.tough_schema.specs.Targets.{TargetsDoc}
 use Rattle.tough_schema.specs.Whole.{TreeDoc, tree, Branches, no_branches, unloaded, loaded, HeldDoc, top_doc}
-use Rattle.tough_trust.specs.delegations.Growing.{Metas, Progress, wants, grown, first_of, holder_of, taken}
+use Rattle.tough_update.specs.delegations.Growing.{Metas, Progress, wants, grown, first_of, holder_of, taken}
 use Rattle.tough_update.specs.growth.Once.{IsBare}
 
 -- the document without those of its roles

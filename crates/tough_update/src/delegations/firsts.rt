@@ -1,8 +1,9 @@
 //! The first role of each name in a list.
 
 ghost use Rattle.std.specs.Prelude.{◌≡◌, IfOk};
-ghost use Rattle.tough_trust.specs.delegations.Documents.{entries_of, firsts_doc};
-ghost use Rattle.tough_trust.specs.delegations.Firsts.{first_places};
+ghost use Rattle.tough_trust.specs.delegations.Dressed.{entries_of};
+ghost use Rattle.tough_update.specs.delegations.Documents.{firsts_doc};
+ghost use Rattle.tough_update.specs.delegations.Firsts.{first_places};
 
 use std::alloc::{AllocError, Global};
 use std::collections::BTreeMap;

@@ -1,13 +1,11 @@
 //! The tree as it grows.
 
 ghost use Rattle.std.specs.Prelude.{◌≡◌, ℕ, List};
-ghost use Rattle.tough_trust.specs.delegations.Documents.{firsts_doc, nodes_doc};
-ghost use Rattle.tough_trust.specs.delegations.Firsts.{first_places};
-ghost use Rattle.tough_trust.specs.delegations.Numbered.{last_roles};
+ghost use Rattle.tough_update.specs.delegations.Documents.{firsts_doc, nodes_doc};
+ghost use Rattle.tough_update.specs.delegations.Firsts.{first_places};
+ghost use Rattle.tough_update.specs.delegations.Numbered.{last_roles};
 
 use crate::delegations::firsts::Firsts;
-use crate::delegations::index::Index;
-use crate::delegations::list::roles_of;
 use crate::delegations::look::{Look, look_from};
 use crate::delegations::nodes::Nodes;
 use crate::delegations::turns::{Stop, Task, take_turns};
@@ -15,6 +13,7 @@ use std::alloc::{AllocError, Global};
 use std::collections::{BTreeMap, VecDeque};
 use tough_roles::{Metafile, Signed, Snapshot};
 use tough_schema::{DelegatedRole, DelegatedTargets, Delegations, Targets};
+use tough_trust::{Index, RoleHolder, roles_of};
 
 /// A tree of delegated roles that grows: the documents that have their place, and the role whose document is wanted next.
 #[derive(Drop)]
@@ -50,8 +49,10 @@ impl Growth {
     ghost use Rattle.tough_schema.specs.Delegations.{delegated_role_doc, delegations_doc};
     ghost use Rattle.tough_schema.specs.Verify.{role_named};
     ghost use Rattle.tough_schema.specs.Whole.{role_tree, held_doc};
-    ghost use Rattle.tough_trust.specs.delegations.Growing.{wants, first_work, settle, give, go_on, first_of, holder_of, with_taken};
-    ghost use Rattle.tough_trust.specs.delegations.View.{metas_of, top_held, waiting_in, index_doc, task_doc, work_doc, progress_doc};
+    ghost use Rattle.tough_update.specs.delegations.Growing.{wants, first_work, settle, give, go_on, first_of, wanted_name, holder_of, with_taken};
+    ghost use Rattle.tough_update.specs.Delegated.{role_holder};
+    ghost use Rattle.tough_trust.specs.View.{role_holder_doc, index_doc};
+    ghost use Rattle.tough_update.specs.delegations.View.{metas_of, top_held, waiting_in, task_doc, work_doc, progress_doc};
 
     // The list of the last document is to be fetched, from the role at this place on.
     fn begin(
@@ -161,8 +162,18 @@ impl Growth {
         roles_of(self.nodes.last()).get(self.at)
     }
 
-    /// The delegations that the role stands in, under which its document must verify.
-    pub fn holder(&self) -> Option<&Delegations>
+    /// The name of the role whose document is wanted.
+    pub fn wanted_name(&self) -> &str
+        ensures { result.now ≡ wanted_name (work_doc self.now) }
+    {
+        match self.role() {
+            Some(role) => role.name.as_str(),
+            None => "",
+        }
+    }
+
+    // The delegations that the role stands in, under which its document must verify.
+    fn delegations(&self) -> Option<&Delegations>
         ensures { option_map (λ g. delegations_doc g.now) result ≡ holder_of (work_doc self.now) }
     {
         match &self.nodes.last().signed.targets.delegations {
@@ -171,13 +182,25 @@ impl Growth {
         }
     }
 
-    /// The first role of the name in the list that the wanted role stands in: it says which keys sign a document of this name.
-    pub fn role_named(&self, name: &str) -> Option<&DelegatedRole>
+    // The first role of the name in the list that the wanted role stands in: it says which keys sign a document of this name.
+    fn role_named(&self, name: &str) -> Option<&DelegatedRole>
         ensures { option_map (λ r. delegated_role_doc r.now) result
             ≡ option_and_then (λ g. role_named name.now g.roles) (holder_of (work_doc self.now)) }
     {
         let roles = roles_of(self.nodes.last());
         roles.get(self.firsts.get(name)?)
+    }
+
+    /// Who vouches for the document that is wanted: the delegations that its role stands in, and the first role of its name.
+    pub fn holder(&self) -> RoleHolder<'_>
+        ensures { role_holder_doc result ≡ role_holder (work_doc self.now) }
+    {
+        let name = self.wanted_name();
+        RoleHolder {
+            name,
+            delegations: self.delegations(),
+            role: self.role_named(name),
+        }
     }
 
     /// Takes the document that was wanted, under its role's name.

@@ -2,14 +2,16 @@
 
 ghost use Rattle.std.specs.Prelude.{◌≡◌, IfOk, drop, option_map};
 ghost use Rattle.tough_roles.specs.Timestamp.{metafile_doc};
-ghost use Rattle.tough_trust.specs.delegations.Growing.{listed_as, look, names_of};
-ghost use Rattle.tough_trust.specs.delegations.Documents.{entries_of};
-ghost use Rattle.tough_trust.specs.delegations.View.{metas_of, index_doc, look_doc};
+ghost use Rattle.tough_update.specs.delegations.Growing.{listed_as, look};
+ghost use Rattle.tough_trust.specs.delegations.Indexed.{names_of};
+ghost use Rattle.tough_trust.specs.delegations.Dressed.{entries_of};
+ghost use Rattle.tough_update.specs.delegations.View.{metas_of, look_doc};
+ghost use Rattle.tough_trust.specs.View.{index_doc};
 
-use crate::delegations::index::Index;
 use std::alloc::{AllocError, Global};
 use tough_roles::{Metafile, Snapshot};
 use tough_schema::DelegatedRole;
+use tough_trust::Index;
 
 /// What comes next in a list of roles.
 #[derive(Drop)]

@@ -3,14 +3,15 @@
 ghost use Rattle.std.specs.Prelude.{◌≡◌, IfOk, drop, option_map};
 ghost use Rattle.tough_roles.specs.Signature.{signed_doc};
 ghost use Rattle.tough_schema.specs.Whole.{role_tree, tree_doc, held_doc};
-ghost use Rattle.tough_trust.specs.delegations.Numbered.{targets, also, last_number, last_document, roles_at, tree_of, unnamed, put_at};
-ghost use Rattle.tough_trust.specs.delegations.Growing.{first_of};
-ghost use Rattle.tough_trust.specs.delegations.Documents.{entries_of, node_doc, nodes_doc};
+ghost use Rattle.tough_update.specs.delegations.Numbered.{targets, also, last_number, last_document, roles_at, tree_of, unnamed, put_at};
+ghost use Rattle.tough_update.specs.delegations.Growing.{first_of};
+ghost use Rattle.tough_trust.specs.delegations.Dressed.{entries_of};
+ghost use Rattle.tough_update.specs.delegations.Documents.{node_doc, nodes_doc};
 
-use crate::delegations::list::{roles_of, set_document};
 use std::alloc::{AllocError, Global};
 use tough_roles::Signed;
 use tough_schema::{DelegatedRole, DelegatedTargets, Targets};
+use tough_trust::{roles_of, set_document};
 
 /// A document that has its place.
 #[derive(Drop)]

@@ -2,18 +2,19 @@
 
 ghost use Rattle.std.specs.Prelude.{◌≡◌, IfOk, option_map, string_bytes};
 ghost use Rattle.tough_schema.specs.Whole.{role_tree};
-ghost use Rattle.tough_trust.specs.delegations.Growing.{names_of, offer_for, fetched_for, fetched_after, place_node, resumed};
-ghost use Rattle.tough_trust.specs.delegations.Documents.{node_doc, nodes_doc};
-ghost use Rattle.tough_trust.specs.delegations.View.{metas_of, fetched_doc, index_doc, task_doc, turn_doc, turns_doc};
+ghost use Rattle.tough_trust.specs.delegations.Indexed.{names_of};
+ghost use Rattle.tough_update.specs.delegations.Growing.{offer_for, fetched_for, fetched_after, place_node, resumed};
+ghost use Rattle.tough_update.specs.delegations.Documents.{node_doc, nodes_doc};
+ghost use Rattle.tough_update.specs.delegations.View.{metas_of, fetched_doc, task_doc, turn_doc, turns_doc};
+ghost use Rattle.tough_trust.specs.View.{index_doc};
 
-use crate::delegations::index::Index;
-use crate::delegations::list::roles_of;
 use crate::delegations::look::{Look, look_from};
 use crate::delegations::nodes::{Node, Nodes};
 use std::alloc::{AllocError, Global};
 use std::collections::BTreeMap;
 use tough_roles::{Metafile, Signed, Snapshot};
 use tough_schema::{DelegatedRole, DelegatedTargets};
+use tough_trust::{Index, roles_of};
 
 /// A list whose roles get their documents.
 #[derive(Drop)]

@@ -2,8 +2,8 @@ use Rattle.std.proofs.Common.{◌≡◌, [], ap, subst}
 use Rattle.tough_roles.specs.Signature.{signed_doc}
 use Rattle.tough_schema.specs.Whole.{tree_doc}
 use Rattle.tough_trust.specs.delegations.Bare.{held_as}
-use Rattle.tough_trust.specs.delegations.Growing.{WorkDoc, first_work, go_on}
-use Rattle.tough_trust.specs.delegations.View.{work_doc}
+use Rattle.tough_update.specs.delegations.Growing.{WorkDoc, first_work, go_on}
+use Rattle.tough_update.specs.delegations.View.{work_doc}
 use Rattle.tough_trust.specs.Failure.{Gives}
 use Rattle.tough_update.specs.Delegated.{metas_in, grown_on}
 use Rattle.tough_update.specs.View.{known_doc, received_docs, stage_doc}

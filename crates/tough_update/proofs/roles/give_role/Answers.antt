@@ -2,10 +2,9 @@ use Rattle.std.proofs.Common.{rules, ◌≡◌, string_bytes, ap, ◌∙◌, sub
 use Rattle.tough_roles.specs.Signature.{signed_doc}
 use Rattle.tough_schema.specs.Whole.{tree_doc, held_doc}
 use Rattle.tough_trust.specs.delegations.Bare.{held_as}
-use Rattle.tough_trust.specs.delegations.Growing.{go_on, with_taken}
-use Rattle.tough_trust.specs.delegations.View.{work_doc}
+use Rattle.tough_update.specs.delegations.Growing.{go_on, with_taken, wanted_name}
+use Rattle.tough_update.specs.delegations.View.{work_doc}
 use Rattle.tough_trust.specs.Failure.{Gives}
-use Rattle.tough_trust.specs.Listed.{wanted_name}
 use Rattle.tough_update.specs.Delegated.{metas_in, grown_on, given}
 use Rattle.tough_update.specs.View.{known_doc, received_docs, stage_doc}
 use Rattle.tough_update.proofs.roles.give_role.Goals as goal

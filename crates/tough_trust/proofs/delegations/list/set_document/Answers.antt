@@ -5,7 +5,7 @@ use Rattle.tough_schema.specs.declared.targets.DelegatedTargets.{out-DelegatedTa
 use Rattle.tough_schema.specs.declared.targets.Targets.{Targets, out-Targets, roll-Targets}
 use Rattle.tough_schema.specs.Whole.{held_doc}
 use Rattle.std.specs.Vec.{with_item}
-use Rattle.tough_trust.specs.delegations.Numbered.{only}
+use Rattle.tough_trust.specs.delegations.Dressed.{only}
 use Rattle.tough_trust.proofs.Setting.{role-set, tree-set, tree-past, held-set}
 use Rattle.tough_trust.proofs.delegations.list.set_document.Goals as goal
 

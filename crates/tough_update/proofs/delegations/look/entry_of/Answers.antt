@@ -2,9 +2,9 @@ use Rattle.std.proofs.Common.{rules, ◌≡◌, ◌++◌, codes, option_map, ap,
 use Rattle.std.specs.Map.{lookup}
 use Rattle.std.specs.Str.{bytes_eq}
 use Rattle.tough_roles.specs.Timestamp.{metafile_doc}
-use Rattle.tough_trust.specs.delegations.View.{metas_of}
-use Rattle.tough_trust.proofs.Listing.{copied-map, listed-in}
-use Rattle.tough_trust.proofs.delegations.look.entry_of.Goals as goal
+use Rattle.tough_update.specs.delegations.View.{metas_of}
+use Rattle.tough_update.proofs.tree.Listing.{copied-map, listed-in}
+use Rattle.tough_update.proofs.delegations.look.entry_of.Goals as goal
 
 pub returns : goal.returns
 returns c =

@@ -1,10 +1,12 @@
 use Rattle.std.proofs.Common.{rules, ◌≡◌, true, false, Option, Some, None, string_bytes, sym, ◌∙◌}
 use Rattle.tough_roles.specs.Timestamp.{MetafileDoc, metafile_doc}
 use Rattle.tough_schema.specs.declared.delegations.DelegatedRole.{out-DelegatedRole}
-use Rattle.tough_trust.specs.delegations.Growing.{listed_as, names_of}
-use Rattle.tough_trust.specs.delegations.View.{metas_of, index_doc}
-use Rattle.tough_trust.proofs.Listing.{look-past, look-wanted, look-unlisted}
-use Rattle.tough_trust.proofs.delegations.look.look_from.Goals as goal
+use Rattle.tough_update.specs.delegations.Growing.{listed_as}
+use Rattle.tough_trust.specs.delegations.Indexed.{names_of}
+use Rattle.tough_update.specs.delegations.View.{metas_of}
+use Rattle.tough_trust.specs.View.{index_doc}
+use Rattle.tough_update.proofs.tree.Listing.{look-past, look-wanted, look-unlisted}
+use Rattle.tough_update.proofs.delegations.look.look_from.Goals as goal
 
 pub returns-in-Some-2 : goal.returns-in-Some-2
 returns-in-Some-2 c =

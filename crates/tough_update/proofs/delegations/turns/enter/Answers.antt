@@ -1,11 +1,14 @@
 use Rattle.std.proofs.Common.{rules, ◌≡◌, drop, string_bytes, Some, ap, ◌∙◌}
 use Rattle.tough_roles.specs.Timestamp.{metafile_doc}
-use Rattle.tough_trust.specs.delegations.Numbered.{also, last_number}
-use Rattle.tough_trust.specs.delegations.Growing.{put, names_of, through, unlisted, wanted, look, past}
-use Rattle.tough_trust.specs.delegations.Documents.{entries_of, node_doc, nodes_doc}
-use Rattle.tough_trust.specs.delegations.View.{metas_of, index_doc}
-use Rattle.tough_trust.proofs.Turning.{enters, enters-wanted}
-use Rattle.tough_trust.proofs.delegations.turns.enter.Goals as goal
+use Rattle.tough_update.specs.delegations.Numbered.{also, last_number}
+use Rattle.tough_trust.specs.delegations.Indexed.{put, names_of}
+use Rattle.tough_update.specs.delegations.Growing.{through, unlisted, wanted, look, past}
+use Rattle.tough_trust.specs.delegations.Dressed.{entries_of}
+use Rattle.tough_update.specs.delegations.Documents.{node_doc, nodes_doc}
+use Rattle.tough_update.specs.delegations.View.{metas_of}
+use Rattle.tough_trust.specs.View.{index_doc}
+use Rattle.tough_update.proofs.tree.Turning.{enters, enters-wanted}
+use Rattle.tough_update.proofs.delegations.turns.enter.Goals as goal
 
 pub returns-in-Through : goal.returns-in-Through
 returns-in-Through c =

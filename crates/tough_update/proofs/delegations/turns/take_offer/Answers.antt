@@ -1,12 +1,12 @@
 use Rattle.std.proofs.Common.{rules, ◌≡◌, true, false, Some, None, option_map, string_bytes, ap, sym, ◌∙◌}
 use Rattle.std.specs.Map.{lookup, remove_entry}
 use Rattle.tough_schema.specs.declared.delegations.DelegatedRole.{out-DelegatedRole}
-use Rattle.tough_trust.specs.delegations.Growing.{names_of}
-use Rattle.tough_trust.specs.delegations.Documents.{node_doc}
-use Rattle.tough_trust.specs.delegations.View.{index_doc}
-use Rattle.tough_trust.proofs.Listing.{query}
-use Rattle.tough_trust.proofs.Turning.{left-after, offer_for-none, offer_for-known, offer_for-new}
-use Rattle.tough_trust.proofs.delegations.turns.take_offer.Goals as goal
+use Rattle.tough_trust.specs.delegations.Indexed.{names_of}
+use Rattle.tough_update.specs.delegations.Documents.{node_doc}
+use Rattle.tough_trust.specs.View.{index_doc}
+use Rattle.tough_update.proofs.tree.Listing.{query}
+use Rattle.tough_update.proofs.tree.Turning.{left-after, offer_for-none, offer_for-known, offer_for-new}
+use Rattle.tough_update.proofs.delegations.turns.take_offer.Goals as goal
 
 pub returns-in_err-document-clause-offer : goal.returns-in_err-document-clause-offer
 returns-in_err-document-clause-offer c =

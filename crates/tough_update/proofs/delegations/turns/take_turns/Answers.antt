@@ -3,14 +3,16 @@ use Rattle.tough_roles.specs.Timestamp.{metafile_doc}
 use Rattle.tough_schema.specs.declared.delegations.DelegatedRole.{out-DelegatedRole}
 use Rattle.tough_schema.specs.Update.{listed_roles}
 use Rattle.tough_schema.specs.Whole.{role_tree}
-use Rattle.tough_trust.specs.delegations.Numbered.{also, last_number, roles_at}
-use Rattle.tough_trust.specs.delegations.Growing.{names_of, put, past, stopped, stopped_at, look, offer_for, fetched_for, place_node, TaskDoc, resumed}
-use Rattle.tough_trust.specs.delegations.Documents.{node_doc, nodes_doc}
-use Rattle.tough_trust.specs.delegations.View.{metas_of, waiting_in, index_doc, task_doc}
-use Rattle.tough_trust.proofs.Listing.{role-name}
-use Rattle.tough_trust.proofs.Sizing.{small-roles}
-use Rattle.tough_trust.proofs.Turning.{some-within, turn_by_look-nodes, next-is, turn-none, turn-some, resumed-past, resumed-stopped, still-there}
-use Rattle.tough_trust.proofs.delegations.turns.take_turns.Goals as goal
+use Rattle.tough_update.specs.delegations.Numbered.{also, last_number, roles_at}
+use Rattle.tough_trust.specs.delegations.Indexed.{names_of, put}
+use Rattle.tough_update.specs.delegations.Growing.{past, stopped, stopped_at, look, offer_for, fetched_for, place_node, TaskDoc, resumed}
+use Rattle.tough_update.specs.delegations.Documents.{node_doc, nodes_doc}
+use Rattle.tough_update.specs.delegations.View.{metas_of, waiting_in, task_doc}
+use Rattle.tough_trust.specs.View.{index_doc}
+use Rattle.tough_update.proofs.tree.Listing.{role-name}
+use Rattle.tough_update.proofs.tree.Sizing.{small-roles}
+use Rattle.tough_update.proofs.tree.Turning.{some-within, turn_by_look-nodes, next-is, turn-none, turn-some, resumed-past, resumed-stopped, still-there}
+use Rattle.tough_update.proofs.delegations.turns.take_turns.Goals as goal
 
 pub overflow_add-task : goal.overflow_add-task
 overflow_add-task c =

@@ -1,9 +1,10 @@
 use Rattle.std.proofs.Common.{◌≡◌, ◌-◌, length}
-use Rattle.tough_trust.specs.delegations.Numbered.{roles_at}
-use Rattle.tough_trust.specs.delegations.Growing.{resumed}
-use Rattle.tough_trust.specs.delegations.Documents.{nodes_doc}
-use Rattle.tough_trust.specs.delegations.View.{metas_of, index_doc, task_doc}
-use Rattle.tough_trust.proofs.delegations.turns.take_turns.Given as goal
+use Rattle.tough_update.specs.delegations.Numbered.{roles_at}
+use Rattle.tough_update.specs.delegations.Growing.{resumed}
+use Rattle.tough_update.specs.delegations.Documents.{nodes_doc}
+use Rattle.tough_update.specs.delegations.View.{metas_of, task_doc}
+use Rattle.tough_trust.specs.View.{index_doc}
+use Rattle.tough_update.proofs.delegations.turns.take_turns.Given as goal
 
 abbrev pub invariant-loop-role : goal.invariant-loop-role
 invariant-loop-role l =

@@ -2,8 +2,8 @@ use Rattle.std.proofs.Common.{rules, ◌≡◌, ◌<◌, ◌+◌, ◌-◌, lengt
 use Rattle.std.proofs.lemmas.Map.Text.{btree_map_updates_text}
 use Rattle.std.specs.BTreeMap.{get_by_text}
 use Rattle.tough_schema.specs.declared.delegations.DelegatedRole.{out-DelegatedRole}
-use Rattle.tough_trust.proofs.Firsts.{seen-from}
-use Rattle.tough_trust.proofs.delegations.firsts.Firsts.new.Goals as goal
+use Rattle.tough_update.proofs.tree.Firsts.{seen-from}
+use Rattle.tough_update.proofs.delegations.firsts.Firsts.new.Goals as goal
 
 pub loop-at-preserved : goal.loop-at-preserved
 loop-at-preserved c = λ name.

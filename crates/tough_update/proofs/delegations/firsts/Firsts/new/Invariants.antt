@@ -3,8 +3,8 @@ use Rattle.std.specs.BTreeMap.{get_by_text}
 use Rattle.std.specs.List.{position_from}
 use Rattle.std.specs.Str.{bytes_eq}
 use Rattle.tough_schema.specs.Tree.{Entry}
-use Rattle.tough_trust.specs.delegations.Documents.{entries_of}
-use Rattle.tough_trust.proofs.delegations.firsts.Firsts.new.Given as goal
+use Rattle.tough_trust.specs.delegations.Dressed.{entries_of}
+use Rattle.tough_update.proofs.delegations.firsts.Firsts.new.Given as goal
 
 -- the roles that were seen are those from this place on
 abbrev pub invariant-loop-at : goal.invariant-loop-at

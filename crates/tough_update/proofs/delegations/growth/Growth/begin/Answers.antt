@@ -1,9 +1,9 @@
 use Rattle.std.proofs.Common.{List, ap, ◌∙◌}
 use Rattle.tough_schema.specs.Tree.{Entry}
-use Rattle.tough_trust.specs.delegations.Documents.{nodes_doc}
-use Rattle.tough_trust.specs.delegations.Firsts.{Firsts, first_places}
-use Rattle.tough_trust.proofs.Turning.{listed-last}
-use Rattle.tough_trust.proofs.delegations.growth.Growth.begin.Goals as goal
+use Rattle.tough_update.specs.delegations.Documents.{nodes_doc}
+use Rattle.tough_update.specs.delegations.Firsts.{Firsts, first_places}
+use Rattle.tough_update.proofs.tree.Turning.{listed-last}
+use Rattle.tough_update.proofs.delegations.growth.Growth.begin.Goals as goal
 
 pub invariant_of-result : goal.invariant_of-result
 invariant_of-result c =

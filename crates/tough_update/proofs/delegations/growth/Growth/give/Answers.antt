@@ -1,10 +1,11 @@
 use Rattle.std.proofs.Common.{rules, ◌≡◌, ◌∷◌, map, ap, ◌∙◌}
-use Rattle.tough_trust.specs.delegations.Growing.{TaskDoc, give, settle}
-use Rattle.tough_trust.specs.delegations.Documents.{nodes_doc}
-use Rattle.tough_trust.specs.delegations.View.{metas_of, index_doc, task_doc, fetched_doc, work_doc, progress_doc}
-use Rattle.tough_trust.specs.declared.delegations.turns.Task.{Task}
-use Rattle.tough_trust.proofs.Turning.{if_ok-to}
-use Rattle.tough_trust.proofs.delegations.growth.Growth.give.Goals as goal
+use Rattle.tough_update.specs.delegations.Growing.{TaskDoc, give, settle}
+use Rattle.tough_update.specs.delegations.Documents.{nodes_doc}
+use Rattle.tough_update.specs.delegations.View.{metas_of, task_doc, fetched_doc, work_doc, progress_doc}
+use Rattle.tough_trust.specs.View.{index_doc}
+use Rattle.tough_update.specs.declared.delegations.turns.Task.{Task}
+use Rattle.tough_update.proofs.tree.Turning.{if_ok-to}
+use Rattle.tough_update.proofs.delegations.growth.Growth.give.Goals as goal
 
 pub returns : goal.returns
 returns c =

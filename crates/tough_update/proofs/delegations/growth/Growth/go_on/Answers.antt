@@ -1,11 +1,14 @@
 use Rattle.std.proofs.Common.{◌≡◌, List, drop, map, string_bytes, ap, sym, ◌∙◌}
 use Rattle.tough_roles.specs.Timestamp.{metafile_doc}
 use Rattle.tough_schema.specs.Tree.{Entry}
-use Rattle.tough_trust.specs.delegations.Growing.{names_of, through, unlisted, wanted, look, wants, by_look, give, go_on, settle}
-use Rattle.tough_trust.specs.delegations.Documents.{entries_of, nodes_doc}
-use Rattle.tough_trust.specs.delegations.View.{metas_of, waiting_in, index_doc, look_doc, task_doc, work_doc, progress_doc}
-use Rattle.tough_trust.proofs.Turning.{if_ok-to, listed-last}
-use Rattle.tough_trust.proofs.delegations.growth.Growth.go_on.Goals as goal
+use Rattle.tough_trust.specs.delegations.Indexed.{names_of}
+use Rattle.tough_update.specs.delegations.Growing.{through, unlisted, wanted, look, wants, by_look, give, go_on, settle}
+use Rattle.tough_trust.specs.delegations.Dressed.{entries_of}
+use Rattle.tough_update.specs.delegations.Documents.{nodes_doc}
+use Rattle.tough_update.specs.delegations.View.{metas_of, waiting_in, look_doc, task_doc, work_doc, progress_doc}
+use Rattle.tough_trust.specs.View.{index_doc}
+use Rattle.tough_update.proofs.tree.Turning.{if_ok-to, listed-last}
+use Rattle.tough_update.proofs.delegations.growth.Growth.go_on.Goals as goal
 
 pub returns-in-Through : goal.returns-in-Through
 returns-in-Through c =

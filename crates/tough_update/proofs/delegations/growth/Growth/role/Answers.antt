@@ -1,10 +1,10 @@
 use Rattle.std.proofs.Common.{List, drop, ap, ◌∙◌}
 use Rattle.tough_schema.specs.Tree.{Entry}
-use Rattle.tough_trust.specs.delegations.Growing.{first_of}
-use Rattle.tough_trust.specs.delegations.Documents.{nodes_doc}
-use Rattle.tough_trust.proofs.Listing.{first-at}
-use Rattle.tough_trust.proofs.Turning.{listed-last}
-use Rattle.tough_trust.proofs.delegations.growth.Growth.role.Goals as goal
+use Rattle.tough_update.specs.delegations.Growing.{first_of}
+use Rattle.tough_update.specs.delegations.Documents.{nodes_doc}
+use Rattle.tough_update.proofs.tree.Listing.{first-at}
+use Rattle.tough_update.proofs.tree.Turning.{listed-last}
+use Rattle.tough_update.proofs.delegations.growth.Growth.role.Goals as goal
 
 pub returns : goal.returns
 returns c =

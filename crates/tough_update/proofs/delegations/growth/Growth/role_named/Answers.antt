@@ -9,13 +9,14 @@ use Rattle.tough_schema.specs.Verify.{role_named}
 use Rattle.tough_schema.specs.Whole.{HeldDoc, held_doc, top_doc}
 use Rattle.tough_schema.specs.declared.delegations.DelegatedRole.{DelegatedRole}
 use Rattle.tough_schema.specs.declared.targets.DelegatedTargets.{DelegatedTargets}
-use Rattle.tough_trust.specs.declared.delegations.growth.Growth.{Growth}
-use Rattle.tough_trust.specs.delegations.Documents.{entries_of, firsts_doc, listed_in, nodes_doc}
-use Rattle.tough_trust.specs.delegations.Firsts.{first_places}
-use Rattle.tough_trust.specs.delegations.Numbered.{last_document}
-use Rattle.tough_trust.proofs.Firsts.{none-in, some-in}
-use Rattle.tough_trust.proofs.Listing.{listed-held}
-use Rattle.tough_trust.proofs.delegations.growth.Growth.role_named.Goals as goal
+use Rattle.tough_update.specs.declared.delegations.growth.Growth.{Growth}
+use Rattle.tough_trust.specs.delegations.Dressed.{entries_of, listed_in}
+use Rattle.tough_update.specs.delegations.Documents.{firsts_doc, nodes_doc}
+use Rattle.tough_update.specs.delegations.Firsts.{first_places}
+use Rattle.tough_update.specs.delegations.Numbered.{last_document}
+use Rattle.tough_update.proofs.tree.Firsts.{none-in, some-in}
+use Rattle.tough_update.proofs.tree.Listing.{listed-held}
+use Rattle.tough_update.proofs.delegations.growth.Growth.role_named.Goals as goal
 
 -- what the map tells is so in the document whose list it is
 told : (g : Growth) (s : Signed DelegatedTargets) (name : List ℕ) (place : Option ℕ) → held_doc s ≡ last_document (nodes_doc g.nodes) → place ≡ firsts_doc g.firsts name → first_places (entries_of (listed_in s)) name ≡ place

@@ -2,11 +2,12 @@ use Rattle.std.proofs.Common.{rules, ◌≡◌, [], ◌∷◌, map, ap, sym, ◌
 use Rattle.tough_roles.specs.Signature.{SignedDoc}
 use Rattle.tough_roles.specs.Timestamp.{metafile_doc}
 use Rattle.tough_schema.specs.Whole.{TreeDoc}
-use Rattle.tough_trust.specs.delegations.Growing.{Progress, wants, grown, all_past, stopped_at, resumed, settle}
-use Rattle.tough_trust.specs.delegations.Documents.{nodes_doc}
-use Rattle.tough_trust.specs.delegations.View.{metas_of, waiting_in, index_doc, task_doc, progress_doc}
-use Rattle.tough_trust.proofs.Turning.{if_ok-to, settle-past, settle-stopped}
-use Rattle.tough_trust.proofs.delegations.growth.Growth.settle.Goals as goal
+use Rattle.tough_update.specs.delegations.Growing.{Progress, wants, grown, all_past, stopped_at, resumed, settle}
+use Rattle.tough_update.specs.delegations.Documents.{nodes_doc}
+use Rattle.tough_update.specs.delegations.View.{metas_of, waiting_in, task_doc, progress_doc}
+use Rattle.tough_trust.specs.View.{index_doc}
+use Rattle.tough_update.proofs.tree.Turning.{if_ok-to, settle-past, settle-stopped}
+use Rattle.tough_update.proofs.delegations.growth.Growth.settle.Goals as goal
 
 pub returns-in-Some-2 : goal.returns-in-Some-2
 returns-in-Some-2 c =

@@ -1,8 +1,9 @@
 use Rattle.std.proofs.Common.{◌≡◌, map, length}
-use Rattle.tough_trust.specs.delegations.Growing.{settle}
-use Rattle.tough_trust.specs.delegations.Documents.{nodes_doc}
-use Rattle.tough_trust.specs.delegations.View.{metas_of, index_doc, task_doc}
-use Rattle.tough_trust.proofs.delegations.growth.Growth.settle.Given as goal
+use Rattle.tough_update.specs.delegations.Growing.{settle}
+use Rattle.tough_update.specs.delegations.Documents.{nodes_doc}
+use Rattle.tough_update.specs.delegations.View.{metas_of, task_doc}
+use Rattle.tough_trust.specs.View.{index_doc}
+use Rattle.tough_update.proofs.delegations.growth.Growth.settle.Given as goal
 
 abbrev pub invariant-loop-task : goal.invariant-loop-task
 invariant-loop-task l =

@@ -5,13 +5,13 @@ use Rattle.tough_schema.specs.Tree.{Entry}
 use Rattle.tough_schema.specs.Update.{listed_roles}
 use Rattle.tough_schema.specs.Whole.{role_tree, held_doc}
 use Rattle.tough_schema.specs.declared.delegations.DelegatedRole.{out-DelegatedRole}
-use Rattle.tough_trust.specs.delegations.Numbered.{last_document}
-use Rattle.tough_trust.specs.delegations.Documents.{nodes_doc}
-use Rattle.tough_trust.specs.delegations.View.{fetched_doc, waiting_in, work_doc}
-use Rattle.tough_trust.proofs.Listing.{role-name}
-use Rattle.tough_trust.proofs.Sizing.{small-last}
-use Rattle.tough_trust.proofs.Turning.{some-within, first-some, drop-next, fetched-inserted, taken-some}
-use Rattle.tough_trust.proofs.delegations.growth.Growth.take.Goals as goal
+use Rattle.tough_update.specs.delegations.Numbered.{last_document}
+use Rattle.tough_update.specs.delegations.Documents.{nodes_doc}
+use Rattle.tough_update.specs.delegations.View.{fetched_doc, waiting_in, work_doc}
+use Rattle.tough_update.proofs.tree.Listing.{role-name}
+use Rattle.tough_update.proofs.tree.Sizing.{small-last}
+use Rattle.tough_update.proofs.tree.Turning.{some-within, first-some, drop-next, fetched-inserted, taken-some}
+use Rattle.tough_update.proofs.delegations.growth.Growth.take.Goals as goal
 
 pub overflow_add-self : goal.overflow_add-self
 overflow_add-self c =

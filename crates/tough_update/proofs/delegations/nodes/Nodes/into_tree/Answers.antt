@@ -1,12 +1,12 @@
 use Rattle.std.proofs.Common.{rules, ◌≡◌, suc, [], ap, sym, ◌∙◌, arith}
 use Rattle.tough_roles.specs.Signature.{SignedDoc}
 use Rattle.tough_schema.specs.Whole.{TreeDoc, HeldDoc, held_doc}
-use Rattle.tough_trust.specs.declared.delegations.nodes.Nodes.{Nodes}
-use Rattle.tough_trust.specs.delegations.Numbered.{also, last_number, tree_of}
-use Rattle.tough_trust.specs.delegations.Documents.{node_doc, nodes_doc}
-use Rattle.tough_trust.proofs.lemmas.Noding.{put-number, tree-step}
-use Rattle.tough_trust.proofs.NodeSteps.{nodes-more, tree-top}
-use Rattle.tough_trust.proofs.delegations.nodes.Nodes.into_tree.Goals as goal
+use Rattle.tough_update.specs.declared.delegations.nodes.Nodes.{Nodes}
+use Rattle.tough_update.specs.delegations.Numbered.{also, last_number, tree_of}
+use Rattle.tough_update.specs.delegations.Documents.{node_doc, nodes_doc}
+use Rattle.tough_update.proofs.tree.Noding.{put-number, tree-step}
+use Rattle.tough_update.proofs.tree.NodeSteps.{nodes-more, tree-top}
+use Rattle.tough_update.proofs.delegations.nodes.Nodes.into_tree.Goals as goal
 
 pub loop-node-smaller : goal.loop-node-smaller
 loop-node-smaller c =

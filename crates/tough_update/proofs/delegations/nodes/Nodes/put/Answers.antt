@@ -1,6 +1,6 @@
 use Rattle.tough_schema.specs.Whole.{held_doc}
-use Rattle.tough_trust.proofs.NodeSteps.{put-top, put-other, put-none}
-use Rattle.tough_trust.proofs.delegations.nodes.Nodes.put.Goals as goal
+use Rattle.tough_update.proofs.tree.NodeSteps.{put-top, put-other, put-none}
+use Rattle.tough_update.proofs.delegations.nodes.Nodes.put.Goals as goal
 
 pub returns-then-number-eq0 : goal.returns-then-number-eq0
 returns-then-number-eq0 c = put-top c.args.self.now c.args.number c.args.place (held_doc c.args.document) c.set_document.new.document c.if-number-eq0.true c.set_document.ensures

@@ -1,5 +1,5 @@
-use Rattle.tough_trust.proofs.NodeSteps.{roles-top, roles-other, roles-none}
-use Rattle.tough_trust.proofs.delegations.nodes.Nodes.roles.Goals as goal
+use Rattle.tough_update.proofs.tree.NodeSteps.{roles-top, roles-other, roles-none}
+use Rattle.tough_update.proofs.delegations.nodes.Nodes.roles.Goals as goal
 
 pub returns-then-number-eq0 : goal.returns-then-number-eq0
 returns-then-number-eq0 c = roles-top c.args.self.now c.args.number c.roles_of.result.now c.if-number-eq0.true c.roles_of.ensures

@@ -1,0 +1,7 @@
+-- The tree of documents as it grows, of the program.
+pub mod Noding
+pub mod Listing
+pub mod Firsts
+pub mod Sizing
+pub mod NodeSteps
+pub mod Turning

@@ -1,0 +1,5 @@
+pub mod Numbered
+pub mod Growing
+pub mod Firsts
+pub mod Documents
+pub mod View
