@@ -3,6 +3,7 @@
 
 mod cache;
 mod canonical;
+mod ed25519;
 mod http;
 mod load;
 mod matching;
@@ -15,7 +16,7 @@ use anyhow::Error;
 use std::env;
 
 const USAGE: &str = "\
-    usage: bench canonical [MEGABYTES] | verify [THOUSANDS] | match [CHARACTERS] | \
+    usage: bench canonical [MEGABYTES] | verify [THOUSANDS] | ed25519 [THOUSANDS] | match [CHARACTERS] | \
     search [ROLES] | load [TARGETS [FOLDER]] | chain TARGETS ROLES [FOLDER] | \
     fan TARGETS ROLES [FOLDER] | http URL | cache FOLDER";
 
@@ -49,6 +50,7 @@ fn measure(rt: &HostRuntime, words: &[String]) -> Result<(), Error> {
     match word(words, 0).unwrap_or("") {
         "canonical" => canonical::run(rt, number(words, 1)?),
         "verify" => verify::run(rt, number(words, 1)?),
+        "ed25519" => ed25519::run(rt, number(words, 1)?),
         "match" => matching::run(rt, number(words, 1)?),
         "search" => search::run(rt, number(words, 1)?),
         "load" => load::run(rt, number(words, 1)?, word(words, 2)),

@@ -9,6 +9,7 @@ use crate::opening::{Fault, Wanted, not_run, open_by, refused, vault_in, with_ca
 use crate::progress::Watched;
 use crate::report::report;
 use std::alloc::AllocGlobal;
+use std::fs::File;
 use std::io::Write;
 use std::random::RandomSource;
 use std::sync::Wait;
@@ -53,7 +54,7 @@ fn save_watched<R, T, K, C, E>(
     err: Option<E>,
 ) -> Result<(), Fault>
 where
-    R: rt::Files + Wait + rt::Clock + RandomSource + AllocGlobal + Clone + Drop,
+    R: rt::Files<File = File> + Wait + rt::Clock + RandomSource + AllocGlobal + Clone + Drop,
     T: Transport,
     K: Keeper,
     C: Clock + Drop,
@@ -80,7 +81,7 @@ fn save_and_report<R, T, K, C, E>(
     err: Option<E>,
 ) -> Result<String, Fault>
 where
-    R: rt::Files + Wait + rt::Clock + RandomSource + AllocGlobal + Clone + Drop,
+    R: rt::Files<File = File> + Wait + rt::Clock + RandomSource + AllocGlobal + Clone + Drop,
     T: Transport,
     K: Keeper,
     C: Clock + Drop,
@@ -108,7 +109,7 @@ pub(crate) fn get_by<R, T, E>(
     err: Option<E>,
 ) -> Result<String, Fault>
 where
-    R: rt::Files + Wait + rt::Clock + RandomSource + AllocGlobal + Clone + Drop,
+    R: rt::Files<File = File> + Wait + rt::Clock + RandomSource + AllocGlobal + Clone + Drop,
     T: Transport,
     E: Write + Drop,
     ensures { IfOk result (λ text. (l : LoadedDoc) × IsVouchedFor l

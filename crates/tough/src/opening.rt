@@ -6,6 +6,7 @@ ghost use Rattle.tough.specs.Program.{IsVouchedFor};
 
 use crate::{Error, open_on};
 use std::alloc::{AllocError, AllocGlobal, Global};
+use std::fs::File;
 use std::random::RandomSource;
 use std::sync::Wait;
 use std::{io, rt};
@@ -75,7 +76,7 @@ pub(crate) struct Wanted<'a> {
 /// The vault in the folder.
 pub(crate) fn vault_in<R>(rt: &R, folder: &str) -> Result<Vault<DirStore<R>>, AllocError>
 where
-    R: rt::Files + AllocGlobal + Clone + Drop,
+    R: rt::Files<File = File> + AllocGlobal + Clone + Drop,
 {
     let folder = String::from_str(rt.alloc(), folder)?;
     Ok(Vault::new(rt.alloc(), DirStore::new(rt.clone()?, folder)))
@@ -90,7 +91,7 @@ pub(crate) fn open_by<R, T, K>(
     wanted: Wanted<'_>,
 ) -> Result<Repository<T, K, SystemClock<R>>, Fault>
 where
-    R: rt::Files + Wait + rt::Clock + RandomSource + AllocGlobal + Clone + Drop,
+    R: rt::Files<File = File> + Wait + rt::Clock + RandomSource + AllocGlobal + Clone + Drop,
     T: Transport,
     K: Keeper,
     ensures { IfOk result (λ r. IsVouchedFor (documents_of r)) }
@@ -132,7 +133,7 @@ pub(crate) fn with_cause<R>(
     folder: &str,
 ) -> Fault
 where
-    R: rt::Files + AllocGlobal + Clone + Drop,
+    R: rt::Files<File = File> + AllocGlobal + Clone + Drop,
 {
     match fault {
         Fault::Refused(text) => over_store(alloc, text, vault.into_store().into_fault(), folder),

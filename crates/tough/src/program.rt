@@ -10,6 +10,7 @@ use crate::get::get_by;
 use crate::opening::{Fault, Wanted, not_run, open_by, refused, vault_in, with_cause};
 use crate::report::versions;
 use std::alloc::{AllocGlobal, Global};
+use std::fs::File;
 use std::io::{self, Write};
 use std::net::Net;
 use std::random::RandomSource;
@@ -63,7 +64,7 @@ fn read<R: rt::Files + AllocGlobal>(rt: &R, path: &str) -> Result<Vec<u8>, Fault
 // An event loop, and a transport over files and HTTP that it serves.
 fn connect<R>(rt: &R) -> Result<(LocalRuntime, DefaultTransport<R>), Fault>
 where
-    R: rt::Files + Net + Wait + rt::Clock + RandomSource + AllocGlobal + Clone + Drop,
+    R: rt::Files<File = File> + Net + Wait + rt::Clock + RandomSource + AllocGlobal + Clone + Drop,
 {
     let runtime = match LocalRuntime::new(rt) {
         Ok(runtime) => runtime,
@@ -81,7 +82,7 @@ fn load_by<R, T>(
     wanted: Wanted<'_>,
 ) -> Result<String, Fault>
 where
-    R: rt::Files + Wait + rt::Clock + RandomSource + AllocGlobal + Clone + Drop,
+    R: rt::Files<File = File> + Wait + rt::Clock + RandomSource + AllocGlobal + Clone + Drop,
     T: Transport,
     ensures { IfOk result (λ text. IsVersions (string_bytes text)) }
 {
@@ -104,7 +105,7 @@ where
 // Loads a repository over files or HTTP into a folder, and gives the text that tells the versions.
 fn load<R>(rt: &R, root: &str, metadata: &str, targets: &str, store: &str) -> Result<String, Fault>
 where
-    R: rt::Files + Net + Wait + rt::Clock + RandomSource + AllocGlobal + Clone + Drop,
+    R: rt::Files<File = File> + Net + Wait + rt::Clock + RandomSource + AllocGlobal + Clone + Drop,
     ensures { IfOk result (λ text. IsVersions (string_bytes text)) }
 {
     let metadata = url(rt.alloc(), metadata)?;
@@ -132,7 +133,7 @@ fn get<R, E>(
     err: Option<E>,
 ) -> Result<String, Fault>
 where
-    R: rt::Files + Net + Wait + rt::Clock + RandomSource + AllocGlobal + Clone + Drop,
+    R: rt::Files<File = File> + Net + Wait + rt::Clock + RandomSource + AllocGlobal + Clone + Drop,
     E: Write + Drop,
     ensures { IfOk result (λ text. IsReport name.now outdir.now (string_bytes text)) }
 {
@@ -153,7 +154,7 @@ where
 // Does what the words ask for, and gives the text to print. `None` where they are no command.
 fn command<R, E>(rt: &R, words: &[String], err: Option<E>) -> Option<Result<String, Fault>>
 where
-    R: rt::Files + Net + Wait + rt::Clock + RandomSource + AllocGlobal + Clone + Drop,
+    R: rt::Files<File = File> + Net + Wait + rt::Clock + RandomSource + AllocGlobal + Clone + Drop,
     E: Write + Drop,
     ensures { IfSome result (λ done. IfOk done (λ text. Prints words.now (string_bytes text))) }
 {
@@ -197,7 +198,7 @@ fn work<R, O, E>(
     is_watched: bool,
 ) -> io::Result<bool>
 where
-    R: rt::Files + Net + Wait + rt::Clock + RandomSource + AllocGlobal + Clone + Drop,
+    R: rt::Files<File = File> + Net + Wait + rt::Clock + RandomSource + AllocGlobal + Clone + Drop,
     O: Write,
     E: Write,
     ensures { IfOk result (λ done. done ≡ true → (text : List ℕ) × Prints words.now text
@@ -232,7 +233,7 @@ where
 /// same lines and one more, which tells what was saved where. Other words print how the program is used there. Each run first says there that its verifier proves nothing.
 pub fn run<R, O, E>(rt: &R, words: &[String], out: &mut O, err: &mut E) -> u8
 where
-    R: rt::Files + Net + Wait + rt::Clock + RandomSource + AllocGlobal + Clone + Drop,
+    R: rt::Files<File = File> + Net + Wait + rt::Clock + RandomSource + AllocGlobal + Clone + Drop,
     O: Write,
     E: Write,
     ensures status { result ≤ 1 }
@@ -252,7 +253,7 @@ pub fn run_watched<R, O, E>(
     is_watched: bool,
 ) -> u8
 where
-    R: rt::Files + Net + Wait + rt::Clock + RandomSource + AllocGlobal + Clone + Drop,
+    R: rt::Files<File = File> + Net + Wait + rt::Clock + RandomSource + AllocGlobal + Clone + Drop,
     O: Write,
     E: Write,
     ensures status { result ≤ 1 }

@@ -1,14 +1,11 @@
-//! Decoded values, names and files: what the rest of `tough` stands on.
+//! Names, patterns, decoded values, canonical JSON and files under one name, for callers without documents.
 #![tactic(auto)]
 
-mod compat;
-mod decoded;
-mod url_path;
-
-pub use compat::Compat;
-pub use decoded::{Decode, DecodeError, Decoded, EcdsaFlex, EcdsaPem, Encode, Hex, RsaPem};
+pub use tough_cjson::{CjsonError, canonical};
+pub use tough_decoded::{
+    Compat, Decode, DecodeError, Decoded, EcdsaFlex, EcdsaPem, Encode, Hex, RsaPem, SafeUrlPath,
+};
 pub use tough_files::{FileKind, Files, FilesError, MemoryFiles, OsFiles};
 pub use tough_names::{
     FILE_NAME, NameError, PathHashPrefix, PathPattern, PatternError, TargetName, encode_filename,
 };
-pub use url_path::SafeUrlPath;

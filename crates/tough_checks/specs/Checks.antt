@@ -8,15 +8,13 @@ use Rattle.tough_roles.specs.declared.snapshot.Snapshot.{Snapshot as SnapshotFil
 use Rattle.tough_roles.specs.Snapshot.{SnapshotDoc, snapshot_doc}
 use Rattle.tough_checks.specs.declared.checks.ExpirationEnforcement.{ExpirationEnforcement}
 use Rattle.tough_checks.specs.declared.checks.ExpirationEnforcement.TheVariants.{Safe, Unsafe}
-use Rattle.tough_roles.specs.declared.error.Error.{Error}
-use Rattle.tough_roles.specs.declared.error.Error.TheVariants as error
-use Rattle.tough_roles.specs.Verdict.{Refused, MissingRole, JsonSerialization, DuplicateKeyId, SignatureThreshold}
+use Rattle.tough_roles.specs.Verdict.{Refused, refused}
 use Rattle.tough_checks.specs.declared.checks.Refusal.{Refusal}
 use Rattle.tough_checks.specs.declared.checks.Refusal.TheVariants as refusal
 use Rattle.tough_checks.specs.declared.checks.StepError.{StepError}
 use Rattle.tough_checks.specs.declared.checks.StepError.TheVariants as step
 use Rattle.tough_checks.specs.Files.{snapshot_file, targets_file}
-use Rattle.tough_checks.specs.Documents.{metafile_in}
+use Rattle.tough_roles.specs.Timestamp.{metafile_in}
 use Rattle.tough_checks.specs.Versions.{Pair, Roles, Item, version_in}
 
 -- why a step was refused by a check
@@ -175,15 +173,6 @@ snapshot_after old tip s start enforced = first_of
 -- after the stored time was read
 abbrev pub time_after : Option ℤ → Option ℤ → ℤ → Option Reason
 time_after stored tip now = first_of (later stored now ∷ later tip now ∷ [])
-
--- what verification refused, in an error
-abbrev pub refused : Error → Option Refused
-refused (error.RoleNotFound name) = Some MissingRole
-refused (error.MissingRole role) = Some MissingRole
-refused (error.JsonSerialization role) = Some JsonSerialization
-refused (error.DuplicateKeyId keyid) = Some DuplicateKeyId
-refused (error.SignatureThreshold role threshold valid) = Some (SignatureThreshold threshold valid)
-refused _ = None
 
 -- a refusal, with the names in it as bytes and the instants in nanoseconds
 abbrev pub reason_of : Refusal → Reason

@@ -1,7 +1,5 @@
 -- Signed documents as the steps see them.
 use Rattle.std.specs.Prelude.{◌≡◌, ℕ, List, Option, None, Some, option_and_then, Result, if◌then◌else◌}
-use Rattle.std.specs.Str.{bytes_eq}
-use Rattle.std.specs.Map.{lookup}
 use Rattle.serde_json.specs.Data.{Data}
 use Rattle.serde_json.specs.Read.{max_depth}
 use Rattle.serde_json.specs.Written.{has_float, compact_text}
@@ -12,11 +10,11 @@ use Rattle.tough_roles.specs.declared.signed.Signed.{Signed}
 use Rattle.tough_roles.specs.Document.{document_json}
 use Rattle.tough_roles.specs.Readable.{NestsWithin}
 use Rattle.tough_roles.specs.Root.{RootDoc, root_at, root_json}
-use Rattle.tough_roles.specs.Timestamp.{TimestampDoc, MetafileDoc, timestamp_at, timestamp_json}
+use Rattle.tough_roles.specs.Timestamp.{TimestampDoc, timestamp_at, timestamp_json}
 use Rattle.tough_roles.specs.Snapshot.{SnapshotDoc, snapshot_at, snapshot_json}
 use Rattle.tough_keys.specs.Same.{Verifies}
 use Rattle.tough_roles.specs.Policy.{policy}
-use Rattle.tough_roles.specs.Verdict.{Refused, verdict}
+use Rattle.tough_roles.specs.Verdict.{Refused, MissingRole, verdict}
 use Rattle.tough_roles.specs.declared.role_type.RoleType.TheVariants as role
 
 -- The text of a JSON value in a store: compact JSON (RFC 8259). A value that holds a float has none.
@@ -47,18 +45,14 @@ timestamp_in bytes = option_and_then (signed_at timestamp_at) (json_of bytes)
 
 -- what a root's verification of a signed timestamp answers
 abbrev pub timestamp_verdict : Verifies → RootDoc → SignedDoc TimestampDoc → Result Unit Refused
-timestamp_verdict verifies root d = verdict verifies (policy root role.Timestamp) (option_and_then canonical_of (timestamp_json d.role)) d.signatures
+timestamp_verdict verifies root d = verdict verifies (MissingRole role.Timestamp) role.Timestamp (policy root role.Timestamp) (option_and_then canonical_of (timestamp_json d.role)) d.signatures
 
 -- the same of a snapshot
 abbrev pub snapshot_in : List ℕ → Option (SignedDoc SnapshotDoc)
 snapshot_in bytes = option_and_then (signed_at snapshot_at) (json_of bytes)
 
 abbrev pub snapshot_verdict : Verifies → RootDoc → SignedDoc SnapshotDoc → Result Unit Refused
-snapshot_verdict verifies root d = verdict verifies (policy root role.Snapshot) (option_and_then canonical_of (snapshot_json d.role)) d.signatures
-
--- what a document lists for a name
-abbrev pub metafile_in : List (List ℕ × MetafileDoc) → List ℕ → Option MetafileDoc
-metafile_in es name = lookup (bytes_eq name) es
+snapshot_verdict verifies root d = verdict verifies (MissingRole role.Snapshot) role.Snapshot (policy root role.Snapshot) (option_and_then canonical_of (snapshot_json d.role)) d.signatures
 
 -- what the file holds is read as the document, where its JSON nests no deeper than is read
 abbrev pub ReadsBack : {A : Type 0} → (List ℕ → Option (SignedDoc A)) → Option Data → SignedDoc A → Option (List ℕ) → Type 0

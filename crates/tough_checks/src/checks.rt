@@ -1,23 +1,21 @@
 //! The checks of the steps, in their order.
 
-ghost use Rattle.std.specs.Prelude.{◌≡◌, ◌==◌, true, not, Err, option_map, option_copied};
+ghost use Rattle.std.specs.Prelude.{◌≡◌, ◌==◌, true, not, Err};
 ghost use Rattle.tough_roles.specs.Signature.{signed_doc};
 ghost use Rattle.tough_roles.specs.Root.{root_doc};
-ghost use Rattle.tough_roles.specs.Timestamp.{timestamp_doc, metafile_doc};
+ghost use Rattle.tough_roles.specs.Timestamp.{timestamp_doc};
 ghost use Rattle.tough_roles.specs.Verdict.{Answers};
-ghost use Rattle.tough_checks.specs.Documents.{timestamp_verdict, metafile_in};
-ghost use Rattle.tough_checks.specs.Files.{snapshot_file};
+ghost use Rattle.tough_checks.specs.Documents.{timestamp_verdict};
 ghost use Rattle.tough_checks.specs.Versions.{pair_of, pair_where, time_where};
 ghost use Rattle.tough_checks.specs.Checks.{Checked, RefusedBy, VersionMismatch, refuse, verified, expiry, later, time_after, snapshot_version, timestamp_form, timestamp_first, timestamp_older, timestamp_below, timestamp_against, timestamp_tip, timestamp_after, timestamp_where, enforces};
 ghost use Rattle.tough_roles.specs.declared.error.Error.TheVariants as error;
-ghost use Rattle.tough_checks.specs.declared.checks.Refusal.TheVariants as refusal;
 ghost use Rattle.tough_checks.specs.declared.checks.StepError.TheVariants as step;
 ghost use Rattle.tough_checks.specs.declared.checks.StepError.TheVariants.{Refused};
 
 use crate::versions::TimestampVersions;
 use jiff::Timestamp as Instant;
 use std::alloc::Global;
-use tough_roles::{Error, Metafile, RoleType, Root, Signed, Timestamp, Verify};
+use tough_roles::{Error, RoleType, Root, Signed, Timestamp, Verify};
 
 /// Whether a document that has expired is refused.
 #[derive(Clone, Copy, Debug, PartialEq, Eq, Drop)]
@@ -203,19 +201,11 @@ impl From<Refusal> for StepError {
     }
 }
 
-// What a timestamp says of the snapshot.
-fn snapshot_meta(timestamp: &Timestamp) -> Option<&Metafile>
-    ensures { option_map metafile_doc (option_copied result)
-        ≡ metafile_in (timestamp_doc timestamp.now).meta snapshot_file }
-{
-    timestamp.meta.get("snapshot.json")
-}
-
 /// The version of the snapshot that a timestamp names; 0 where it names none.
 pub fn snapshot_version(timestamp: &Timestamp) -> u64
     ensures { result ≡ snapshot_version (timestamp_doc timestamp.now) }
 {
-    match snapshot_meta(timestamp) {
+    match timestamp.metafile("snapshot.json") {
         Some(snapshot) => snapshot.version.get(),
         None => 0,
     }
@@ -233,7 +223,7 @@ fn check_form(timestamp: &Timestamp) -> Result<(), Refusal>
             meta_length,
         });
     }
-    if snapshot_meta(timestamp).is_none() {
+    if timestamp.metafile("snapshot.json").is_none() {
         return Err(Refusal::MissingSnapshotMeta { version });
     }
     Ok(())
@@ -245,8 +235,6 @@ pub fn check_signed(role: RoleType, answer: Result<(), Error>) -> Result<(), Ste
     ensures signed { (verdict : _) → Answers answer verdict
         → Checked (verified role verdict) result }
     ensures memory { result ≡ Err step.Memory → answer ≡ Err error.Memory }
-    ensures source { (told : _) (source : _)
-        → result ≡ Err (Refused (refusal.VerifyMetadata told source)) → answer ≡ Err source }
 {
     match answer {
         Ok(()) => Ok(()),

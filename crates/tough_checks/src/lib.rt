@@ -2,12 +2,14 @@
 //! last (TUF specification 5.3 to 5.6).
 #![tactic(auto)]
 
+mod checker;
 mod checks;
 mod document_name;
 mod snapshot_checks;
 mod stored;
 mod versions;
 
+pub use checker::Checker;
 pub use checks::{
     ExpirationEnforcement, Refusal, StepError, check_expiry, check_signed, check_time,
     check_timestamp, check_timestamp_late, check_version, snapshot_version,

@@ -1,12 +1,11 @@
 //! The checks of a snapshot's step, in their order.
 
-ghost use Rattle.std.specs.Prelude.{◌≡◌, option_map, option_copied, IfOk, map};
+ghost use Rattle.std.specs.Prelude.{◌≡◌, IfOk, map};
 ghost use Rattle.tough_roles.specs.Signature.{signed_doc};
 ghost use Rattle.tough_roles.specs.Root.{root_doc};
 ghost use Rattle.tough_roles.specs.Timestamp.{metafile_doc, metafiles_doc};
 ghost use Rattle.tough_roles.specs.Snapshot.{snapshot_doc};
-ghost use Rattle.tough_checks.specs.Documents.{snapshot_verdict, metafile_in};
-ghost use Rattle.tough_checks.specs.Files.{targets_file};
+ghost use Rattle.tough_checks.specs.Documents.{snapshot_verdict};
 ghost use Rattle.tough_checks.specs.StoredDocuments.{content, stored_snapshot};
 ghost use Rattle.tough_checks.specs.Versions.{roles_where, items_of, roles_of, version_in};
 ghost use Rattle.tough_checks.specs.Checks.{Checked, RefusedBy, items_in, snapshot_form, snapshot_first, fallen_at, fallen, snapshot_older, snapshot_against, snapshot_tip, snapshot_after, snapshot_where, enforces, roles_in};
@@ -49,20 +48,12 @@ pub fn read_snapshot<V: Verify>(
 fn check_form(snapshot: &Snapshot) -> Result<(), Refusal>
     ensures { RefusedBy (snapshot_form (snapshot_doc snapshot.now)) result }
 {
-    if targets_meta(snapshot).is_none() {
+    if snapshot.metafile("targets.json").is_none() {
         return Err(Refusal::SnapshotTargetsMetaMissing {
             version: snapshot.version.get(),
         });
     }
     Ok(())
-}
-
-// What a snapshot says of the targets.
-fn targets_meta(snapshot: &Snapshot) -> Option<&Metafile>
-    ensures { option_map metafile_doc (option_copied result)
-        ≡ metafile_in (snapshot_doc snapshot.now).meta targets_file }
-{
-    snapshot.meta.get("targets.json")
 }
 
 /// Before the stored snapshot is read.
@@ -83,10 +74,10 @@ pub fn check_snapshot<V: Verify>(
 }
 
 // The version that is listed for a name.
-fn listed_version(meta: &BTreeMap<String, Metafile>, name: &str) -> Option<u64>
-    ensures { result ≡ version_in (items_in (metafiles_doc meta.now.entries)) name.now }
+fn listed_version(snapshot: &Snapshot, name: &str) -> Option<u64>
+    ensures { result ≡ version_in (items_in (snapshot_doc snapshot.now).meta) name.now }
 {
-    match meta.get(name) {
+    match snapshot.metafile(name) {
         Some(metafile) => Some(metafile.version.get()),
         None => None,
     }
@@ -105,7 +96,7 @@ fn check_role(
         (snapshot_doc new.now).head.version) result }
 {
     let new_version = new.version.get();
-    let now = listed_version(&new.meta, name);
+    let now = listed_version(new, name);
     if let Some(now) = now
         && was <= now
     {

@@ -7,7 +7,7 @@ use Rattle.std.specs.Option.{option_copied}
 use Rattle.std.specs.Ordering.{is_eq}
 use Rattle.tough_roles.specs.declared.timestamp.Metafile.{Metafile}
 use Rattle.tough_roles.specs.Timestamp.{metafile_doc, metafiles_doc}
-use Rattle.tough_checks.specs.Documents.{metafile_in}
+use Rattle.tough_roles.specs.Timestamp.{metafile_in}
 use Rattle.tough_checks.proofs.lemmas.Looking.{looked}
 
 module _ (es : List (String Global × Metafile)) (name : List ℕ) where

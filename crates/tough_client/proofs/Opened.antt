@@ -15,9 +15,9 @@ use Rattle.tough_update.specs.declared.stage.Loaded.{Loaded}
 use Rattle.tough_update.specs.View.{loaded_doc, outcome_doc}
 use Rattle.tough_load.specs.declared.load.Load.{Load}
 use Rattle.tough_load.specs.Advancing.{Finishes}
-use Rattle.tough_client.specs.declared.error.Error.{Error}
+use Rattle.tough_error.specs.declared.error.Error.{Error}
 use Rattle.tough_client.specs.declared.repository.Repository.{Repository}
-use Rattle.tough_client.specs.Failures.{failure_in}
+use Rattle.tough_trust.specs.Wide.{failure_in}
 use Rattle.tough_client.specs.Opening.{Opens}
 use Rattle.tough_client.specs.Repositories.{IsMadeOf, documents_of}
 

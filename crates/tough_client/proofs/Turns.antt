@@ -17,7 +17,7 @@ use Rattle.tough_vault.specs.Act.{Act}
 use Rattle.tough_checks.specs.declared.checks.StepError.{StepError}
 use Rattle.tough_vault.specs.declared.entry.Receipt.{Receipt}
 use Rattle.tough_trust.specs.Timely.{Keeping}
-use Rattle.tough_client.specs.declared.error.Error.{Error}
+use Rattle.tough_error.specs.declared.error.Error.{Error}
 use Rattle.tough_client.specs.declared.cache.Caching.{Caching}
 use Rattle.tough_client.specs.declared.cache.Folders.{Folders}
 use Rattle.tough_client.specs.declared.cache.Work.{Work}

@@ -23,9 +23,9 @@ use Rattle.tough_vault.specs.declared.entry.Receipt.{Receipt}
 use Rattle.tough_trust.specs.Requests.{RequestDoc}
 use Rattle.tough_trust.specs.Timely.{Keeping}
 use Rattle.tough_update.specs.Stages.{LoadedDoc}
-use Rattle.tough_client.specs.declared.error.Error.{Error}
-use Rattle.tough_client.specs.declared.error.Error.TheVariants as error
-use Rattle.tough_client.specs.Failures.{name_error}
+use Rattle.tough_error.specs.declared.error.Error.{Error}
+use Rattle.tough_error.specs.declared.error.Error.TheVariants as error
+use Rattle.tough_error.specs.Names.{name_error}
 use Rattle.tough_load.specs.Fetching.{IsStarted}
 use Rattle.tough_save.specs.Savings.{stream_of}
 use Rattle.tough_client.specs.declared.cache.Caching.{Caching}

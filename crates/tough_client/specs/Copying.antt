@@ -11,13 +11,13 @@ use Rattle.tough_roles.specs.Names.{versioned, file_name}
 use Rattle.tough_roles.specs.Timestamp.{MetafileDoc}
 use Rattle.tough_schema.specs.Targets.{delegated_file}
 use Rattle.tough_schema.specs.Whole.{top_doc}
-use Rattle.tough_checks.specs.Documents.{metafile_in}
+use Rattle.tough_roles.specs.Timestamp.{metafile_in}
 use Rattle.tough_checks.specs.Files.{snapshot_file, targets_file}
-use Rattle.tough_trust.specs.declared.limits.Limits.{Limits}
+use Rattle.tough_net.specs.declared.limits.Limits.{Limits}
 use Rattle.tough_trust.specs.Requests.{RequestDoc, bound, root_request, timestamp_request}
 use Rattle.tough_update.specs.Stages.{LoadedDoc, ReceivedDoc}
-use Rattle.tough_client.specs.declared.error.Error.{Error}
-use Rattle.tough_client.specs.declared.error.Error.TheVariants as error
+use Rattle.tough_error.specs.declared.error.Error.{Error}
+use Rattle.tough_error.specs.declared.error.Error.TheVariants as error
 use Rattle.tough_save.specs.Wholes.{Writes}
 use Rattle.tough_client.specs.declared.plan.Served.{Served}
 use Rattle.tough_client.specs.declared.plan.Served.TheVariants as served

@@ -5,5 +5,4 @@ pub mod Plans
 pub mod Reading
 pub mod Repositories
 pub mod Saving
-pub mod Failures
 pub mod Opening

@@ -16,9 +16,9 @@ use Rattle.tough_load.specs.Advancing.{Finishes}
 use Rattle.tough_load.specs.Loader.{first_core, settings_of, transport_of, verifier_of}
 use Rattle.tough_load.specs.Loader as loader
 use Rattle.tough_load.specs.Vouching.{Vouches}
-use Rattle.tough_client.specs.declared.error.Error.{Error}
+use Rattle.tough_error.specs.declared.error.Error.{Error}
 use Rattle.tough_client.specs.declared.repository.Repository.{Repository}
-use Rattle.tough_client.specs.Failures.{failure_in}
+use Rattle.tough_trust.specs.Wide.{failure_in}
 use Rattle.tough_client.specs.Repositories.{IsMadeOf, loaded_of, documents_of, keeper_of}
 
 module _ {T K C V S : Type 0} where

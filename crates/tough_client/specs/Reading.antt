@@ -23,9 +23,9 @@ use Rattle.tough_trust.specs.Failure.{Failure}
 use Rattle.tough_trust.specs.Timely.{ExpiryDoc, Keeping, NotesTimely}
 use Rattle.tough_trust.specs.Timely.{earliest as first_expiry}
 use Rattle.tough_update.specs.Stages.{LoadedDoc}
-use Rattle.tough_client.specs.declared.error.Error.{Error}
-use Rattle.tough_client.specs.declared.error.Error.TheVariants as error
-use Rattle.tough_client.specs.Failures.{failure_in}
+use Rattle.tough_error.specs.declared.error.Error.{Error}
+use Rattle.tough_error.specs.declared.error.Error.TheVariants as error
+use Rattle.tough_trust.specs.Wide.{failure_in}
 use Rattle.tough_save.specs.declared.target.FetchError.{FetchError}
 use Rattle.tough_save.specs.declared.target.FetchError.TheVariants as fetching
 use Rattle.tough_save.specs.Targets.{HasBegun, IsUnbegun, file_name}

@@ -4,14 +4,14 @@ use Rattle.url.specs.Parts.{Parts}
 use Rattle.tough_checks.specs.Checks.{enforces}
 use Rattle.tough_vault.specs.declared.entry.Receipt.{Receipt}
 use Rattle.tough_trust.specs.Timely.{Keeping}
-use Rattle.tough_trust.specs.declared.limits.Limits.{Limits}
+use Rattle.tough_net.specs.declared.limits.Limits.{Limits}
 use Rattle.tough_update.specs.declared.stage.Loaded.{Loaded}
 use Rattle.tough_update.specs.Stages.{LoadedDoc}
-use Rattle.tough_update.specs.View.{loaded_doc}
+use Rattle.tough_update.specs.View.{loaded_doc, root_of, timestamp_of, snapshot_of, targets_of}
 use Rattle.tough_load.specs.declared.load.Load.{Load}
 use Rattle.tough_load.specs.Words as load
 use Rattle.tough_client.specs.declared.repository.Repository.{Repository}
-use Rattle.tough_client.specs.declared.repository.RepositoryParts.{RepositoryParts}
+use Rattle.tough_parts.specs.declared.RepositoryParts.{RepositoryParts}
 
 module _ {T K C : Type 0} where
   abbrev pub loaded_of : Repository T K C → Loaded
@@ -67,7 +67,10 @@ module _ {T K C : Type 0} where
   pub record IsLeftOf (r : Repository T K C) (p : RepositoryParts T) : Type 0 where
     pub transport : p.transport ≡ transport_of r
     pub limits : p.limits ≡ limits_of r
-    pub documents : p.documents ≡ loaded_of r
+    pub root : p.root ≡ root_of (loaded_of r)
+    pub timestamp : p.timestamp ≡ timestamp_of (loaded_of r)
+    pub snapshot : p.snapshot ≡ snapshot_of (loaded_of r)
+    pub targets : p.targets ≡ targets_of (loaded_of r)
 
   -- all is as it was, but for the keeper, the clock and the receipts
   pub record IsKept (old new : Repository T K C) : Type 0 where

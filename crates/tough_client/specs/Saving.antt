@@ -19,8 +19,8 @@ use Rattle.tough_checks.specs.declared.checks.StepError.{StepError}
 use Rattle.tough_vault.specs.declared.entry.Receipt.{Receipt}
 use Rattle.tough_trust.specs.Timely.{Keeping}
 use Rattle.tough_update.specs.Stages.{LoadedDoc}
-use Rattle.tough_client.specs.declared.error.Error.{Error}
-use Rattle.tough_client.specs.declared.error.Error.TheVariants as error
+use Rattle.tough_error.specs.declared.error.Error.{Error}
+use Rattle.tough_error.specs.declared.error.Error.TheVariants as error
 use Rattle.tough_save.specs.declared.error.Step.{Step}
 use Rattle.tough_save.specs.declared.error.Step.TheVariants as step
 use Rattle.tough_save.specs.declared.error.SaveError.{SaveError}

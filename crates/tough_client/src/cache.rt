@@ -11,7 +11,6 @@ ghost use Rattle.tough_client.specs.Futures.{cached_from, cached_in, folders_in,
 ghost use Rattle.tough_client.specs.Plans.{left_in};
 ghost use Rattle.tough_client.specs.Repositories.{IsKept, documents_of, keeping_of};
 
-use crate::error::Error;
 use crate::failure::fault;
 use crate::metadata::{file_again, make_folder, path_in, write_fetched, write_role};
 use crate::plan::{Plan, Served, Turn};
@@ -22,6 +21,7 @@ use futures::task::{Context, Poll};
 use futures::{Future, Stream};
 use std::alloc::AllocError;
 use std::convert::AsStr;
+use tough_error::Error;
 use tough_files::Files;
 use tough_load::{Clock, Keeper, Request};
 use tough_names::TargetName;

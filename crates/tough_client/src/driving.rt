@@ -6,13 +6,13 @@ ghost use Rattle.tough_load.specs.Running.{CanPoll};
 ghost use Rattle.tough_load.specs.Words.{fetch_of, base_of};
 ghost use Rattle.tough_client.specs.Opening.{Opens, VouchesFor};
 
-use crate::error::Error;
 use crate::repository::Repository;
 use futures::Future;
 use futures::task::{Doorbell, Poll, Solo};
 use std::alloc::AllocGlobal;
 use std::io;
 use std::random::RandomSource;
+use tough_error::Error;
 use tough_load::{Clock, Keeper, Load};
 use tough_net::Transport;
 use tough_roles::Verify;

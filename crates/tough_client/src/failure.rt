@@ -4,8 +4,8 @@ ghost use Rattle.std.specs.Prelude.{◌≡◌, string_bytes};
 ghost use Rattle.tough_client.specs.Reading.{TellsFault, TellsFetch};
 ghost use Rattle.tough_client.specs.Saving.{refusal, TellsSave};
 
-use crate::error::Error;
 use std::alloc::Global;
+use tough_error::Error;
 use tough_files::FilesError;
 use tough_names::TargetName;
 use tough_net::{TransportError, TransportErrorKind};

@@ -10,18 +10,19 @@ ghost use Rattle.tough_client.specs.Reading.{InTime, NotInTime, IsStreamOf, IsUn
 ghost use Rattle.tough_client.specs.Reading as spec;
 ghost use Rattle.tough_client.specs.Repositories.{IsKept, documents_of, transport_of, keeping_of, targets_base_of, enforced_of};
 
-use crate::error::Error;
 use crate::failure::unfetched;
 use crate::repository::Repository;
 use futures::Future;
 use futures::task::{Context, Poll};
 use std::alloc::AllocError;
+use tough_error::Error;
 use tough_load::{Clock, ExpirationEnforcement, Keeper};
 use tough_names::TargetName;
 use tough_net::Transport;
 use tough_save::{TargetStream, fetch_target, file_name};
 use tough_schema::Target;
 use tough_trust::{Expiry, earliest, listed_target, note_timely};
+use tough_update::UpdateError;
 
 impl<T: Transport, K: Keeper, C: Clock + Drop> Repository<T, K, C> {
     // The role whose document expires first, and when.
@@ -53,7 +54,7 @@ impl<T: Transport, K: Keeper, C: Clock + Drop> Repository<T, K, C> {
                 let first = self.earliest();
                 match note_timely(self.alloc, &mut self.keeper, &mut self.receipts, now, first) {
                     Ok(()) => Ok(()),
-                    Err(error) => Err(Error::from(error)),
+                    Err(error) => Err(Error::from(UpdateError::from(error))),
                 }
             }
         }

@@ -12,6 +12,7 @@ use std::alloc::{AllocError, Global};
 use tough_load::{Clock, ExpirationEnforcement, Keeper, Limits, Load, LoadParts, Loaded, Receipt};
 use tough_names::TargetName;
 use tough_net::Transport;
+use tough_parts::RepositoryParts;
 use tough_roles::{Root, Signed, Snapshot, Timestamp, Verify};
 use tough_schema::{DelegatedRole, Target, Targets};
 use url::Url;
@@ -29,17 +30,6 @@ pub struct Repository<T, K, C> {
     pub(crate) limits: Limits,
     pub(crate) enforcement: ExpirationEnforcement,
     pub(crate) receipts: Vec<Receipt>,
-}
-
-/// What an editor of a loaded repository begins with.
-#[derive(Drop)]
-pub struct RepositoryParts<T> {
-    /// What fetched the files.
-    pub transport: T,
-    /// What the load took at most.
-    pub limits: Limits,
-    /// The documents that were loaded.
-    pub documents: Loaded,
 }
 
 impl<T, K, C> Repository<T, K, C> {
@@ -153,10 +143,14 @@ impl<T: Drop, K: Drop, C: Drop> Repository<T, K, C> {
     pub fn into_parts(self) -> RepositoryParts<T>
         ensures { IsLeftOf self result }
     {
+        let (root, timestamp, snapshot, targets) = self.loaded.into_parts();
         RepositoryParts {
             transport: self.transport,
             limits: self.limits,
-            documents: self.loaded,
+            root,
+            timestamp,
+            snapshot,
+            targets,
         }
     }
 }

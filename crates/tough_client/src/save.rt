@@ -12,12 +12,12 @@ ghost use Rattle.tough_files.specs.Calls.{Told};
 ghost use Rattle.tough_client.specs.Futures.{saved_from, files_in, saved_name_in, outdir_in, prefix_in, saving_in};
 ghost use Rattle.tough_client.specs.Saving.{TellsUnlisted, TellsMissing, IsUnlisted, IsSavedAs, Places, Opened, Readies, Starts, CanGoOn, ComesOut, Continues, Finishes, GoesOnSaving};
 
-use crate::error::Error;
 use crate::failure::unsaved;
 use crate::repository::Repository;
 use bytes::Bytes;
 use futures::task::{Context, Poll};
 use futures::{Future, Stream};
+use tough_error::Error;
 use tough_files::Files;
 use tough_load::{Clock, Keeper};
 use tough_names::TargetName;

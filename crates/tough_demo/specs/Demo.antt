@@ -6,7 +6,7 @@ use Rattle.json.specs.Lex.{tokens}
 use Rattle.serde_json.specs.Data.{Data}
 use Rattle.serde_json.specs.Written.{IsInOrder}
 use Rattle.jiff.specs.Words.{parse_timestamp}
-use Rattle.tough_base.specs.Spelled.{Spelled}
+use Rattle.tough_decoded.specs.Spelled.{Spelled}
 use Rattle.sha2.specs.Sha256.{sha256}
 use Rattle.tough_keys.specs.declared.key.Key.{Key}
 use Rattle.tough_keys.specs.Key.{KeyDoc, key_doc, key_id_of}

@@ -9,7 +9,7 @@ use crate::files::RepositoryFiles;
 use crate::roles::{by_pattern, by_prefix, delegate, delegation};
 use std::alloc::{AllocError, Global};
 use std::collections::BTreeMap;
-use tough_base::TargetName;
+use tough_names::TargetName;
 use tough_schema::{Delegations, Target, Targets};
 
 // Makes so many target files, and lists them in targets of version 2 that delegate to these roles.

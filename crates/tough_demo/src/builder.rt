@@ -13,7 +13,7 @@ use std::alloc::{AllocError, Global};
 use std::collections::BTreeMap;
 use std::mem;
 use std::num::NonZeroU64;
-use tough_base::TargetName;
+use tough_names::TargetName;
 use tough_schema::{DelegatedTargets, DemoSign, Metafile, Role, Target, Targets};
 
 /// A repository in the making.

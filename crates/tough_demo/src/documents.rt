@@ -18,7 +18,7 @@ use serde_json::Map;
 use std::alloc::Global;
 use std::collections::BTreeMap;
 use std::num::NonZeroU64;
-use tough_base::TargetName;
+use tough_names::TargetName;
 use tough_schema::{Key, Metafile, RoleKeys, RoleType, Root, Snapshot, Target, Targets, Timestamp};
 
 /// When all documents of demonstrations expire.

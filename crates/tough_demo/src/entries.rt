@@ -8,7 +8,7 @@ use serde_json::Map;
 use sha2::{Digest, Sha256};
 use std::alloc::Global;
 use std::num::NonZeroU64;
-use tough_base::Decoded;
+use tough_decoded::Decoded;
 use tough_schema::{Hashes, Metafile, Target};
 
 /// The digest of these bytes.

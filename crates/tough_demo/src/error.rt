@@ -1,6 +1,7 @@
 use std::alloc::{AllocError, AllocFailed};
 use thiserror::Error;
-use tough_base::{DecodeError, NameError, PatternError};
+use tough_decoded::DecodeError;
+use tough_names::{NameError, PatternError};
 use tough_schema::{SignError, WriteError};
 
 /// Why a document of a demonstration wasn't made.

@@ -1,7 +1,7 @@
 //! Keys, and who signs.
 ghost use Rattle.std.specs.Prelude.{◌≡◌, ◌≢◌, [], ◌∷◌, Some, None, IfOk, IfErr, map, option_map};
 ghost use Rattle.std.specs.Int.NonZero.{non_zero_u64_get};
-ghost use Rattle.tough_base.specs.Spelled.{hex_bytes};
+ghost use Rattle.tough_decoded.specs.Spelled.{hex_bytes};
 ghost use Rattle.tough_json.specs.Reading.{spelled};
 ghost use Rattle.tough_keys.specs.Key.{key_doc, key_id_of};
 ghost use Rattle.tough_keys.specs.Parsed.{ed25519_key};
@@ -10,7 +10,7 @@ use crate::error::DemoError;
 use serde_json::Map;
 use std::alloc::Global;
 use std::num::NonZeroU64;
-use tough_base::{Decoded, Hex};
+use tough_decoded::{Decoded, Hex};
 use tough_schema::{DemoSign, Ed25519Key, Ed25519Scheme, Key, RoleKeys};
 
 /// The public part of the key that signs every document of a repository, in hexadecimal digits.

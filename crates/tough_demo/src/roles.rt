@@ -13,7 +13,7 @@ use crate::keys::identifier;
 use serde_json::Map;
 use std::alloc::Global;
 use std::num::NonZeroU64;
-use tough_base::{PathHashPrefix, PathPattern};
+use tough_names::{PathHashPrefix, PathPattern};
 use tough_schema::{DelegatedRole, Delegations, Ed25519Key, Ed25519Scheme, Hashes, Key, PathSet};
 
 /// The key that signs alone for the role of this name: its public part is the digest of the name.

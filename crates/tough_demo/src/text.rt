@@ -10,7 +10,7 @@ ghost use Rattle.tough_demo.specs.Demo.{IsPretty, IsSignedAlone};
 use crate::error::DemoError;
 use crate::keys::identifier;
 use std::alloc::Global;
-use tough_base::Decoded;
+use tough_decoded::Decoded;
 use tough_schema::{DemoSign, Role, Sign, Signature, Signed};
 
 /// The role with the signature of one signer.

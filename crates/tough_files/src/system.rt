@@ -1,49 +1,119 @@
 //! The files of the operating system, which tell nothing.
-ghost use Rattle.std.specs.Prelude.{◌≡◌, ◌≤◌, ℕ, List, IfOk, length};
+ghost use Rattle.std.specs.Prelude.{◌≡◌, ◌≤◌, ℕ, List, None, IfOk, length, option_copied};
 ghost use Rattle.tough_files.specs.Calls.{refused, count_after};
-ghost use Rattle.tough_files.specs.System.{os_failures};
+ghost use Rattle.tough_files.specs.System.{os_failures, last_fault};
 
 use crate::files::{FileKind, Files, FilesError};
-use crate::temp::temp_path;
 use std::alloc::AllocGlobal;
-use std::fs::{Metadata, OpenOptions};
+use std::fs::{File, Metadata, OpenOptions};
 use std::io::{ErrorKind, Read, Seek, SeekFrom, Write};
 use std::os::unix::fs::symlink;
+use std::path::Path;
+use std::random::RandomSource;
 use std::{fs, io, rt};
 
 // How many names are tried for a temporary file.
-const TEMP_TRIES: usize = 65_536;
+const TEMP_TRIES: usize = 16;
+
+// A file that was made and is still being written.
+#[derive(Drop)]
+struct Written {
+    path: String,
+    file: File,
+}
 
 /// The files of the operating system, reached through a runtime.
 ///
-/// The empty path is the current folder. A path where nothing stands is `NotFound`; every other fault but want of memory is
-/// `Failed`, and counts.
+/// The empty path is the current folder. A path where nothing stands is `NotFound`; every other fault but out of memory is
+/// `Failed`, and counts. A temporary file has a name that can't be guessed. The file that was made last stays open until it is
+/// renamed or removed, so that what is appended reaches that file, whatever stands at its path by then.
 #[derive(Drop)]
 pub struct OsFiles<R> {
     rt: R,
     failures: u64,
+    fault: Option<io::Error>,
+    written: Option<Written>,
 }
 
-impl<R: rt::Files + AllocGlobal + Clone + Drop> OsFiles<R> {
+impl<R: rt::Files<File = File> + RandomSource + AllocGlobal + Clone + Drop> OsFiles<R> {
     /// The files that the runtime reaches. No failure is counted yet.
     pub fn new(rt: R) -> OsFiles<R>
-        ensures { os_failures result ≡ 0 }
+        ensures failures { os_failures result ≡ 0 }
+        ensures fault { last_fault result ≡ None }
     {
-        OsFiles { rt, failures: 0 }
+        OsFiles {
+            rt,
+            failures: 0,
+            fault: None,
+            written: None,
+        }
     }
 
-    // The refusal for a fault of the system.
-    fn fault(&mut self, error: &io::Error) -> FilesError
+    /// What the operating system said when a call last failed or found nothing, if one did.
+    pub fn last_fault(&self) -> Option<&io::Error>
+        ensures { option_copied result ≡ last_fault self.now }
+    {
+        self.fault.as_ref()
+    }
+
+    // The refusal for a fault of the system, which is kept.
+    fn fail(&mut self, error: io::Error) -> FilesError
         ensures { os_failures self.new ≡ count_after (refused result) (os_failures self.old) }
     {
-        match error.kind() {
+        let refusal = match error.kind() {
             ErrorKind::NotFound => FilesError::NotFound,
-            ErrorKind::OutOfMemory => FilesError::Memory,
+            ErrorKind::OutOfMemory => return FilesError::Memory,
             _ => {
                 self.failures = self.failures.wrapping_add(1);
                 FilesError::Failed
             }
+        };
+        self.fault = Some(error);
+        refusal
+    }
+
+    // Closes the file that is being written, where it stands at this path.
+    fn close(&mut self, path: &str)
+        ensures { os_failures self.new ≡ os_failures self.old }
+    {
+        if let Some(written) = &self.written {
+            if written.path.as_str() == path {
+                self.written = None;
+            }
         }
+    }
+
+    // Makes a file for writing, which stays open.
+    fn make(&mut self, path: &str) -> io::Result<()>
+        ensures { os_failures self.new ≡ os_failures self.old }
+    {
+        let file = fs::create(&self.rt, place(path))?;
+        let path = String::from_str(self.rt.alloc(), path)?;
+        self.written = Some(Written { path, file });
+        Ok(())
+    }
+
+    // Makes a file in the folder, which stays open, and gives its path.
+    fn make_temp(&mut self, folder: &str) -> io::Result<String>
+        ensures { os_failures self.new ≡ os_failures self.old }
+    {
+        let (path, file) = create_in(&self.rt, folder)?;
+        let given = path.clone()?;
+        self.written = Some(Written { path, file });
+        Ok(given)
+    }
+
+    // Appends to the file that is open, or else to what stands at the path.
+    fn write_at(&mut self, path: &str, bytes: &[u8]) -> io::Result<()>
+        ensures { os_failures self.new ≡ os_failures self.old }
+    {
+        if let Some(written) = &mut self.written {
+            if written.path.as_str() == path {
+                return written.file.write_all(bytes);
+            }
+        }
+        let mut file = OpenOptions::new().append(true).open(&self.rt, place(path))?;
+        file.write_all(bytes)
     }
 }
 
@@ -87,21 +157,30 @@ fn read_some<F: Read>(file: &mut F, buf: &mut [u8]) -> io::Result<usize>
     Ok(0)
 }
 
-fn append_to(files: &impl rt::Files, path: &str, bytes: &[u8]) -> io::Result<()> {
-    let mut file = OpenOptions::new().append(true).open(files, path)?;
-    file.write_all(bytes)
+// A name for a temporary file: 128 random bits in hexadecimal digits, behind `.tmp`.
+fn temp_name<R: RandomSource + AllocGlobal>(rt: &R) -> io::Result<String> {
+    let mut bits = [0; 16];
+    rt.fill_bytes(&mut bits)?;
+    let number = u128::from_be_bytes(bits);
+    Ok(format!(in rt.alloc(); ".tmp{number:032x}")?)
 }
 
-// Makes a file under the first name that nothing has.
-fn create_in<R: rt::Files + AllocGlobal>(files: &R, folder: &str) -> io::Result<String> {
-    for number in 0..TEMP_TRIES {
-        let path = temp_path(files.alloc(), folder, number)?;
+// Makes a file under a name that nothing has.
+fn create_in<R: rt::Files<File = File> + RandomSource + AllocGlobal>(
+    rt: &R,
+    folder: &str,
+) -> io::Result<(String, File)> {
+    for _ in 0..TEMP_TRIES {
+        let name = temp_name(rt)?;
+        let path = Path::new(folder)
+            .join(rt.alloc(), name.as_str())?
+            .into_string();
         let made = OpenOptions::new()
             .write(true)
             .create_new(true)
-            .open(files, path.as_str());
+            .open(rt, path.as_str());
         match made {
-            Ok(_) => return Ok(path),
+            Ok(file) => return Ok((path, file)),
             Err(e) if e.kind() == ErrorKind::AlreadyExists => {}
             Err(e) => return Err(e),
         }
@@ -122,7 +201,7 @@ fn names_in<R: rt::Files + AllocGlobal + Clone + Drop>(
     Ok(names)
 }
 
-impl<R: rt::Files + AllocGlobal + Clone + Drop> Files for OsFiles<R> {
+impl<R: rt::Files<File = File> + RandomSource + AllocGlobal + Clone + Drop> Files for OsFiles<R> {
     ghost use Rattle.std.specs.Prelude.{false, None, []};
 
     ghost tells = { false };
@@ -141,84 +220,90 @@ impl<R: rt::Files + AllocGlobal + Clone + Drop> Files for OsFiles<R> {
         };
         match found {
             Ok(metadata) => Ok(kind_of(&metadata)),
-            Err(e) => Err(self.fault(&e)),
+            Err(e) => Err(self.fail(e)),
         }
     }
 
     fn read(&mut self, path: &str, from: u64, buf: &mut [u8]) -> Result<usize, FilesError> {
         match read_at(&self.rt, place(path), from, buf) {
             Ok(count) => Ok(count),
-            Err(e) => Err(self.fault(&e)),
+            Err(e) => Err(self.fail(e)),
         }
     }
 
     fn create(&mut self, path: &str) -> Result<(), FilesError> {
-        match fs::create(&self.rt, place(path)) {
-            Ok(_) => Ok(()),
-            Err(e) => Err(self.fault(&e)),
+        match self.make(path) {
+            Ok(()) => Ok(()),
+            Err(e) => Err(self.fail(e)),
         }
     }
 
     fn create_temp(&mut self, folder: &str) -> Result<String, FilesError> {
-        match create_in(&self.rt, folder) {
+        match self.make_temp(folder) {
             Ok(path) => Ok(path),
-            Err(e) => Err(self.fault(&e)),
+            Err(e) => Err(self.fail(e)),
         }
     }
 
     fn append(&mut self, path: &str, bytes: &[u8]) -> Result<(), FilesError> {
-        match append_to(&self.rt, place(path), bytes) {
+        match self.write_at(path, bytes) {
             Ok(()) => Ok(()),
-            Err(e) => Err(self.fault(&e)),
+            Err(e) => Err(self.fail(e)),
         }
     }
 
     fn rename(&mut self, from: &str, to: &str) -> Result<(), FilesError> {
         match fs::rename(&self.rt, place(from), place(to)) {
-            Ok(()) => Ok(()),
-            Err(e) => Err(self.fault(&e)),
+            Ok(()) => {
+                self.close(from);
+                Ok(())
+            }
+            Err(e) => Err(self.fail(e)),
         }
     }
 
     fn copy(&mut self, from: &str, to: &str) -> Result<(), FilesError> {
         match fs::copy(&self.rt, place(from), place(to)) {
             Ok(_) => Ok(()),
-            Err(e) => Err(self.fault(&e)),
+            Err(e) => Err(self.fail(e)),
         }
     }
 
     fn link(&mut self, original: &str, path: &str) -> Result<(), FilesError> {
         match symlink(&self.rt, original, place(path)) {
             Ok(()) => Ok(()),
-            Err(e) => Err(self.fault(&e)),
+            Err(e) => Err(self.fail(e)),
         }
     }
 
     fn remove(&mut self, path: &str) -> Result<(), FilesError> {
         match fs::remove_file(&self.rt, place(path)) {
-            Ok(()) => Ok(()),
-            Err(e) => Err(self.fault(&e)),
+            Ok(()) => {
+                self.close(path);
+                Ok(())
+            }
+            Err(e) => Err(self.fail(e)),
         }
     }
 
     fn make_folders(&mut self, path: &str) -> Result<(), FilesError> {
         match fs::create_dir_all(&self.rt, place(path)) {
             Ok(()) => Ok(()),
-            Err(e) => Err(self.fault(&e)),
+            Err(e) => Err(self.fail(e)),
         }
     }
 
     fn canonical(&mut self, path: &str) -> Result<String, FilesError> {
         match fs::canonicalize(&self.rt, place(path)) {
             Ok(path) => Ok(path.into_string()),
-            Err(e) => Err(self.fault(&e)),
+            Err(e) => Err(self.fail(e)),
         }
     }
 
     fn list(&mut self, path: &str) -> Result<Vec<String>, FilesError> {
         match names_in(&self.rt, place(path)) {
             Ok(names) => Ok(names),
-            Err(e) => Err(self.fault(&e)),
+            Err(e) => Err(self.fail(e)),
         }
     }
 

@@ -3,7 +3,7 @@
 use Rattle.std.specs.Prelude.{Bool, ℕ, zero, suc, ℤ, List, [], ◌∷◌, Option, Some, None, option_map, option_and_then, Result, Ok, Err}
 use Rattle.std.specs.Ordering.{nat_cmp, match_ordering}
 use Rattle.std.specs.Cmp.Lexicographic.{slice_cmp}
-use Rattle.tough_base.specs.Spelled.{Spelled, hex_bytes}
+use Rattle.tough_decoded.specs.Spelled.{Spelled, hex_bytes}
 use Rattle.jiff.specs.Words.{parse_timestamp}
 use Rattle.jiff_core.specs.declared.error.Error.{Error}
 use Rattle.serde_json.specs.Data.{Data, null, boolean, number, string, array, object, Members, no_members, member, Items, no_items, item}

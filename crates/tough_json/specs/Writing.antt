@@ -1,7 +1,7 @@
 -- The JSON of a document. A member is put in only where its name is free, so no extra hides a member.
 use Rattle.std.specs.Prelude.{ℕ, zero, suc, List, [], ◌∷◌, Option, Some, None, Bool, false, if◌then◌else◌}
 use Rattle.std.specs.Str.{bytes_eq}
-use Rattle.tough_base.specs.Spelled.{Spelled, hex_bytes}
+use Rattle.tough_decoded.specs.Spelled.{Spelled, hex_bytes}
 use Rattle.serde_json.specs.Data.{Data, number, unsigned, string, Members, no_members, member, put, Items, no_items, item}
 use Rattle.serde_json.specs.Find.{get_member}
 use Rattle.tough_json.specs.Reading.{◌>>=◌}

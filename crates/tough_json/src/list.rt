@@ -3,7 +3,7 @@
 ghost use Rattle.std.specs.Prelude.{◌≡◌, Option, map};
 ghost use Rattle.serde_json.specs.Data.{Data};
 ghost use Rattle.serde_json.specs.View.{view, items_view, members_view};
-ghost use Rattle.tough_base.specs.Spelled.{Spelled};
+ghost use Rattle.tough_decoded.specs.Spelled.{Spelled};
 ghost use Rattle.tough_json.specs.Reading.{required, listing, all_at, decoded};
 ghost use Rattle.tough_json.specs.Results.{Reads, Takes};
 
@@ -11,7 +11,7 @@ use crate::error::{ReadError, at, member_shape, shape, within};
 use crate::member::take;
 use serde_json::{Map, Value};
 use std::alloc::Global;
-use tough_base::{Decode, DecodeError, Decoded};
+use tough_decoded::{Decode, DecodeError, Decoded};
 
 /// What is read from a JSON value. `doc` is a value's plain data; `at` says which JSON is read, and as what.
 pub trait FromJson {

@@ -9,7 +9,7 @@ use crate::error::{ReadError, member_shape};
 use serde_json::{Map, Value};
 use std::alloc::Global;
 use std::num::NonZeroU64;
-use tough_base::{Decode, DecodeError, Decoded, Hex};
+use tough_decoded::{Decode, DecodeError, Decoded, Hex};
 
 fn remove(members: &mut Map<String, Value>, name: &str) -> Option<Value>
     ensures value { option_map view result

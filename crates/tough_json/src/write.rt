@@ -10,7 +10,7 @@ use crate::error::WriteError;
 use serde_json::{Map, Value};
 use std::alloc::{AllocError, Global};
 use std::num::NonZeroU64;
-use tough_base::{Decode, Decoded};
+use tough_decoded::{Decode, Decoded};
 
 /// Whether no member has the name.
 pub fn is_free(members: &Map<String, Value>, name: &str) -> bool

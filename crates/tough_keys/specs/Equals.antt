@@ -240,6 +240,10 @@ module _ (a b : KeyDoc) where
       (both of_public (of_keyval && of_extra) ((bytes_eq-Decides a.public.bytes b.public.bytes).1 (ap (λ (d : KeyData). d.public) h))
       (both of_keyval of_extra (from_members a.keyval_extra b.keyval_extra (ap (λ (d : KeyData). d.keyval_extra) h)) (from_members a.extra b.extra (ap (λ (d : KeyData). d.extra) h))))
 
+-- keys that are the same have the same data
+pub data_of-same : (a b : KeyDoc) → same_doc a b ≡ true → data_of a ≡ data_of b
+data_of-same a b h = same_is a b h
+
 pub same_doc-refl : (k : KeyDoc) → same_doc k k ≡ true
 same_doc-refl k = is_same k k refl
 

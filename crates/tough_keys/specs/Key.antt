@@ -1,7 +1,7 @@
 -- Keys, their JSON, and their identifiers (TUF specification 1.0, section 4.2).
 use Rattle.std.specs.Prelude.{◌≡◌, ℕ, List, Option, Some, None, option_map, option_and_then, codes, if◌then◌else◌, ⊤}
 use Rattle.std.specs.Str.{bytes_eq}
-use Rattle.tough_base.specs.Spelled.{Spelled, hex_bytes, pem_bytes, flex_bytes}
+use Rattle.tough_decoded.specs.Spelled.{Spelled, hex_bytes, pem_bytes, flex_bytes}
 use Rattle.tough_json.specs.Canon.{Canon}
 use Rattle.tough_json.specs.CanonicalText.{canonical_of}
 use Rattle.sha2.specs.Sha256.{sha256}

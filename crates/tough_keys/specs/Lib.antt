@@ -5,3 +5,4 @@ pub mod Parsed
 pub mod Results
 pub mod Equal
 pub mod Equals
+pub mod Failing

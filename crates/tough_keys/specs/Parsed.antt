@@ -1,6 +1,6 @@
 -- A key from a text: 64 hexadecimal digits are an Ed25519 key.
 use Rattle.std.specs.Prelude.{ℕ, ◌==◌, List, length, Option, None, option_map, if◌then◌else◌}
-use Rattle.tough_base.specs.Spelled.{Spelled, hex_bytes}
+use Rattle.tough_decoded.specs.Spelled.{Spelled, hex_bytes}
 use Rattle.serde_json.specs.Data.{no_members}
 use Rattle.tough_json.specs.Reading.{spelled}
 use Rattle.tough_keys.specs.declared.kind.Kind.TheVariants as kinds

@@ -31,7 +31,7 @@ impl Verify for DemoVerify {
     }
 }
 
-/// A signer whose signatures `DemoVerify` accepts.
+/// A signer whose signatures `DemoVerify` accepts, and which fails only for want of memory.
 #[derive(Drop)]
 pub struct DemoSign {
     pub key: Key,
@@ -41,6 +41,8 @@ impl Sign for DemoSign {
     ghost key = { λ s. key_doc s.key };
 
     ghost signs = { λ s m x. x ≡ demo_signature (key_doc s.key).public.bytes m };
+
+    ghost fails = { λ _ _. ⊥ };
 
     fn tuf_key(&self, alloc: Global) -> Result<Key, SignError> {
         Ok(self.key.clone()?)

@@ -10,7 +10,7 @@ use crate::key::Key;
 use serde_json::Value;
 use sha2::{Digest, Sha256};
 use std::alloc::Global;
-use tough_base::{Decoded, Hex};
+use tough_decoded::{Decoded, Hex};
 use tough_json::error::WriteError;
 use tough_json::{CjsonError, canonical};
 

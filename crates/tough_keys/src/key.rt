@@ -1,5 +1,5 @@
 use serde_json::{Map, Value};
-use tough_base::{Decoded, EcdsaFlex, Hex, RsaPem};
+use tough_decoded::{Decoded, EcdsaFlex, Hex, RsaPem};
 
 /// A key that signatures are verified by.
 #[derive(Debug, Drop)]

@@ -3,7 +3,7 @@ ghost use Rattle.std.specs.Prelude.{◌≡◌};
 use crate::key::{Ed25519Key, Ed25519Scheme, Key};
 use serde_json::Map;
 use std::alloc::{AllocError, Global};
-use tough_base::{DecodeError, Decoded};
+use tough_decoded::{DecodeError, Decoded};
 
 /// Why a text is no key.
 #[derive(Debug, Drop, thiserror::Error)]

@@ -8,7 +8,7 @@ use crate::key::{EcdsaKey, EcdsaScheme, Ed25519Key, Ed25519Scheme, Key, RsaKey, 
 use crate::kind::Kind;
 use serde_json::{Map, Value};
 use std::alloc::Global;
-use tough_base::{Decode, Decoded};
+use tough_decoded::{Decode, Decoded};
 use tough_json::error::{ReadError, member_shape, shape, within};
 use tough_json::member::{decoded, take};
 

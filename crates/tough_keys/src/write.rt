@@ -7,7 +7,7 @@ use crate::key::Key;
 use crate::kind::Kind;
 use serde_json::{Map, Value};
 use std::alloc::Global;
-use tough_base::{Decode, Decoded};
+use tough_decoded::{Decode, Decoded};
 use tough_json::error::WriteError;
 use tough_json::write::{copy_members, digits, with, with_text};
 

@@ -2,7 +2,7 @@
 use Rattle.std.specs.Prelude.{◌≡◌, ◌≤◌, Result, IfOk}
 use Rattle.tough_keys.specs.Same.{Verifies}
 use Rattle.tough_update.specs.declared.counts.Counts.{Counts}
-use Rattle.tough_trust.specs.declared.limits.Limits.{Limits}
+use Rattle.tough_net.specs.declared.limits.Limits.{Limits}
 use Rattle.tough_update.specs.declared.machine.Core.{Core}
 use Rattle.tough_update.specs.Counted.{Counted, HadAsMany, KeepsAll, roles_listed}
 use Rattle.tough_trust.specs.Failure.{Failure}

@@ -2,7 +2,7 @@
 use Rattle.std.specs.Prelude.{◌≡◌, ◌*◌, ◌^◌, ℕ, List, [], None, Ok, Bool}
 use Rattle.url.specs.Parts.{Parts}
 use Rattle.tough_checks.specs.Checks.{enforces}
-use Rattle.tough_trust.specs.declared.limits.Limits.{Limits}
+use Rattle.tough_net.specs.declared.limits.Limits.{Limits}
 use Rattle.tough_update.specs.Stages.{CoreDoc, new_core}
 use Rattle.tough_update.specs.Counts.{none_yet}
 use Rattle.tough_update.specs.View.{core_doc, counts_of}

@@ -2,13 +2,9 @@
 use Rattle.std.proofs.Common.{◌≡◌, ℕ, Bool, true, List, [], ◌∷◌, ◌++◌, ◌⊎◌, inl, inr, Option, Some, None, refl, sym, ◌∙◌, ap, subst, append_assoc}
 use Rattle.tough_names.specs.declared.pattern.item.Span.{Span}
 use Rattle.tough_names.specs.Glob.{Part, run, one, Fits, accepts}
+use Rattle.tough_names.specs.Steps.{IsEnd, CoverEach}
 
--- tail is an end of text
-pub record IsEnd (tail text : List ℕ) : Type 0 where
-  pub before : List ℕ
-  pub whole : text ≡ before ++ tail
-
-end_same : (text : List ℕ) → IsEnd text text
+pub end_same : (text : List ℕ) → IsEnd text text
 end_same text = record { before = []; whole = refl }
 
 end_more : (c : ℕ) (tail text : List ℕ) → IsEnd tail text → IsEnd tail (c ∷ text)
@@ -153,3 +149,35 @@ retries parts text left rest after c from stuck s = record {
 
 pub no_fit : (parts : List Part) (text : List ℕ) (left : List Part) (rest : List ℕ) (retry : Option (List Part × List ℕ)) → (Fits left rest → ⊥) → (Retries retry → ⊥) → Searches parts text left rest retry → Fits parts text → ⊥
 no_fit parts text left rest retry stuck none s f = elim (s.either f) [ inl fits ↦ stuck fits | inr more ↦ none more ]
+
+-- the parts that are covered by the characters before the rest
+pub advances_all : (parts : List Part) (text : List ℕ) (covering : List Part) (covered : List ℕ) (left : List Part) (rest : List ℕ) (retry : Option (List Part × List ℕ)) → CoverEach covering covered
+    → Searches parts text (covering ++ left) (covered ++ rest) retry → Searches parts text left rest retry
+advances_all parts text [] [] left rest retry each s = s
+advances_all parts text [] (c ∷ cs) left rest retry each s = absurd each
+advances_all parts text (p ∷ ps) [] left rest retry each s = absurd each
+advances_all parts text (p ∷ ps) (c ∷ cs) left rest retry (negated, spans, is, taken, each) s =
+    let P : Part → Type 0 = λ q. Searches parts text (q ∷ (ps ++ left)) (c ∷ (cs ++ rest)) retry in
+    advances_all parts text ps cs left rest retry each (advances parts text negated spans c (ps ++ left) (cs ++ rest) retry taken (subst P is s))
+
+fits_some : (after : List Part) (rest : List ℕ) → Fits after rest ⊎ FitsLater after rest → (tail : List ℕ) × IsEnd tail rest × Fits after tail
+fits_some after rest (inl f) = (rest, end_same rest, f)
+fits_some after rest (inr l) = later_is_end after rest l
+
+-- the last run takes what comes before the place that was sought
+pub seeks : (parts : List Part) (text : List ℕ) (after : List Part) (rest from : List ℕ) → IsEnd from rest → ((tail : List ℕ) → IsEnd tail rest → Fits after tail → IsEnd tail from)
+    → Searches parts text after rest (Some (after, rest)) → Searches parts text after from (Some (after, from))
+seeks parts text after rest from end all s =
+    let whole : (tail : List ℕ) → IsEnd tail from → Fits after tail → Fits parts text =
+    λ tail e f. elim (now_or_later after rest tail (end_of_end tail from rest e end) f) [ inl now ↦ s.now now | inr later ↦ s.later later ] in
+    record {
+      now = λ f. whole from (end_same from) f;
+      later = λ h. let l = later_is_end after from h in whole l.0 l.1 l.2;
+      either = λ f. let l = fits_some after rest (s.either f) in now_or_later after from l.0 (all l.0 l.1 l.2) l.2;
+      leads = λ tail e f. (tail, e, f);
+    }
+
+-- where nothing was found, nothing fits
+pub none_sought : (parts : List Part) (text : List ℕ) (after : List Part) (rest : List ℕ) → ((tail : List ℕ) → IsEnd tail rest → Fits after tail → ⊥)
+    → Searches parts text after rest (Some (after, rest)) → Fits parts text → ⊥
+none_sought parts text after rest none s f = let l = fits_some after rest (s.either f) in none l.0 l.1 l.2

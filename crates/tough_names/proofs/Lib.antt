@@ -10,3 +10,5 @@ pub mod Begins
 pub mod Spelled
 pub mod Read
 pub mod Unreserved
+mod Kept
+mod Seeking

@@ -21,13 +21,13 @@ abbrev pub Widened : List Item → List ℕ → List ℕ → List Item → Type 
 Widened items text rest after =
     (length after ≤ length items) × (length after ≤ length items) × (length rest ≤ length rest) × (length rest ≤ length text)
 
-pub widened_bounds : (items : List Item) (text : List ℕ) (left : List Item) (rest : List ℕ) (retry : Option (Bor (List Item) × Bor (List ℕ))) (after : List Item) → length left ≡ length after + 1 → InBounds items text left rest retry → Widened items text rest after
-widened_bounds items text left rest None after e h = (omega arith, omega arith, omega arith, omega arith)
-widened_bounds items text left rest (Some (old, from)) after e h = (omega arith, omega arith, omega arith, omega arith)
+pub widened_bounds : (items : List Item) (text : List ℕ) (left : List Item) (rest : List ℕ) (retry : Option (Bor (List Item) × Bor (List ℕ))) (after : List Item) (from : List ℕ) → length left ≡ length after + 1 → length from ≤ length rest → InBounds items text left rest retry → Widened items text from after
+widened_bounds items text left rest None after from e s h = (omega arith, omega arith, omega arith, omega arith)
+widened_bounds items text left rest (Some (old, before)) after from e s h = (omega arith, omega arith, omega arith, omega arith)
 
-pub advanced_bounds : (items : List Item) (text : List ℕ) (left : List Item) (rest : List ℕ) (retry : Option (Bor (List Item) × Bor (List ℕ))) (after : List Item) (tail : List ℕ) → length left ≡ length after + 1 → length tail < length rest → InBounds items text left rest retry → InBounds items text after tail retry
+pub advanced_bounds : (items : List Item) (text : List ℕ) (left : List Item) (rest : List ℕ) (retry : Option (Bor (List Item) × Bor (List ℕ))) (after : List Item) (tail : List ℕ) → length left ≡ length after + 1 → length tail ≤ length rest → InBounds items text left rest retry → InBounds items text after tail retry
 advanced_bounds items text left rest None after tail e s h = (omega arith, omega arith)
 advanced_bounds items text left rest (Some (old, from)) after tail e s h = (omega arith, h.1, omega arith, h.3)
 
-pub retried_bounds : (items : List Item) (text : List ℕ) (left : List Item) (rest : List ℕ) (after : Bor (List Item)) (from : Bor (List ℕ)) (tail : List ℕ) → length tail < length from.now → InBounds items text left rest (Some (after, from)) → Widened items text tail after.now
-retried_bounds items text left rest after from tail s h = (h.1, h.1, omega arith, omega arith)
+pub retried_bounds : (items : List Item) (text : List ℕ) (left : List Item) (rest : List ℕ) (after : Bor (List Item)) (from : Bor (List ℕ)) (tail again : List ℕ) → length tail < length from.now → length again ≤ length tail → InBounds items text left rest (Some (after, from)) → Widened items text again after.now
+retried_bounds items text left rest after from tail again s t h = (h.1, h.1, omega arith, omega arith)

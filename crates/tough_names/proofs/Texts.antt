@@ -6,7 +6,7 @@ use Rattle.tough_names.specs.declared.pattern.item.Span.{Span}
 use Rattle.tough_names.specs.declared.pattern.item.Item.{Item}
 use Rattle.tough_names.specs.Glob.{Part, run, one, Fits, accepts}
 use Rattle.tough_names.specs.Items.{parts_of}
-use Rattle.tough_names.specs.Steps.{IsTail, part_takes}
+use Rattle.tough_names.specs.Steps.{IsTail}
 
 pub tail_from_char : (text tail : List ℕ) (c : ℕ) → IsUtf8 text → IsUtf8 tail → text ≡ encode_utf8 c ++ tail → IsTail text tail c
 tail_from_char text tail c valid after e =
@@ -37,17 +37,6 @@ run_fits items text after e none =
     let P : List Part → Type 0 = λ ps. Fits ps (chars text) in
     subst P (sym whole) (chars text, [], sym (append-nil (chars text)), tt, refl)
 
--- a part that takes a character is one of a class
-pub takes_one : (part : Part) (c : ℕ) → part_takes part c ≡ true → (negated : Bool) × (spans : List Span) × (part ≡ one negated spans) × (accepts negated spans c ≡ true)
-takes_one run c e = cc
-takes_one (one negated spans) c e = (negated, spans, refl, e)
-
 pub nothing_fits : (items : List Item) (text : List ℕ) → IsUtf8 text → length items ≡ 0 → (length text ≡ 0 → ⊥) → Fits (parts_of items) (chars text) → ⊥
 nothing_fits [] text valid none some f = some (no_bytes text valid f)
 nothing_fits (x ∷ xs) text valid none some f = absurd (omega (arith, none))
-
-pub first_is_some : (part : Part) (parts : List Part) (c : ℕ) (rest : List ℕ) → part_takes part c ≡ false → (part ≡ run → ⊥) → Fits (part ∷ parts) (c ∷ rest) → ⊥
-first_is_some run parts c rest refused some f = some refl
-first_is_some (one negated spans) parts c rest refused some (piece, tail, whole, (d, single, good), f) =
-    let e : c ∷ rest ≡ (d ∷ []) ++ tail = whole ∙ ap (λ p. p ++ tail) single in
-    cc

@@ -6,7 +6,7 @@ use Rattle.tough_names.specs.declared.pattern.reading.Place.TheVariants.{Outside
 use Rattle.tough_names.specs.declared.pattern.reading.Action.{Action}
 use Rattle.tough_names.specs.declared.pattern.reading.Action.TheVariants.{Refuse, AddRun, AddAny, AddLiteral, Open, Negate, Go, AddSpan, Close, CloseWith, CloseWithDash}
 use Rattle.tough_names.specs.Glob.{Part, run, one}
-use Rattle.tough_names.specs.Items.{just}
+use Rattle.tough_names.specs.Items.{just, literal}
 
 -- outside a class
 abbrev pub outside : Bool → ℕ → Action
@@ -69,7 +69,7 @@ abbrev pub act : State → Action → Option State
 act s Refuse = None
 act s AddRun = Some (with_part s run AfterRun)
 act s AddAny = Some (with_part s (one true []) Outside)
-act s (AddLiteral c) = Some (with_part s (one false (just c ∷ [])) Outside)
+act s (AddLiteral c) = Some (with_part s (literal c) Outside)
 act s Open = Some (record s { spans = []; negated = false; place = Opened })
 act s Negate = Some (record s { negated = true; place = Negated })
 act s (Go place) = Some (record s { place = place })

@@ -72,8 +72,8 @@ impl PathPattern {
         self.text.as_str()
     }
 
-    /// Whether the pattern fits the whole resolved name. It takes no memory, and at most as many steps as the
-    /// product of the two lengths.
+    /// Whether the pattern fits the whole resolved name. It takes no memory. Plain characters between two `*` cost time in step with them
+    /// and the name; what stands there with `?` or a class may cost its own length times the name's.
     pub fn matches(&self, name: &TargetName) -> bool
         ensures { IsTrue result ↔ Matches (chars self.now) (chars name.now.resolved) }
     {

@@ -7,7 +7,7 @@ use Rattle.std.proofs.lemmas.Slice.Eq.{bytes_eq-Decides}
 use Rattle.std.specs.List.{list_any, IsDistinct, AllByRecursion}
 use Rattle.std.specs.Set.{is_member}
 use Rattle.std.specs.Str.{bytes_eq}
-use Rattle.tough_base.specs.Spelled.{Spelled}
+use Rattle.tough_decoded.specs.Spelled.{Spelled}
 use Rattle.tough_keys.specs.Key.{KeyDoc}
 use Rattle.tough_keys.specs.Same.{Verifies, KeyData, data_of}
 use Rattle.tough_roles.specs.declared.signature.Signature.{Signature}

@@ -1,5 +1,5 @@
 -- Looking for an identifier that stands twice, with a set of those that were seen.
-use Rattle.std.proofs.Common.{◌≡◌, ℕ, ◌+◌, ◌<◌, List, [], ◌∷◌, map, drop, drop-cons, add-one, get_or, length, Bool, true, false, ◌||◌, not, Ordering, Less, Equal, Greater, is_eq, nat_cmp, bytes_eq, Option, Some, None, ◌≢◌, refl, sym, ap, ◌∙◌, subst, arith}
+use Rattle.std.proofs.Common.{◌≡◌, ℕ, ◌+◌, ◌<◌, List, [], ◌∷◌, map, drop, drop-cons, add-one, get_or, length, Bool, true, false, ◌||◌, not, Ordering, Less, Equal, Greater, is_eq, nat_cmp, bytes_eq, Option, Some, None, if◌then◌else◌, ◌≢◌, refl, sym, ap, ◌∙◌, subst, arith}
 use Rattle.std.specs.Prelude.{MatchOption}
 use Rattle.std.proofs.lemmas.Map.Text.{is_eq-slice_cmp}
 use Rattle.std.proofs.lemmas.Slice.Eq.{bytes_eq-Decides}
@@ -10,7 +10,7 @@ use Rattle.std.specs.List.{list_any, HoldsAt}
 use Rattle.std.proofs.lemmas.List.{get_or-map, length-map}
 use Rattle.tough_roles.specs.declared.signature.Signature.{Signature}
 use Rattle.tough_roles.specs.Signature.{SignatureDoc, signature_doc}
-use Rattle.tough_roles.specs.Verdict.{some_twice, StandsAgain}
+use Rattle.tough_roles.specs.Verdict.{again, some_twice}
 use Rattle.tough_roles.proofs.Counts.{some_twice-drop}
 
 or_idle : (a b : Bool) → a || (a || b) ≡ a || b
@@ -104,15 +104,15 @@ module _ {K : Type 0} (now : K → List ℕ) where
   pub noted : (ks : List K) (ss : List Signature) (i : ℕ) (k : K) (s : Signature) → i < length ss → s ≡ get_or ss i s → now k ≡ s.keyid.bytes → Looked ks ss i → stands ks s.keyid.bytes ≡ false → Looked (insert_key by_bytes ks k) ss (i + 1)
   noted ks ss i k s h e same looked unseen =
       let rest = drop (i + 1) ss in
-      let again = list_any (λ t. bytes_eq t.keyid.bytes s.keyid.bytes) rest in
+      let later_one = list_any (λ t. bytes_eq t.keyid.bytes s.keyid.bytes) rest in
       let later = some_twice (map signature_doc rest) in
-      let now_seen : seen_in (insert_key by_bytes ks k) rest ≡ again || seen_in ks rest =
+      let now_seen : seen_in (insert_key by_bytes ks k) rest ≡ later_one || seen_in ks rest =
       same_any (λ t. stands (insert_key by_bytes ks k) t.keyid.bytes) (λ t. bytes_eq t.keyid.bytes s.keyid.bytes || stands ks t.keyid.bytes) rest
       (λ t. inserted ks k t.keyid.bytes ∙ ap (λ b. bytes_eq t.keyid.bytes b || stands ks t.keyid.bytes) same)
       ∙ any_or (λ t. bytes_eq t.keyid.bytes s.keyid.bytes) (λ t. stands ks t.keyid.bytes) rest in
       ap (λ b. later || b) now_seen
-      ∙ or_swap later again (seen_in ks rest)
-      ∙ sym (or_assoc again later (seen_in ks rest))
+      ∙ or_swap later later_one (seen_in ks rest)
+      ∙ sym (or_assoc later_one later (seen_in ks rest))
       ∙ ap (λ b. b || seen_in ks rest) (sym (some_twice-drop ss i s h e))
       ∙ ap (λ b. some_twice (map signature_doc (drop i ss)) || b) (sym (next_seen ks ss i s h e ∙ ap (λ b. b || seen_in ks rest) unseen))
       ∙ looked
@@ -121,34 +121,38 @@ module _ {K : Type 0} (now : K → List ℕ) where
 holds-at : (P : SignatureDoc → Type 0) (ss : List Signature) (i : ℕ) (s : Signature) → i < length ss → s ≡ get_or ss i s → P (signature_doc s) → HoldsAt P (map signature_doc ss) i
 holds-at P ss i s h e p = λ d. subst P (ap signature_doc e ∙ sym (get_or-map signature_doc ss i s d h)) p
 
-next : (j i : ℕ) → j < i → j < i + 1
-next j i h = omega (arith, h)
+-- and what holds at the place holds of it
+pub told-at : (P : SignatureDoc → Type 0) (ss : List Signature) (i : ℕ) (s : Signature) → i < length ss → s ≡ get_or ss i s → HoldsAt P (map signature_doc ss) i → P (signature_doc s)
+told-at P ss i s h e holds = subst P (get_or-map signature_doc ss i s (signature_doc s) h ∙ ap signature_doc (sym e)) (holds (signature_doc s))
 
-here : (i : ℕ) → i < i + 1
-here i = omega arith
+again_at : (ss : List Signature) (i : ℕ) (s : Signature) (seen : List SignatureDoc) → i < length ss → s ≡ get_or ss i s
+    → again seen (map signature_doc (drop i ss)) ≡ (if list_any (λ t. bytes_eq s.keyid.bytes t.keyid.bytes) seen then s.keyid.spelling else again (signature_doc s ∷ seen) (map signature_doc (drop (i + 1) ss)))
+again_at ss i s seen h e = rw (drop-cons ss i s h, ← e, add-one) refl
 
 module _ {K : Type 0} (now : K → List ℕ) where
-  -- an identifier that was seen stands at a place before this
-  abbrev pub Earlier : List K → List Signature → ℕ → Type 0
-  Earlier ks ss i = (bytes : List ℕ) → stands now ks bytes ≡ true → (j : ℕ) × (j < i) × HoldsAt (λ s. s.keyid.bytes ≡ bytes) (map signature_doc ss) j
+  -- what stands again from a place on, beside the signatures before it, stands again in all; their identifiers are the keys
+  abbrev pub Goes : List K → List Signature → ℕ → Type 0
+  Goes ks ss i = (seen : List SignatureDoc) × (again [] (map signature_doc ss) ≡ again seen (map signature_doc (drop i ss)))
+      × ((bytes : List ℕ) → stands now ks bytes ≡ list_any (λ t. bytes_eq bytes t.keyid.bytes) seen)
 
-  pub none_earlier : (ks : List K) → ks ≡ [] → (ss : List Signature) → Earlier ks ss 0
-  none_earlier ks h ss = λ bytes seen. let clash : false ≡ true = sym (ap (λ n. stands now n bytes) h) ∙ seen in cc
+  pub goes_first : (ks : List K) → ks ≡ [] → (ss : List Signature) → Goes ks ss 0
+  goes_first ks h ss = ([], refl, λ bytes. ap (λ n. stands now n bytes) h)
 
-  pub again : (ks : List K) (ss : List Signature) (i : ℕ) (s : Signature) → i < length ss → s ≡ get_or ss i s → Earlier ks ss i → stands now ks s.keyid.bytes ≡ true → StandsAgain (map signature_doc ss) i
-  again ks ss i s h e earlier seen =
-      let r = earlier s.keyid.bytes seen in
-      (r.0, r.1, subst (λ n. i < n) (sym (length-map ss signature_doc)) h, holds-at (λ b. HoldsAt (λ a. a.keyid.bytes ≡ b.keyid.bytes) (map signature_doc ss) r.0) ss i s h e r.2)
+  pub goes_found : (ks : List K) (ss : List Signature) (i : ℕ) (s : Signature) → i < length ss → s ≡ get_or ss i s → Goes ks ss i → stands now ks s.keyid.bytes ≡ true
+      → HoldsAt (λ d. again [] (map signature_doc ss) ≡ d.keyid.spelling) (map signature_doc ss) i
+  goes_found ks ss i s h e g seen =
+      holds-at (λ d. again [] (map signature_doc ss) ≡ d.keyid.spelling) ss i s h e
+      (g.1 ∙ again_at ss i s g.0 h e
+      ∙ ap (λ b. if b then s.keyid.spelling else again (signature_doc s ∷ g.0) (map signature_doc (drop (i + 1) ss))) (sym (g.2 s.keyid.bytes) ∙ seen))
 
-  earlier_at : (ks : List K) (ss : List Signature) (i : ℕ) (k : K) (s : Signature) → i < length ss → s ≡ get_or ss i s → now k ≡ s.keyid.bytes → Earlier ks ss i → (bytes : List ℕ) (t : Bool) → bytes_eq bytes (now k) ≡ t
-      → bytes_eq bytes (now k) || stands now ks bytes ≡ true → (j : ℕ) × (j < i + 1) × HoldsAt (λ s. s.keyid.bytes ≡ bytes) (map signature_doc ss) j
-  earlier_at ks ss i k s h e same earlier bytes true found seen = (i, here i, holds-at (λ a. a.keyid.bytes ≡ bytes) ss i s h e (sym ((bytes_eq-Decides bytes (now k)).0 found ∙ same)))
-  earlier_at ks ss i k s h e same earlier bytes false found seen =
-      let left = rw found at seen in
-      let r = earlier bytes left in (r.0, next r.0 i r.1, r.2)
-
-  pub earlier_noted : (ks : List K) (ss : List Signature) (i : ℕ) (k : K) (s : Signature) → i < length ss → s ≡ get_or ss i s → now k ≡ s.keyid.bytes → Earlier ks ss i → Earlier (insert_key (by_bytes now) ks k) ss (i + 1)
-  earlier_noted ks ss i k s h e same earlier = λ bytes seen. earlier_at ks ss i k s h e same earlier bytes (bytes_eq bytes (now k)) refl (sym (inserted now ks k bytes) ∙ seen)
+  pub goes_noted : (ks : List K) (ss : List Signature) (i : ℕ) (k : K) (s : Signature) → i < length ss → s ≡ get_or ss i s → now k ≡ s.keyid.bytes → Goes ks ss i → stands now ks s.keyid.bytes ≡ false
+      → Goes (insert_key (by_bytes now) ks k) ss (i + 1)
+  goes_noted ks ss i k s h e same g unseen = (
+    signature_doc s ∷ g.0,
+    g.1 ∙ again_at ss i s g.0 h e
+        ∙ ap (λ b. if b then s.keyid.spelling else again (signature_doc s ∷ g.0) (map signature_doc (drop (i + 1) ss))) (sym (g.2 s.keyid.bytes) ∙ unseen),
+    λ bytes. inserted now ks k bytes ∙ ap (λ x. bytes_eq bytes x || stands now ks bytes) same ∙ ap (λ b. bytes_eq bytes s.keyid.bytes || b) (g.2 bytes),
+  )
 
 pub was_there : (added there : Bool) → added ≡ not there → added ≡ false → there ≡ true
 was_there added true h e = refl

@@ -11,3 +11,4 @@ pub mod Timestamp
 pub mod Verdicts
 pub mod Written
 pub mod Signed
+pub mod Metafiles

@@ -1,7 +1,7 @@
 -- The errors of values, carried into that of documents.
 use Rattle.std.specs.Prelude.{Bool, true, false}
-use Rattle.tough_base.specs.declared.decoded.DecodeError.{DecodeError}
-use Rattle.tough_base.specs.declared.decoded.DecodeError.TheVariants as decoding
+use Rattle.tough_decoded.specs.declared.decoded.DecodeError.{DecodeError}
+use Rattle.tough_decoded.specs.declared.decoded.DecodeError.TheVariants as decoding
 use Rattle.tough_names.specs.declared.pattern.reading.PatternError.{PatternError}
 use Rattle.tough_names.specs.declared.pattern.reading.PatternError.TheVariants as pattern
 use Rattle.tough_roles.specs.declared.error.Error.{Error}

@@ -2,7 +2,7 @@
 use Rattle.std.specs.Prelude.{ℕ, List, map, Option, option_map}
 use Rattle.std.specs.BTreeMap.{is_at}
 use Rattle.std.specs.Map.{lookup}
-use Rattle.tough_base.specs.Spelled.{Spelled}
+use Rattle.tough_decoded.specs.Spelled.{Spelled}
 use Rattle.tough_keys.specs.Key.{KeyDoc}
 use Rattle.tough_keys.specs.Same.{KeyData, data_of}
 use Rattle.tough_roles.specs.Roles.{role_cmp}

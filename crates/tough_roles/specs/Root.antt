@@ -8,7 +8,7 @@ use Rattle.std.specs.Cmp.Lexicographic.{slice_cmp}
 use Rattle.std.specs.BTreeMap.{is_at}
 use Rattle.std.specs.List.Sorted.{IsStrictlySortedBy}
 use Rattle.std.specs.Map.{lookup, keys_of}
-use Rattle.tough_base.specs.Spelled.{Spelled, hex_bytes}
+use Rattle.tough_decoded.specs.Spelled.{Spelled, hex_bytes}
 use Rattle.serde_json.specs.Data.{Data, boolean, array, object, Members, no_members}
 use Rattle.serde_json.specs.Find.{as_object}
 use Rattle.serde_json.specs.View.{members_view}

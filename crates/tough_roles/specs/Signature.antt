@@ -1,6 +1,6 @@
 -- Signatures, and the parts of a signed document (TUF specification 1.0, section 4.2: `signed` and `signatures`).
 use Rattle.std.specs.Prelude.{◌≡◌, List, [], ◌∷◌, map, Option, Some, codes}
-use Rattle.tough_base.specs.Spelled.{Spelled, hex_bytes}
+use Rattle.tough_decoded.specs.Spelled.{Spelled, hex_bytes}
 use Rattle.serde_json.specs.Data.{Data, array, object, no_members}
 use Rattle.serde_json.specs.Find.{as_object}
 use Rattle.tough_json.specs.Reading.{◌>>=◌, required, hexadecimal, listing}

@@ -1,8 +1,10 @@
 -- Timestamps, and what they say of a snapshot (TUF specification 1.0, sections 4.4 and 4.6).
 use Rattle.std.specs.Prelude.{ℕ, List, [], map, Option, Some, option_map, codes, string_bytes, String}
 use Rattle.std.specs.Int.NonZero.{non_zero_u64_get}
+use Rattle.std.specs.Map.{lookup}
+use Rattle.std.specs.Str.{bytes_eq}
 use Rattle.std.specs.declared.alloc.Global.{Global}
-use Rattle.tough_base.specs.Spelled.{Spelled}
+use Rattle.tough_decoded.specs.Spelled.{Spelled}
 use Rattle.serde_json.specs.Data.{Data, object, Members, no_members}
 use Rattle.serde_json.specs.Find.{as_object}
 use Rattle.serde_json.specs.View.{members_view}
@@ -39,6 +41,10 @@ metafile_doc m = record { version = non_zero_u64_get m.version; length = m.lengt
 
 abbrev pub metafiles_doc : List (String Global × Metafile) → List (List ℕ × MetafileDoc)
 metafiles_doc es = map (λ e. (string_bytes e.0, metafile_doc e.1)) es
+
+-- what a document lists for a file
+abbrev pub metafile_in : List (List ℕ × MetafileDoc) → List ℕ → Option MetafileDoc
+metafile_in es file = lookup (bytes_eq file) es
 
 abbrev pub timestamp_doc : Timestamp → TimestampDoc
 timestamp_doc t = record {

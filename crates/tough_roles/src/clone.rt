@@ -14,7 +14,7 @@ use crate::snapshot::Snapshot;
 use crate::timestamp::{Hashes, Metafile, Timestamp};
 use std::alloc::AllocError;
 use std::collections::BTreeMap;
-use tough_base::{Decoded, Hex};
+use tough_decoded::{Decoded, Hex};
 use tough_keys::Key;
 use tough_keys::clone::copy;
 

@@ -1,7 +1,8 @@
 use crate::role_type::RoleType;
 use std::alloc::AllocError;
 use thiserror::Error as ThisError;
-use tough_base::{DecodeError, PatternError, TargetName};
+use tough_decoded::DecodeError;
+use tough_names::{PatternError, TargetName};
 
 /// Why a role isn't verified, a query of a tree of targets has no answer, or a value of a document can't be made.
 #[derive(Debug, Drop, ThisError)]

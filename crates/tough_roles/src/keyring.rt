@@ -7,7 +7,7 @@ ghost use Rattle.tough_roles.specs.Keyring.{keys_along, keys_left, listed_ids, i
 use crate::role_type::RoleType;
 use crate::root::Root;
 use std::collections::BTreeMap;
-use tough_base::{Decoded, Hex};
+use tough_decoded::{Decoded, Hex};
 use tough_keys::Key;
 
 /// The keys of identifiers in their order, which end at the first identifier without a key.

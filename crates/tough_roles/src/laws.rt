@@ -19,13 +19,15 @@ ghost use Rattle.tough_roles.specs.Snapshot.{SnapshotDoc, snapshot_at, snapshot_
 ghost use Rattle.tough_roles.specs.Timestamp.{TimestampDoc, timestamp_at, timestamp_json, timestamp_doc};
 ghost use Rattle.tough_roles.specs.Signature.{SignatureDoc, SignedDoc, AreSpelled, signed_at, signed_json, signed_doc};
 ghost use Rattle.tough_roles.specs.Policy.{Policy};
-ghost use Rattle.tough_roles.specs.Verdict.{verdict};
+ghost use Rattle.tough_roles.specs.Verdict.{Refused, verdict};
+ghost use Rattle.tough_roles.specs.declared.role_type.RoleType.{RoleType};
 ghost use Rattle.tough_roles.specs.Reaches.{Reaches};
 
 /// A role is verified exactly where a set of identifiers as large as the threshold has signed, none of which stands twice.
 pub fn verified_exactly()
-    ensures { (v : Verifies) (p : Policy) (text : List ℕ) (ss : List SignatureDoc)
-        → (verdict v (Some p) (Some text) ss ≡ Ok tt) ↔ Reaches v p text ss }
+    ensures { (v : Verifies) (absent : Refused) (type : RoleType) (p : Policy) (text : List ℕ)
+        (ss : List SignatureDoc)
+        → (verdict v absent type (Some p) (Some text) ss ≡ Ok tt) ↔ Reaches v p text ss }
 {}
 
 /// What reading says of a signed root is an equation on its plain form.
@@ -66,16 +68,22 @@ pub fn signed_snapshot()
 
 /// A role whose signatures verify holds no float, so its document has a compact text.
 pub fn verified_is_written()
-    ensures root { (v : Verifies) (p : Option Policy) (s : SignedDoc RootDoc)
-        → verdict v p (text_by root_json s.role) s.signatures ≡ Ok tt → AreSpelled s.signatures
+    ensures root { (v : Verifies) (absent : Refused) (type : RoleType) (p : Option Policy)
+        (s : SignedDoc RootDoc)
+        → verdict v absent type p (text_by root_json s.role) s.signatures ≡ Ok tt
+        → AreSpelled s.signatures
         → (text : List ℕ)
         × (option_and_then (text_in forms.Compact) (signed_json root_json s) ≡ Some text) }
-    ensures timestamp { (v : Verifies) (p : Option Policy) (s : SignedDoc TimestampDoc)
-        → verdict v p (text_by timestamp_json s.role) s.signatures ≡ Ok tt → AreSpelled s.signatures
+    ensures timestamp { (v : Verifies) (absent : Refused) (type : RoleType) (p : Option Policy)
+        (s : SignedDoc TimestampDoc)
+        → verdict v absent type p (text_by timestamp_json s.role) s.signatures ≡ Ok tt
+        → AreSpelled s.signatures
         → (text : List ℕ)
         × (option_and_then (text_in forms.Compact) (signed_json timestamp_json s) ≡ Some text) }
-    ensures snapshot { (v : Verifies) (p : Option Policy) (s : SignedDoc SnapshotDoc)
-        → verdict v p (text_by snapshot_json s.role) s.signatures ≡ Ok tt → AreSpelled s.signatures
+    ensures snapshot { (v : Verifies) (absent : Refused) (type : RoleType) (p : Option Policy)
+        (s : SignedDoc SnapshotDoc)
+        → verdict v absent type p (text_by snapshot_json s.role) s.signatures ≡ Ok tt
+        → AreSpelled s.signatures
         → (text : List ℕ)
         × (option_and_then (text_in forms.Compact) (signed_json snapshot_json s) ≡ Some text) }
 {}

@@ -14,7 +14,7 @@ use crate::root::{RoleKeys, Root};
 use serde_json::{Map, Value};
 use std::alloc::Global;
 use std::collections::BTreeMap;
-use tough_base::{DecodeError, Decoded, Hex};
+use tough_decoded::{DecodeError, Decoded, Hex};
 use tough_json::error::{ReadError, WriteError, member_shape, shape, within};
 use tough_json::list::list;
 use tough_json::member::{positive, take, truth};

@@ -17,7 +17,7 @@ use crate::role_type::RoleType;
 use serde_json::Value;
 use std::alloc::{AllocError, Global};
 use std::num::NonZeroU64;
-use tough_json::borrowed::{Borrowed, value_in};
+use tough_json::borrowed::Borrowed;
 use tough_json::error::{ReadError, WriteError};
 use tough_json::{Form, PieceError};
 use tough_keys::text_of;
@@ -45,25 +45,13 @@ pub trait Role {
 
     ghost id: { Self → RoleIdDoc };
 
-    /// The role that the value is; `Shape` where it is none.
-    fn from_value(alloc: Global, value: Value) -> Result<Self, ReadError>
-        ensures read { ReadsValue is_read is_refused result (view value) }
-        ensures kept { IfOk result is_kept }
-        ensures fresh { IfOk result is_fresh };
-
-    /// The role that the JSON is, as `from_value` reads it.
+    /// The role that the JSON is; `Shape` where it is none.
     fn from_borrowed(alloc: Global, value: Borrowed<'_>) -> Result<Self, ReadError>
         ensures read { (d : Data) → of_json (value_view value.entry) ≡ Some d
             → ReadsValue is_read is_refused result d }
         ensures kept { (d : Data) → of_json (value_view value.entry) ≡ Some d
             → IfOk result is_kept }
-        ensures fresh { IfOk result is_fresh }
-    {
-        match value_in(alloc, &value) {
-            Ok(value) => Self::from_value(alloc, value),
-            Err(error) => Err(error),
-        }
-    }
+        ensures fresh { IfOk result is_fresh };
 
     /// The role as JSON, which is read as it; `Unwritable` where it has none.
     fn to_value(&self, alloc: Global) -> Result<Value, WriteError>

@@ -16,7 +16,8 @@ use serde_json::{Map, Value};
 use std::alloc::{AllocError, Global};
 use std::collections::BTreeMap;
 use std::num::NonZeroU64;
-use tough_base::{Decoded, Hex};
+use tough_decoded::{Decoded, Hex};
+use tough_json::borrowed::{Borrowed, value_in};
 use tough_json::error::{ReadError, WriteError};
 use tough_json::text::value_of;
 use tough_keys::Key;
@@ -72,9 +73,14 @@ impl Role for Root {
 
     ghost id = { λ x. standard types.Root };
 
-    fn from_value(alloc: Global, value: Value) -> Result<Root, ReadError> {
-        let root = root_of(alloc, value)?;
-        Ok(root)
+    fn from_borrowed(alloc: Global, value: Borrowed<'_>) -> Result<Root, ReadError> {
+        match value_in(alloc, &value) {
+            Ok(value) => {
+                let root = root_of(alloc, value)?;
+                Ok(root)
+            }
+            Err(error) => Err(error),
+        }
     }
 
     fn to_value(&self, alloc: Global) -> Result<Value, WriteError> {

@@ -1,4 +1,4 @@
-use tough_base::{Decoded, Hex};
+use tough_decoded::{Decoded, Hex};
 
 /// A signature, and the identifier of the key that it is by.
 #[derive(Debug, Drop, PartialEq)]

@@ -1,5 +1,6 @@
-ghost use Rattle.std.specs.Prelude.{◌≡◌, codes, Some, None, ⊤, string_bytes};
+ghost use Rattle.std.specs.Prelude.{◌≡◌, codes, Some, None, ⊤, option_copied, option_map, string_bytes};
 ghost use Rattle.tough_json.specs.Results.{ReadsBytes};
+ghost use Rattle.tough_roles.specs.Timestamp.{metafile_doc, metafile_in};
 ghost use Rattle.tough_roles.specs.Snapshot.{snapshot_doc, snapshot_at, snapshot_json, bare_snapshot};
 ghost use Rattle.std.specs.Int.NonZero.{non_zero_u64_get};
 ghost use Rattle.std.proofs.Common.{rules};
@@ -18,6 +19,7 @@ use serde_json::{Map, Value};
 use std::alloc::{AllocError, Global};
 use std::collections::BTreeMap;
 use std::num::NonZeroU64;
+use tough_json::borrowed::{Borrowed, value_in};
 use tough_json::error::{ReadError, WriteError};
 use tough_json::text::value_of;
 
@@ -32,6 +34,14 @@ pub struct Snapshot {
 }
 
 impl Snapshot {
+    /// What is listed for the file of this name.
+    pub fn metafile(&self, file: &str) -> Option<&Metafile>
+        ensures { option_map metafile_doc (option_copied result)
+            ≡ metafile_in (snapshot_doc self.now).meta file.now }
+    {
+        self.meta.get(file)
+    }
+
     /// A snapshot that tells of no file yet.
     pub fn new(
         alloc: Global,
@@ -89,8 +99,11 @@ impl Role for Snapshot {
 
     ghost id = { λ x. standard types.Snapshot };
 
-    fn from_value(alloc: Global, value: Value) -> Result<Snapshot, ReadError> {
-        snapshot_of(alloc, value)
+    fn from_borrowed(alloc: Global, value: Borrowed<'_>) -> Result<Snapshot, ReadError> {
+        match value_in(alloc, &value) {
+            Ok(value) => snapshot_of(alloc, value),
+            Err(error) => Err(error),
+        }
     }
 
     fn to_value(&self, alloc: Global) -> Result<Value, WriteError> {

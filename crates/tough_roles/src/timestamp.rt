@@ -1,6 +1,6 @@
-ghost use Rattle.std.specs.Prelude.{◌≡◌, codes, Some, None, ⊤, string_bytes};
+ghost use Rattle.std.specs.Prelude.{◌≡◌, codes, Some, None, ⊤, option_copied, option_map, string_bytes};
 ghost use Rattle.tough_json.specs.Results.{ReadsBytes};
-ghost use Rattle.tough_roles.specs.Timestamp.{timestamp_doc, timestamp_at, timestamp_json, bare_timestamp};
+ghost use Rattle.tough_roles.specs.Timestamp.{metafile_doc, metafile_in, timestamp_doc, timestamp_at, timestamp_json, bare_timestamp};
 ghost use Rattle.std.specs.Int.NonZero.{non_zero_u64_get};
 ghost use Rattle.std.proofs.Common.{rules};
 ghost use Rattle.tough_roles.specs.RoleId.{standard};
@@ -15,7 +15,8 @@ use serde_json::{Map, Value};
 use std::alloc::{AllocError, Global};
 use std::collections::BTreeMap;
 use std::num::NonZeroU64;
-use tough_base::{Decoded, Hex};
+use tough_decoded::{Decoded, Hex};
+use tough_json::borrowed::{Borrowed, value_in};
 use tough_json::error::{ReadError, WriteError};
 use tough_json::text::value_of;
 
@@ -46,6 +47,14 @@ pub struct Timestamp {
 }
 
 impl Timestamp {
+    /// What is listed for the file of this name.
+    pub fn metafile(&self, file: &str) -> Option<&Metafile>
+        ensures { option_map metafile_doc (option_copied result)
+            ≡ metafile_in (timestamp_doc self.now).meta file.now }
+    {
+        self.meta.get(file)
+    }
+
     /// A timestamp that tells of no file yet.
     pub fn new(
         alloc: Global,
@@ -102,8 +111,11 @@ impl Role for Timestamp {
 
     ghost id = { λ x. standard types.Timestamp };
 
-    fn from_value(alloc: Global, value: Value) -> Result<Timestamp, ReadError> {
-        timestamp_of(alloc, value)
+    fn from_borrowed(alloc: Global, value: Borrowed<'_>) -> Result<Timestamp, ReadError> {
+        match value_in(alloc, &value) {
+            Ok(value) => timestamp_of(alloc, value),
+            Err(error) => Err(error),
+        }
     }
 
     fn to_value(&self, alloc: Global) -> Result<Value, WriteError> {

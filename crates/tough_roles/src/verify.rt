@@ -1,12 +1,12 @@
 //! Whether a role is signed by enough keys.
 
-ghost use Rattle.std.specs.Prelude.{◌≡◌, ◌≤◌, ◌<◌, ◌&&◌, Some, true, false, IfErr, IfOk, MatchOption, count_by, length};
-ghost use Rattle.std.specs.List.{list_any};
+ghost use Rattle.std.specs.Prelude.{◌≡◌, ◌≤◌, ◌<◌, ◌&&◌, Some, [], true, false, IfOk, MatchOption, count_by, length};
+ghost use Rattle.std.specs.List.{list_any, HoldsAt};
 ghost use Rattle.std.specs.Str.{bytes_eq};
 ghost use Rattle.tough_roles.specs.Signature.{signature_doc, signatures_doc, signed_doc};
 ghost use Rattle.tough_roles.specs.Root.{root_doc, keys_doc, role_keys_doc};
 ghost use Rattle.tough_roles.specs.Policy.{policy, policy_of};
-ghost use Rattle.tough_roles.specs.Verdict.{verdict, Answers, Names, IsOkOrMemory, StandsAgain, some_twice};
+ghost use Rattle.tough_roles.specs.Verdict.{Refused, MissingRole, verdict, again, Answers, IsOkOrMemory, some_twice};
 ghost use Rattle.tough_roles.specs.Counting.{bytes_of, key_of, under, is_valid};
 ghost use Rattle.tough_roles.specs.Chain.{text_by, ReachesUnder};
 
@@ -18,7 +18,7 @@ use crate::signature::Signature;
 use crate::signed::Signed;
 use std::alloc::{AllocError, Global};
 use std::collections::{BTreeMap, BTreeSet};
-use tough_base::{Decoded, Hex};
+use tough_decoded::{Decoded, Hex};
 use tough_json::error::WriteError;
 use tough_keys::{Key, Verify};
 
@@ -81,7 +81,9 @@ fn valid_count<V: Verify>(
 fn repeated(alloc: Global, signatures: &[Signature]) -> Result<Option<usize>, AllocError>
     ensures { IfOk result (λ place. MatchOption place
         (some_twice (signatures_doc signatures.now) ≡ false)
-        (λ i. (i < length signatures.now) × StandsAgain (signatures_doc signatures.now) i
+        (λ i. (i < length signatures.now)
+        × HoldsAt (λ s. again [] (signatures_doc signatures.now) ≡ s.keyid.spelling)
+        (signatures_doc signatures.now) i
         × (some_twice (signatures_doc signatures.now) ≡ true))) }
 {
     let mut seen = BTreeSet::new(alloc);
@@ -104,11 +106,10 @@ fn judge<V: Verify>(
     signatures: &[Signature],
     verifier: &V,
 ) -> Result<(), Error>
-    ensures verdict { Answers result
-        (verdict (V.verifies verifier.now)
+    ensures { (absent : Refused) → Answers result
+        (verdict (V.verifies verifier.now) absent role
         (Some (policy_of (keys_doc known.now.entries) (role_keys_doc keys.now))) (Some text.now)
         (signatures_doc signatures.now)) }
-    ensures named { IfErr result (λ e. Names role (signatures_doc signatures.now) e) }
 {
     let twice = repeated(alloc, signatures)?;
     if let Some(place) = twice {
@@ -136,12 +137,10 @@ pub fn verify_by<T: Role, V: Verify>(
     document: &Signed<T>,
     verifier: &V,
 ) -> Result<(), Error>
-    ensures verdict { Answers result
-        (verdict (V.verifies verifier.now)
+    ensures { (absent : Refused) → Answers result
+        (verdict (V.verifies verifier.now) absent T.TYPE
         (Some (policy_of (keys_doc known.now.entries) (role_keys_doc keys.now)))
         (text_by T.json document.now.signed) (signatures_doc document.now.signatures.items)) }
-    ensures named { IfErr result
-        (λ e. Names T.TYPE (signatures_doc document.now.signatures.items) e) }
 {
     match document.signed.canonical_form(alloc) {
         Ok(text) => {
@@ -168,10 +167,9 @@ fn answer<T: Role, V: Verify>(
     role: &Signed<T>,
     verifier: &V,
 ) -> Result<(), Error>
-    ensures verdict { Answers result
-        (verdict (V.verifies verifier.now) (policy (root_doc root.now) T.TYPE)
-        (text_by T.json role.now.signed) (signatures_doc role.now.signatures.items)) }
-    ensures named { IfErr result (λ e. Names T.TYPE (signatures_doc role.now.signatures.items) e) }
+    ensures { Answers result (verdict (V.verifies verifier.now) (MissingRole T.TYPE) T.TYPE
+        (policy (root_doc root.now) T.TYPE) (text_by T.json role.now.signed)
+        (signatures_doc role.now.signatures.items)) }
 {
     match root.roles.get(&T::TYPE) {
         Some(keys) => verify_by(alloc, &root.keys, keys, role, verifier),
@@ -189,14 +187,13 @@ impl Root {
         verifier: &V,
     ) -> Result<(), Error>
         ensures verdict { Answers result
-            (verdict (V.verifies verifier.now) (policy (root_doc self.now) T.TYPE)
-            (text_by T.json role.now.signed) (signatures_doc role.now.signatures.items)) }
+            (verdict (V.verifies verifier.now) (MissingRole T.TYPE) T.TYPE
+            (policy (root_doc self.now) T.TYPE) (text_by T.json role.now.signed)
+            (signatures_doc role.now.signatures.items)) }
         ensures ok { IfOk result (λ u. ReachesUnder (V.verifies verifier.now) (root_doc self.now)
             T.TYPE T.json (signed_doc (λ x. x) role.now)) }
         ensures only { ReachesUnder (V.verifies verifier.now) (root_doc self.now) T.TYPE T.json
             (signed_doc (λ x. x) role.now) → IsOkOrMemory result }
-        ensures named { IfErr result
-            (λ e. Names T.TYPE (signatures_doc role.now.signatures.items) e) }
     {
         answer(alloc, self, role, verifier)
     }

@@ -16,7 +16,7 @@ use crate::root::{RoleKeys, Root};
 use serde_json::{Map, Value};
 use std::alloc::{AllocError, Global};
 use std::collections::BTreeMap;
-use tough_base::{Decoded, Hex};
+use tough_decoded::{Decoded, Hex};
 use tough_json::error::WriteError;
 use tough_json::write::{copy_members, digits, positive_value, with};
 use tough_keys::Key;

@@ -7,7 +7,8 @@ use Rattle.tough_keys.specs.Same.{Verifies}
 use Rattle.tough_roles.specs.Signature.{SignedDoc}
 use Rattle.tough_roles.specs.Policy.{Policy}
 use Rattle.tough_roles.specs.Chain.{text_by}
-use Rattle.tough_roles.specs.Verdict.{verdict, Answers, IsRefusal, IsOkOrMemory}
+use Rattle.tough_roles.specs.declared.role_type.RoleType.{RoleType}
+use Rattle.tough_roles.specs.Verdict.{RoleNotFound, verdict, Answers, IsRefusal, IsOkOrMemory}
 use Rattle.tough_roles.specs.declared.error.Error.{Error}
 use Rattle.tough_roles.specs.declared.error.Error.TheVariants as errors
 use Rattle.tough_roles.proofs.lemmas.Reached.{reaches-from, reaches-to}
@@ -33,19 +34,19 @@ named-next name rs i r h e t = named_drop name rs i r h e ∙ ap (λ b. if b the
 
 -- ---- the verdict
 
-ok_at : {A : Type 0} (v : Verifies) (holder : DelegationsDoc) (name : List ℕ) (json : A → Option Data) (s : SignedDoc A) (p : Option Policy) (text : Option (List ℕ)) → delegated_policy holder name ≡ p → text_by json s.role ≡ text → verdict v p text s.signatures ≡ Ok tt → ReachesDelegated v holder name json s
+ok_at : {A : Type 0} (v : Verifies) (holder : DelegationsDoc) (name : List ℕ) (type : RoleType) (json : A → Option Data) (s : SignedDoc A) (p : Option Policy) (text : Option (List ℕ)) → delegated_policy holder name ≡ p → text_by json s.role ≡ text → verdict v (RoleNotFound name) type p text s.signatures ≡ Ok tt → ReachesDelegated v holder name json s
 unfolding verdict
-ok_at v holder name json s None text e f h = cc
-ok_at v holder name json s (Some p) None e f h = cc
-ok_at v holder name json s (Some p) (Some t) e f h = record { asked = p; there = e; text = t; canonical = f; reached = reaches-from v p t s.signatures h }
+ok_at v holder name type json s None text e f h = cc
+ok_at v holder name type json s (Some p) None e f h = cc
+ok_at v holder name type json s (Some p) (Some t) e f h = record { asked = p; there = e; text = t; canonical = f; reached = reaches-from v (RoleNotFound name) type p t s.signatures h }
 
-pub ok-delegated : {A : Type 0} (v : Verifies) (holder : DelegationsDoc) (name : List ℕ) (json : A → Option Data) (s : SignedDoc A) (result : Result Unit Error) → Answers result (verdict v (delegated_policy holder name) (text_by json s.role) s.signatures) → IfOk result (λ u. ReachesDelegated v holder name json s)
-ok-delegated v holder name json s (Ok u) h = ok_at v holder name json s (delegated_policy holder name) (text_by json s.role) refl refl h
-ok-delegated v holder name json s (Err e) h = tt
+pub ok-delegated : {A : Type 0} (v : Verifies) (holder : DelegationsDoc) (name : List ℕ) (type : RoleType) (json : A → Option Data) (s : SignedDoc A) (result : Result Unit Error) → Answers result (verdict v (RoleNotFound name) type (delegated_policy holder name) (text_by json s.role) s.signatures) → IfOk result (λ u. ReachesDelegated v holder name json s)
+ok-delegated v holder name type json s (Ok u) h = ok_at v holder name type json s (delegated_policy holder name) (text_by json s.role) refl refl h
+ok-delegated v holder name type json s (Err e) h = tt
 
-reached_ok : {A : Type 0} (v : Verifies) (holder : DelegationsDoc) (name : List ℕ) (json : A → Option Data) (s : SignedDoc A) → ReachesDelegated v holder name json s → verdict v (delegated_policy holder name) (text_by json s.role) s.signatures ≡ Ok tt
-reached_ok v holder name json s r =
-    ap (λ p. verdict v p (text_by json s.role) s.signatures) r.there ∙ ap (λ t. verdict v (Some r.asked) t s.signatures) r.canonical ∙ reaches-to v r.asked r.text s.signatures r.reached
+reached_ok : {A : Type 0} (v : Verifies) (holder : DelegationsDoc) (name : List ℕ) (type : RoleType) (json : A → Option Data) (s : SignedDoc A) → ReachesDelegated v holder name json s → verdict v (RoleNotFound name) type (delegated_policy holder name) (text_by json s.role) s.signatures ≡ Ok tt
+reached_ok v holder name type json s r =
+    ap (λ p. verdict v (RoleNotFound name) type p (text_by json s.role) s.signatures) r.there ∙ ap (λ t. verdict v (RoleNotFound name) type (Some r.asked) t s.signatures) r.canonical ∙ reaches-to v (RoleNotFound name) type r.asked r.text s.signatures r.reached
 
 no_refusal : (e : Error) → IsRefusal e (Ok tt) → IsOkOrMemory (Err e)
 no_refusal (errors.RoleNotFound name) h = cc
@@ -60,5 +61,5 @@ not_refused : (result : Result Unit Error) → Answers result (Ok tt) → IsOkOr
 not_refused (Ok u) h = tt
 not_refused (Err e) h = no_refusal e h
 
-pub delegated-ok : {A : Type 0} (v : Verifies) (holder : DelegationsDoc) (name : List ℕ) (json : A → Option Data) (s : SignedDoc A) (result : Result Unit Error) → Answers result (verdict v (delegated_policy holder name) (text_by json s.role) s.signatures) → ReachesDelegated v holder name json s → IsOkOrMemory result
-delegated-ok v holder name json s result h r = not_refused result (subst (Answers result) (reached_ok v holder name json s r) h)
+pub delegated-ok : {A : Type 0} (v : Verifies) (holder : DelegationsDoc) (name : List ℕ) (type : RoleType) (json : A → Option Data) (s : SignedDoc A) (result : Result Unit Error) → Answers result (verdict v (RoleNotFound name) type (delegated_policy holder name) (text_by json s.role) s.signatures) → ReachesDelegated v holder name json s → IsOkOrMemory result
+delegated-ok v holder name type json s result h r = not_refused result (subst (Answers result) (reached_ok v holder name type json s r) h)

@@ -1,7 +1,7 @@
 -- The roles that a document delegates to, and their keys (TUF specification 1.0, section 4.5, `delegations`).
 use Rattle.std.specs.Prelude.{ℕ, List, [], map, Bool, Option, Some, codes, string_bytes}
 use Rattle.std.specs.Int.NonZero.{non_zero_u64_get}
-use Rattle.tough_base.specs.Spelled.{Spelled}
+use Rattle.tough_decoded.specs.Spelled.{Spelled}
 use Rattle.serde_json.specs.Data.{Data, boolean, string, array, object, no_members}
 use Rattle.serde_json.specs.Find.{as_object}
 use Rattle.tough_json.specs.Reading.{◌>>=◌, required, text, positive, truth, hexadecimal, listing}

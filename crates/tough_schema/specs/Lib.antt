@@ -21,3 +21,7 @@ pub mod FromPath
 pub mod Copying
 pub mod Update
 pub mod Falling
+pub mod Put
+pub mod Putting
+pub mod Measuring
+pub mod Joining

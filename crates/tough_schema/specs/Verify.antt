@@ -1,18 +1,14 @@
 -- What delegations ask of the signatures over a delegated role's document (TUF specification 1.0, sections 4.5 and
 -- 5.6.3).
-use Rattle.std.specs.Prelude.{◌≡◌, ℕ, List, [], ◌∷◌, Option, Some, None, option_map, if◌then◌else◌, string_bytes, ⊤}
+use Rattle.std.specs.Prelude.{◌≡◌, ℕ, List, [], ◌∷◌, Option, Some, None, option_map, if◌then◌else◌}
 use Rattle.std.specs.Str.{bytes_eq}
 use Rattle.serde_json.specs.Data.{Data, no_members}
 use Rattle.tough_keys.specs.Same.{Verifies}
-use Rattle.tough_roles.specs.Signature.{SignatureDoc, SignedDoc}
+use Rattle.tough_roles.specs.Signature.{SignedDoc}
 use Rattle.tough_roles.specs.Root.{RoleKeysDoc}
 use Rattle.tough_roles.specs.Policy.{Policy, policy_of}
 use Rattle.tough_roles.specs.Reaches.{Reaches}
 use Rattle.tough_roles.specs.Chain.{text_by}
-use Rattle.tough_roles.specs.Verdict.{Names}
-use Rattle.tough_roles.specs.declared.role_type.RoleType.{RoleType}
-use Rattle.tough_roles.specs.declared.error.Error.{Error}
-use Rattle.tough_roles.specs.declared.error.Error.TheVariants as errors
 use Rattle.tough_schema.specs.Delegations.{DelegatedRoleDoc, DelegationsDoc}
 
 -- the identifiers that the role lists, and how many of them must sign
@@ -35,12 +31,3 @@ pub record ReachesDelegated {A : Type 0} (verifies : Verifies) (holder : Delegat
   pub text : List ℕ
   pub canonical : text_by json s.role ≡ Some text
   pub reached : Reaches verifies asked text s.signatures
-
--- An error names the role that isn't there, or the kind of role, or an identifier that stands twice.
-abbrev pub NamesDelegated : List ℕ → RoleType → List SignatureDoc → Error → Type 0
-NamesDelegated name asked signatures (errors.RoleNotFound role) = string_bytes role ≡ name
-NamesDelegated name asked signatures (errors.JsonSerialization role) = role ≡ asked
-NamesDelegated name asked signatures (errors.DuplicateKeyId keyid) = Names asked signatures (errors.DuplicateKeyId keyid)
-NamesDelegated name asked signatures (errors.SignatureThreshold role threshold valid) = role ≡ asked
-NamesDelegated name asked signatures errors.Memory = ⊤
-NamesDelegated name asked signatures _ = ⊥

@@ -12,8 +12,8 @@ use crate::target::Target;
 use crate::targets::{DelegatedTargets, Targets};
 use std::alloc::{AllocError, Global};
 use std::collections::BTreeMap;
-use tough_base::TargetName;
 use tough_keys::clone::copy;
+use tough_names::TargetName;
 use tough_roles::Signed;
 use tough_roles::clone::{copy_keyids, copy_keys, copy_signatures};
 

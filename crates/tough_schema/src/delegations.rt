@@ -8,8 +8,9 @@ use crate::targets::DelegatedTargets;
 use std::alloc::Global;
 use std::collections::BTreeMap;
 use std::num::NonZeroU64;
-use tough_base::{Decoded, Hex, PathHashPrefix, PathPattern};
+use tough_decoded::{Decoded, Hex};
 use tough_keys::Key;
+use tough_names::{PathHashPrefix, PathPattern};
 use tough_roles::Signed;
 use tough_roles::keyring::key_id_in;
 

@@ -13,7 +13,7 @@ use crate::delegations::DelegatedRole;
 use crate::target::Target;
 use crate::targets::Targets;
 use std::alloc::AllocError;
-use tough_base::TargetName;
+use tough_names::TargetName;
 
 impl Targets {
     /// Lists the target under the name, in the place of one that stands there. Where there is no memory, nothing is

@@ -2,12 +2,13 @@
 
 ghost use Rattle.std.specs.Prelude.{◌≡◌, ◌≤◌, List, ℕ, Some, true, IfOk};
 ghost use Rattle.tough_files.specs.Contents.{file, Same};
+ghost use Rattle.tough_schema.specs.Measuring.{LooksBy, FeedsBy, ReadsAll, MeasuresBy};
 ghost use Rattle.tough_schema.specs.FileDigest.{file_error, there, Stands, HasRead, Feeds, Measures, MeasuresFile};
 
 use sha2::{Digest, Sha256};
 use std::alloc::AllocError;
 use thiserror::Error;
-use tough_base::{FileKind, Files, FilesError};
+use tough_files::{FileKind, Files, FilesError};
 use tough_roles as schema;
 
 /// The length of a file, and the SHA-256 of its bytes.
@@ -58,6 +59,8 @@ struct Reading {
 // Whether a file stands at the path, links followed.
 fn look<F: Files>(files: &mut F, path: &str) -> Result<(), FileError>
     ensures stands { F.tells ≡ true → Stands (there path.now (F.contents files.old)) result }
+    ensures calls { F.tells ≡ true
+        → LooksBy path.now result (F.calls files.old) (F.calls files.new) }
     ensures kept { F.tells ≡ true → Same (F.contents files.old) (F.contents files.new) }
 {
     match files.kind(path, true) {
@@ -73,6 +76,8 @@ fn feed<F: Files>(files: &mut F, path: &str, reading: &mut Reading) -> Result<us
     ensures feeds { (bytes : List ℕ) → F.tells ≡ true
         → there path.now (F.contents files.old) ≡ Some (file bytes) → HasRead bytes reading.old
         → Feeds bytes reading.old result reading.new }
+    ensures calls { F.tells ≡ true
+        → FeedsBy path.now reading.old result reading.new (F.calls files.old) (F.calls files.new) }
     ensures kept { F.tells ≡ true → Same (F.contents files.old) (F.contents files.new) }
 {
     let mut buf = [0; 4096];
@@ -89,6 +94,8 @@ fn feed<F: Files>(files: &mut F, path: &str, reading: &mut Reading) -> Result<us
 fn read_all<F: Files>(files: &mut F, path: &str) -> Result<Measured, FilesError>
     ensures measured { (bytes : List ℕ) → F.tells ≡ true
         → there path.now (F.contents files.old) ≡ Some (file bytes) → MeasuresFile bytes result }
+    ensures calls { F.tells ≡ true
+        → ReadsAll path.now result (F.calls files.old) (F.calls files.new) }
     ensures kept { F.tells ≡ true → Same (F.contents files.old) (F.contents files.new) }
 {
     let mut reading = Reading {
@@ -109,6 +116,8 @@ fn read_all<F: Files>(files: &mut F, path: &str) -> Result<Measured, FilesError>
 /// The length and the digest of the file at the path, links followed.
 pub fn measure<F: Files>(files: &mut F, path: &str) -> Result<Measured, FileError>
     ensures measured { F.tells ≡ true → Measures (there path.now (F.contents files.old)) result }
+    ensures calls { F.tells ≡ true
+        → MeasuresBy path.now result (F.calls files.old) (F.calls files.new) }
     ensures kept { F.tells ≡ true → Same (F.contents files.old) (F.contents files.new) }
 {
     if let Err(error) = look(files, path) {

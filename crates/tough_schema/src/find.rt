@@ -11,7 +11,7 @@ use crate::target::Target;
 use crate::targets::Targets;
 use std::alloc::{AllocError, Global};
 use std::collections::BTreeSet;
-use tough_base::TargetName;
+use tough_names::TargetName;
 use tough_roles::Error;
 
 #[derive(Drop)]

@@ -9,7 +9,8 @@ use crate::file_digest::{FileError, measure};
 use crate::target::Target;
 use serde_json::Map;
 use std::alloc::Global;
-use tough_base::{Decoded, Files};
+use tough_decoded::Decoded;
+use tough_files::Files;
 use tough_roles::Hashes;
 
 impl Target {

@@ -16,6 +16,7 @@ mod lend;
 mod listing;
 mod matching;
 mod naming;
+mod put;
 mod read_delegations;
 mod read_target;
 mod read_targets;

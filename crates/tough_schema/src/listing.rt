@@ -12,7 +12,7 @@ use crate::target::Target;
 use crate::targets::Targets;
 use std::alloc::{AllocError, Global};
 use std::collections::BTreeMap;
-use tough_base::TargetName;
+use tough_names::TargetName;
 use tough_roles::Error;
 
 // Adds what a document lists, in the order of the names.

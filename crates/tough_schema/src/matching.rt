@@ -7,7 +7,7 @@ ghost use Rattle.tough_schema.specs.Matching.{pattern_matches, prefix_matches, p
 ghost use Rattle.tough_schema.specs.Delegations.{delegated_role_doc, delegations_doc};
 
 use crate::delegations::{DelegatedRole, Delegations, PathSet};
-use tough_base::{PathHashPrefix, PathPattern, TargetName};
+use tough_names::{PathHashPrefix, PathPattern, TargetName};
 
 fn fits(pattern: &PathPattern, name: &TargetName) -> bool
     ensures { result ≡ pattern_matches name.now.resolved pattern.now }

@@ -11,9 +11,9 @@ ghost use Rattle.tough_schema.specs.Delegations.{delegated_role_doc, delegations
 use crate::delegations::{DelegatedRole, Delegations, PathSet};
 use serde_json::{Map, Value};
 use std::alloc::Global;
-use tough_base::{PathHashPrefix, PathPattern, PatternError};
 use tough_json::error::{ReadError, at, member_shape, shape, within};
 use tough_json::member::{positive, present, take, text, truth};
+use tough_names::{PathHashPrefix, PathPattern, PatternError};
 use tough_roles::read_root::{keyids, keys};
 
 // A text as a pattern.

@@ -19,10 +19,10 @@ use crate::targets::Targets;
 use serde_json::{Map, Value};
 use std::alloc::Global;
 use std::collections::BTreeMap;
-use tough_base::{NameError, TargetName};
 use tough_json::borrowed::{Borrowed, in_order, take_member, value_in};
 use tough_json::error::{ReadError, member_shape, shape, within};
 use tough_json::member::take;
+use tough_names::{NameError, TargetName};
 use tough_roles::head::head_of;
 
 // A member as a target under its name.
@@ -39,62 +39,6 @@ fn entry(alloc: Global, raw: &str, value: Value) -> Result<(TargetName, Target),
         Ok(target) => Ok((name, target)),
         Err(error) => Err(within(alloc, raw, error)),
     }
-}
-
-// The members as targets.
-fn listing_of(
-    alloc: Global,
-    members: Map<String, Value>,
-) -> Result<BTreeMap<TargetName, Target>, ReadError>
-    ensures { Reads (λ m. listing_doc m.entries) result
-        (listing_from [] (members_view members.entries)) }
-{
-    let mut targets = BTreeMap::new(alloc);
-    for (raw, value) in members {
-        let (name, target) = entry(alloc, raw.as_str(), value)?;
-        drop(targets.insert(name, target)?);
-    }
-    Ok(targets)
-}
-
-// The targets, which must be there.
-fn listing(
-    alloc: Global,
-    members: &mut Map<String, Value>,
-    name: &str,
-) -> Result<BTreeMap<TargetName, Target>, ReadError>
-    ensures { Takes (λ m. listing_doc m.entries) result (members_view members.new.entries)
-        (required name.now listing_at (members_view members.old.entries)) }
-{
-    match take(members, name) {
-        Some(Value::Object(inner)) => match listing_of(alloc, inner) {
-            Ok(targets) => Ok(targets),
-            Err(error) => Err(within(alloc, name, error)),
-        },
-        _ => Err(member_shape(alloc, name, "(no object)")),
-    }
-}
-
-/// The targets that the value is; `Shape` where it is none.
-#[tactic(auto, unfolding(crate::specs::Targets::targets_at))]
-pub(crate) fn targets_of(alloc: Global, value: Value) -> Result<Targets, ReadError>
-    ensures read { Reads targets_doc result (targets_at (view value)) }
-    ensures fresh { IfOk result IsFresh }
-{
-    let Value::Object(mut members) = value else {
-        return Err(shape(alloc, "(no object)"));
-    };
-    let (spec_version, version, expires) = head_of(alloc, &mut members)?;
-    let targets = listing(alloc, &mut members, "targets")?;
-    let delegations = delegations(alloc, &mut members, "delegations")?;
-    Ok(Targets {
-        spec_version,
-        version,
-        expires,
-        targets,
-        delegations,
-        _extra: members,
-    })
 }
 
 // A member as a target under its name, of which alone a value is made.

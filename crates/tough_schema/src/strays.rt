@@ -14,7 +14,7 @@ use crate::target::Target;
 use crate::targets::Targets;
 use std::alloc::{AllocError, Global};
 use std::collections::{BTreeMap, BTreeSet};
-use tough_base::TargetName;
+use tough_names::TargetName;
 
 // Whether the path sets of all these roles match the name.
 fn all_match(above: &[&DelegatedRole], name: &TargetName) -> bool

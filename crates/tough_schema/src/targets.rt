@@ -9,17 +9,17 @@ ghost use Rattle.tough_schema.specs.Fresh.{IsFresh, IsFreshDelegated};
 ghost use Rattle.tough_schema.specs.Targets.{targets_doc, delegated_doc, delegated_name, delegated_file, delegated_id, targets_at, targets_json, bare_targets, KeysAreOwn};
 
 use crate::delegations::Delegations;
-use crate::read_targets::{targets_in, targets_of};
+use crate::read_targets::targets_in;
 use crate::target::Target;
 use crate::write_targets::{targets_text, targets_value};
 use serde_json::{Map, Value};
 use std::alloc::{AllocError, Global};
 use std::collections::BTreeMap;
 use std::num::NonZeroU64;
-use tough_base::{TargetName, encode_filename};
 use tough_json::borrowed::{Borrowed, Scratch, borrowed};
 use tough_json::error::{ReadError, WriteError};
 use tough_json::{Form, PieceError};
+use tough_names::{TargetName, encode_filename};
 use tough_roles::names::file_name;
 use tough_roles::{Role, RoleId, RoleType};
 
@@ -123,11 +123,6 @@ impl Role for Targets {
 
     ghost id = { λ x. standard types.Targets };
 
-    fn from_value(alloc: Global, value: Value) -> Result<Targets, ReadError> {
-        let targets = targets_of(alloc, value)?;
-        Ok(targets)
-    }
-
     fn from_borrowed(alloc: Global, value: Borrowed<'_>) -> Result<Targets, ReadError> {
         match targets_in(alloc, value) {
             Ok(targets) => Ok(targets),
@@ -185,14 +180,6 @@ impl Role for DelegatedTargets {
         (delegated_file (delegated_name x)) };
 
     ghost id = { λ x. delegated_id (delegated_name x) };
-
-    fn from_value(alloc: Global, value: Value) -> Result<DelegatedTargets, ReadError> {
-        let targets = targets_of(alloc, value)?;
-        Ok(DelegatedTargets {
-            name: String::new(alloc),
-            targets,
-        })
-    }
 
     fn from_borrowed(alloc: Global, value: Borrowed<'_>) -> Result<DelegatedTargets, ReadError> {
         match targets_in(alloc, value) {

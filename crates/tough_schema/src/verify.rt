@@ -1,12 +1,12 @@
 //! Whether a delegated role's document is signed by enough keys.
 
-ghost use Rattle.std.specs.Prelude.{◌≡◌, Some, None, IfOk, IfErr, option_map, map};
+ghost use Rattle.std.specs.Prelude.{◌≡◌, Some, None, IfOk, option_map, map};
 ghost use Rattle.tough_roles.specs.Root.{role_keys_doc};
 ghost use Rattle.tough_roles.specs.Signature.{signatures_doc, signed_doc};
-ghost use Rattle.tough_roles.specs.Verdict.{verdict, Answers, IsOkOrMemory};
+ghost use Rattle.tough_roles.specs.Verdict.{RoleNotFound, verdict, Answers, IsOkOrMemory};
 ghost use Rattle.tough_roles.specs.Chain.{text_by};
 ghost use Rattle.tough_schema.specs.Delegations.{delegated_role_doc, delegations_doc};
-ghost use Rattle.tough_schema.specs.Verify.{role_keys, role_named, delegated_policy, ReachesDelegated, NamesDelegated};
+ghost use Rattle.tough_schema.specs.Verify.{role_keys, role_named, delegated_policy, ReachesDelegated};
 
 use crate::delegations::{DelegatedRole, Delegations};
 use serde_json::Map;
@@ -49,12 +49,9 @@ fn answer<T: Role, V: Verify>(
     name: &str,
     verifier: &V,
 ) -> Result<(), Error>
-    ensures verdict { Answers result
-        (verdict (V.verifies verifier.now)
+    ensures { Answers result (verdict (V.verifies verifier.now) (RoleNotFound name.now) T.TYPE
         (delegated_policy (delegations_doc delegations.now) name.now)
         (text_by T.json document.now.signed) (signatures_doc document.now.signatures.items)) }
-    ensures named { IfErr result
-        (λ e. NamesDelegated name.now T.TYPE (signatures_doc document.now.signatures.items) e) }
 {
     match first_named(&delegations.roles, name) {
         Some(role) => {
@@ -68,6 +65,14 @@ fn answer<T: Role, V: Verify>(
 }
 
 impl Delegations {
+    /// The first role of the name.
+    pub fn first_role(&self, name: &str) -> Option<&DelegatedRole>
+        ensures { option_map (λ r. delegated_role_doc r.now) result
+            ≡ role_named name.now (delegations_doc self.now).roles }
+    {
+        first_named(&self.roles, name)
+    }
+
     /// Whether the document's signatures reach the threshold of the first role of the name. The refusals, in this order:
     /// `RoleNotFound`, `JsonSerialization`, `DuplicateKeyId`, `SignatureThreshold`.
     pub fn verify_role<T: Role, V: Verify>(
@@ -78,15 +83,13 @@ impl Delegations {
         verifier: &V,
     ) -> Result<(), Error>
         ensures verdict { Answers result
-            (verdict (V.verifies verifier.now)
+            (verdict (V.verifies verifier.now) (RoleNotFound name.now) T.TYPE
             (delegated_policy (delegations_doc self.now) name.now)
             (text_by T.json document.now.signed) (signatures_doc document.now.signatures.items)) }
         ensures ok { IfOk result (λ u. ReachesDelegated (V.verifies verifier.now)
             (delegations_doc self.now) name.now T.json (signed_doc (λ x. x) document.now)) }
         ensures only { ReachesDelegated (V.verifies verifier.now) (delegations_doc self.now)
             name.now T.json (signed_doc (λ x. x) document.now) → IsOkOrMemory result }
-        ensures named { IfErr result
-            (λ e. NamesDelegated name.now T.TYPE (signatures_doc document.now.signatures.items) e) }
     {
         answer(alloc, self, document, name, verifier)
     }

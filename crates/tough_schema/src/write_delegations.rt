@@ -12,9 +12,9 @@ ghost use Rattle.tough_schema.specs.Targets.{KeysRise};
 use crate::delegations::{DelegatedRole, Delegations, PathSet};
 use serde_json::{Map, Value};
 use std::alloc::{AllocError, Global};
-use tough_base::{PathHashPrefix, PathPattern};
 use tough_json::error::WriteError;
 use tough_json::write::{positive_value, with, with_text};
+use tough_names::{PathHashPrefix, PathPattern};
 use tough_roles::write_root::{keyid_values, keys_value};
 
 // The JSON of a text.

@@ -19,11 +19,11 @@ use crate::write_target::target_value;
 use serde_json::{Map, Value};
 use std::alloc::Global;
 use std::collections::BTreeMap;
-use tough_base::TargetName;
 use tough_json::error::WriteError;
 use tough_json::pieces::object_with;
 use tough_json::write::{copy_members, with, with_optional};
 use tough_json::{Form, ObjectText, PieceError};
+use tough_names::TargetName;
 use tough_roles::head::with_head;
 
 // Each target under its name.

@@ -1,7 +1,7 @@
 -- Lists of keys, side by side.
 use Rattle.std.proofs.Common.{◌≡◌, ℕ, zero, suc, ◌+◌, ◌<◌, List, [], ◌∷◌, length, drop, get_or, Some, Bool, true, false, not, ◌&&◌, refl, sym, ap, ◌∙◌, add-one, arith}
 use Rattle.std.proofs.Math.Seq.{drop-nil}
-use Rattle.tough_base.specs.Spelled.{Spelled}
+use Rattle.tough_decoded.specs.Spelled.{Spelled}
 use Rattle.tough_keys.specs.Key.{KeyDoc}
 use Rattle.tough_roles.specs.Root.{key_under}
 use Rattle.tough_keys.specs.Equal.{same_doc}

@@ -6,10 +6,10 @@ use Rattle.tough_names.specs.Named.{Named}
 use Rattle.tough_json.specs.declared.error.ReadError.TheVariants.{Shape}
 use Rattle.tough_net.specs.declared.error.TransportError.{TransportError}
 use Rattle.tough_roles.specs.declared.role_type.RoleType.{RoleType}
-use Rattle.tough_roles.specs.Verdict.{Refused}
+use Rattle.tough_roles.specs.Verdict.{Refused, refused}
 use Rattle.tough_roles.specs.declared.error.Error as schema
 use Rattle.tough_roles.specs.declared.error.Error.TheVariants as schemas
-use Rattle.tough_checks.specs.Checks.{Reason, refused, reason_of}
+use Rattle.tough_checks.specs.Checks.{Reason, reason_of}
 use Rattle.tough_checks.specs.declared.checks.StepError.{StepError}
 use Rattle.tough_checks.specs.declared.checks.StepError.TheVariants as steps
 use Rattle.tough_trust.specs.declared.error.UpdateError.{UpdateError}
@@ -50,6 +50,14 @@ abbrev pub name_missing : schema.Error → Option Named
 name_missing (schemas.TargetNotFound name) = Some name
 name_missing _ = None
 
+-- why a step failed
+abbrev pub step_failure : StepError → Failure
+step_failure (steps.Refused refusal) = Checked (reason_of refusal)
+step_failure (steps.DatastoreOpen path) = DatastoreOpen (string_bytes path)
+step_failure (steps.DatastoreCreate path) = DatastoreCreate (string_bytes path)
+step_failure (steps.DatastoreRemove path) = DatastoreRemove (string_bytes path)
+step_failure steps.Memory = Memory
+
 abbrev pub failure_of : UpdateError → Failure
 failure_of (error.ParseTrustedMetadata source) = ParseTrustedMetadata (is_json source)
 failure_of (error.VerifyTrustedMetadata source) = VerifyTrustedMetadata (refused source)
@@ -59,10 +67,7 @@ failure_of (error.ParseUrl url source) = ParseUrl (string_bytes url) source
 failure_of (error.JoinUrl path source) = JoinUrl (string_bytes path) source
 failure_of (error.Transport source) = Transport source
 failure_of (error.InvalidPath source) = InvalidPath (name_missing source)
-failure_of (error.Refused refusal) = Checked (reason_of refusal)
-failure_of (error.DatastoreOpen path) = DatastoreOpen (string_bytes path)
-failure_of (error.DatastoreCreate path) = DatastoreCreate (string_bytes path)
-failure_of (error.DatastoreRemove path) = DatastoreRemove (string_bytes path)
+failure_of (error.Step e) = step_failure e
 failure_of error.Memory = Memory
 
 -- a refusal is this failure; want of memory may come in its place
@@ -74,15 +79,3 @@ IsRefused failure answer = answer ≡ Err failure
 abbrev pub Gives : {X A : Type 0} → (X → A) → Result A Failure → Result X UpdateError → Type 0
 Gives view answer (Ok x) = answer ≡ Ok (view x)
 Gives view answer (Err e) = IsRefused (failure_of e) answer
-
--- the error that a refused step is
-abbrev pub error_of : StepError → UpdateError
-error_of (steps.Refused r) = error.Refused r
-error_of (steps.DatastoreOpen path) = error.DatastoreOpen path
-error_of (steps.DatastoreCreate path) = error.DatastoreCreate path
-error_of (steps.DatastoreRemove path) = error.DatastoreRemove path
-error_of steps.Memory = error.Memory
-
--- its failure
-abbrev pub step_failure : StepError → Failure
-step_failure e = failure_of (error_of e)

@@ -1,5 +1,6 @@
 pub mod delegations
 pub mod Failure
+pub mod Wide
 pub mod Outcomes
 pub mod Faults
 pub mod Requests

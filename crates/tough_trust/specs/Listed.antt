@@ -5,13 +5,12 @@ use Rattle.tough_keys.specs.Same.{Verifies}
 use Rattle.tough_roles.specs.Signature.{SignedDoc, signed_at, signed_json}
 use Rattle.tough_roles.specs.Root.{RootDoc}
 use Rattle.tough_roles.specs.Policy.{Policy, policy, policy_of}
-use Rattle.tough_roles.specs.Verdict.{Names, Refused, verdict}
+use Rattle.tough_roles.specs.Verdict.{Refused, MissingRole, RoleNotFound, verdict}
 use Rattle.tough_roles.specs.Chain.{text_by}
 use Rattle.tough_roles.specs.declared.role_type.RoleType.TheVariants as role
-use Rattle.tough_roles.specs.declared.error.Error.{Error}
 use Rattle.tough_schema.specs.Delegations.{DelegationsDoc, DelegatedRoleDoc}
 use Rattle.tough_schema.specs.Targets.{TargetsDoc, targets_at, targets_json}
-use Rattle.tough_schema.specs.Verify.{NamesDelegated, role_named, role_keys}
+use Rattle.tough_schema.specs.Verify.{role_named, role_keys}
 use Rattle.tough_schema.specs.Whole.{TreeDoc}
 use Rattle.tough_trust.specs.delegations.Bare.{bare}
 use Rattle.tough_names.specs.Named.{Named}
@@ -47,13 +46,13 @@ abbrev pub holder_in : RootDoc → Option HolderDoc → HolderDoc
 holder_in root None = by_root root
 holder_in root (Some h) = h
 
-abbrev pub targets_verdict : Verifies → HolderDoc → SignedDoc TargetsDoc → Result Unit Refused
-targets_verdict verifies holder d = verdict verifies (policy_in holder) (text_by targets_json d.role) d.signatures
+-- what is refused where they have no such role
+abbrev pub absent_in : HolderDoc → Refused
+absent_in (by_root root) = MissingRole role.Targets
+absent_in (by_role g r name) = RoleNotFound name
 
--- what an error of their verification names: the role, or an identifier that stands twice
-abbrev pub NamesHeld : HolderDoc → SignedDoc TargetsDoc → Error → Type 0
-NamesHeld (by_root root) d e = Names role.Targets d.signatures e
-NamesHeld (by_role g r name) d e = NamesDelegated name role.Targets d.signatures e
+abbrev pub targets_verdict : Verifies → HolderDoc → SignedDoc TargetsDoc → Result Unit Refused
+targets_verdict verifies holder d = verdict verifies (absent_in holder) role.Targets (policy_in holder) (text_by targets_json d.role) d.signatures
 
 -- The check that refuses them, if one does: they must reach the threshold, have the listed version, and not be expired when the update
 -- began.

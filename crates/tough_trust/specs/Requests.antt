@@ -6,7 +6,7 @@ use Rattle.sha2.specs.Sha256.{sha256}
 use Rattle.tough_roles.specs.Names.{versioned, file_name}
 use Rattle.tough_roles.specs.Timestamp.{HashesDoc, MetafileDoc}
 use Rattle.tough_schema.specs.Targets.{delegated_file}
-use Rattle.tough_trust.specs.declared.limits.Limits.{Limits}
+use Rattle.tough_net.specs.declared.limits.Limits.{Limits}
 
 -- a file that is to be fetched; the specifier says where the bound on its length comes from
 pub record RequestDoc : Type 0 where

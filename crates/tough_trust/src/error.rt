@@ -1,7 +1,8 @@
 //! Why an update failed.
 
 ghost use Rattle.std.specs.Prelude.{◌≡◌};
-ghost use Rattle.tough_trust.specs.declared.error.UpdateError.TheVariants.{Memory, Refused};
+ghost use Rattle.tough_checks.specs.declared.checks.StepError.TheVariants.{Refused};
+ghost use Rattle.tough_trust.specs.declared.error.UpdateError.TheVariants.{Memory, Step};
 
 use std::alloc::AllocError;
 use tough_net::TransportError;
@@ -66,27 +67,9 @@ pub enum UpdateError {
         /// What was wrong.
         source: schema::Error,
     },
-    /// A check refused: of a step on the store, or of a document that is stored by none.
+    /// A step on the store was refused, or a check of a document that no step makes.
     #[error("{0}")]
-    Refused(Refusal),
-    /// The store couldn't read a file.
-    #[error("Failed to open {path} in the store")]
-    DatastoreOpen {
-        /// The file's name.
-        path: String,
-    },
-    /// The store couldn't write a file.
-    #[error("Failed to write {path} in the store")]
-    DatastoreCreate {
-        /// The file's name.
-        path: String,
-    },
-    /// The store couldn't remove a file.
-    #[error("Failed to remove {path} from the store")]
-    DatastoreRemove {
-        /// The file's name.
-        path: String,
-    },
+    Step(StepError),
     /// A request for memory was refused.
     #[error("out of memory")]
     Memory,
@@ -101,25 +84,17 @@ impl From<AllocError> for UpdateError {
 }
 
 impl From<StepError> for UpdateError {
-    ghost use Rattle.tough_trust.specs.Failure.{error_of};
-
-    ghost from_gives = { λ s e. e ≡ error_of s };
+    ghost from_gives = { λ s e. e ≡ Step s };
 
     fn from(error: StepError) -> UpdateError {
-        match error {
-            StepError::Refused(refusal) => UpdateError::Refused(refusal),
-            StepError::DatastoreOpen { path } => UpdateError::DatastoreOpen { path },
-            StepError::DatastoreCreate { path } => UpdateError::DatastoreCreate { path },
-            StepError::DatastoreRemove { path } => UpdateError::DatastoreRemove { path },
-            StepError::Memory => UpdateError::Memory,
-        }
+        UpdateError::Step(error)
     }
 }
 
 impl From<Refusal> for UpdateError {
-    ghost from_gives = { λ r e. e ≡ Refused r };
+    ghost from_gives = { λ r e. e ≡ Step (Refused r) };
 
     fn from(refusal: Refusal) -> UpdateError {
-        UpdateError::Refused(refusal)
+        UpdateError::Step(StepError::Refused(refusal))
     }
 }

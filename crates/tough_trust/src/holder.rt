@@ -1,27 +1,23 @@
 //! Whether targets are taken: those of a repository, and those of a delegated role (TUF specification 5.6).
 
-ghost use Rattle.std.specs.Prelude.{◌≡◌, Err, IfErr, Some, option_map};
+ghost use Rattle.std.specs.Prelude.{◌≡◌, option_map};
 ghost use Rattle.tough_roles.specs.Signature.{signed_doc};
 ghost use Rattle.tough_roles.specs.Root.{root_doc};
 ghost use Rattle.tough_roles.specs.Verdict.{Answers};
 ghost use Rattle.tough_checks.specs.Checks.{Checked, enforces};
-ghost use Rattle.tough_checks.specs.declared.checks.Refusal.TheVariants.{VerifyMetadata};
-ghost use Rattle.tough_checks.specs.declared.checks.StepError.TheVariants as step;
 ghost use Rattle.tough_schema.specs.Targets.{targets_doc};
 ghost use Rattle.tough_schema.specs.Whole.{tree_doc};
 ghost use Rattle.tough_schema.specs.Entries.{first_missing};
 ghost use Rattle.tough_trust.specs.Failure.{Gives};
-ghost use Rattle.tough_trust.specs.declared.error.UpdateError.TheVariants.{Refused};
-ghost use Rattle.tough_trust.specs.Listed.{targets_in, holder_in, targets_verdict, NamesHeld, targets_refusal, judged, all_found};
+ghost use Rattle.tough_trust.specs.Listed.{holder_in, targets_verdict, targets_refusal, judged, all_found};
 ghost use Rattle.tough_trust.specs.View.{holder_doc, role_holder_doc};
 
 use crate::error::UpdateError;
-use jiff::Timestamp as Instant;
 use std::alloc::Global;
 use tough_roles::verify::verify_by;
 use tough_roles::{self as schema, ReadError, RoleType, Root, Signed, Verify};
 use tough_schema::{DelegatedRole, Delegations, Targets};
-use tough_vault::{ExpirationEnforcement, StepError, check_expiry, check_signed, check_version};
+use tough_vault::{Checker, StepError, check_expiry, check_signed, check_version};
 
 /// Who vouches for the document of a delegated role: the delegations that the role stands in, and of these the role that says which keys
 /// sign for its name, where there is one.
@@ -64,10 +60,8 @@ impl RoleHolder<'_> {
         targets: &Signed<Targets>,
         verifier: &V,
     ) -> Result<(), schema::Error>
-        ensures verdict { Answers result (targets_verdict (V.verifies verifier.now)
+        ensures { Answers result (targets_verdict (V.verifies verifier.now)
             (role_holder_doc self.now) (signed_doc targets_doc targets.now)) }
-        ensures named { IfErr result
-            (λ e. NamesHeld (role_holder_doc self.now) (signed_doc targets_doc targets.now) e) }
     {
         if let Some(delegations) = self.delegations {
             if let Some(role) = self.role {
@@ -89,10 +83,8 @@ impl Holder<'_> {
         targets: &Signed<Targets>,
         verifier: &V,
     ) -> Result<(), schema::Error>
-        ensures verdict { Answers result (targets_verdict (V.verifies verifier.now)
+        ensures { Answers result (targets_verdict (V.verifies verifier.now)
             (holder_doc self.now) (signed_doc targets_doc targets.now)) }
-        ensures named { IfErr result
-            (λ e. NamesHeld (holder_doc self.now) (signed_doc targets_doc targets.now) e) }
     {
         match self {
             Holder::Root(root) => root.verify_role(alloc, targets, verifier),
@@ -103,47 +95,43 @@ impl Holder<'_> {
 
 // Targets reach the holder's threshold, have the listed version and aren't expired.
 fn check<V: Verify>(
-    alloc: Global,
-    enforcement: ExpirationEnforcement,
-    start: Instant,
+    checker: &Checker<'_, V>,
     holder: &Holder<'_>,
     listed: u64,
     targets: &Signed<Targets>,
-    verifier: &V,
 ) -> Result<(), StepError>
-    ensures answer { Checked (targets_refusal (V.verifies verifier.now) (enforces enforcement)
-        start.nanosecond (holder_doc holder.now) listed
-        (signed_doc targets_doc targets.now)) result }
-    ensures named { (role : _) (source : _)
-        → result ≡ Err (step.Refused (VerifyMetadata role source))
-        → NamesHeld (holder_doc holder.now) (signed_doc targets_doc targets.now) source }
+    ensures { Checked (targets_refusal (V.verifies checker.now.verifier.now)
+        (enforces checker.now.enforcement) checker.now.start.nanosecond (holder_doc holder.now)
+        listed (signed_doc targets_doc targets.now)) result }
 {
     let role = RoleType::Targets;
-    check_signed(role, holder.verify(alloc, targets, verifier))?;
+    check_signed(
+        role,
+        holder.verify(checker.alloc, targets, checker.verifier),
+    )?;
     check_version(role, targets.signed.version.get(), listed)?;
-    Ok(check_expiry(role, enforcement, start, targets.signed.expires)?)
+    Ok(check_expiry(
+        role,
+        checker.enforcement,
+        checker.start,
+        targets.signed.expires,
+    )?)
 }
 
 /// Reads targets, and checks them in this order: `ParseMetadata` where the bytes are no signed targets, `VerifyMetadata` where they don't
 /// reach the holder's threshold, `VersionMismatch` where they haven't the listed version, `ExpiredMetadata` where the update began after
 /// they expired (TUF specification 5.6).
-pub fn judge<V: Verify>(
-    alloc: Global,
-    enforcement: ExpirationEnforcement,
-    start: Instant,
+pub fn read_targets<V: Verify>(
+    checker: &Checker<'_, V>,
     holder: &Holder<'_>,
     listed: u64,
     bytes: &[u8],
-    verifier: &V,
 ) -> Result<Signed<Targets>, UpdateError>
-    ensures answer { Gives (signed_doc tree_doc)
-        (judged (V.verifies verifier.now) (enforces enforcement) start.nanosecond
-        (holder_doc holder.now) listed bytes.now) result }
-    ensures named { (page : _) (role : _) (source : _) → targets_in bytes.now ≡ Some page
-        → result ≡ Err (Refused (VerifyMetadata role source))
-        → NamesHeld (holder_doc holder.now) page source }
+    ensures { Gives (signed_doc tree_doc)
+        (judged (V.verifies checker.now.verifier.now) (enforces checker.now.enforcement)
+        checker.now.start.nanosecond (holder_doc holder.now) listed bytes.now) result }
 {
-    let targets = match Signed::<Targets>::read(alloc, bytes) {
+    let targets = match Signed::<Targets>::read(checker.alloc, bytes) {
         Ok(targets) => targets,
         Err(ReadError::Memory) => return Err(UpdateError::Memory),
         Err(source) => {
@@ -153,18 +141,8 @@ pub fn judge<V: Verify>(
             });
         }
     };
-    match check(
-        alloc,
-        enforcement,
-        start,
-        holder,
-        listed,
-        &targets,
-        verifier,
-    ) {
-        Ok(()) => Ok(targets),
-        Err(error) => Err(UpdateError::from(error)),
-    }
+    check(checker, holder, listed, &targets)?;
+    Ok(targets)
 }
 
 /// Each name that a document of the tree lists is found by the permissive search for it, or else `InvalidPath` tells the first that isn't.

@@ -8,24 +8,24 @@ mod error;
 mod fault;
 mod holder;
 mod keeper;
-mod limits;
 mod listed;
 mod request;
 mod rotation;
 mod timely;
 mod walk;
+mod wide;
 
 pub use act::Act;
 pub use delegations::{Index, roles_of, set_document};
 pub use error::UpdateError;
 pub use fault::Fault;
-pub use holder::{Holder, RoleHolder, check_tree, holder_of, judge};
+pub use holder::{Holder, RoleHolder, check_tree, holder_of, read_targets};
 pub use keeper::{Keeper, take_step};
-pub use limits::Limits;
 pub use listed::listed_target;
 pub use request::{
     Request, role_request, root_request, snapshot_request, targets_request, timestamp_request,
 };
 pub use rotation::is_rotated;
 pub use timely::{Expiry, earliest, note_timely};
+pub use tough_net::Limits;
 pub use walk::{first_root, next_request, next_root, next_version};

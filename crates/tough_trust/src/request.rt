@@ -5,10 +5,10 @@ ghost use Rattle.tough_roles.specs.Timestamp.{metafile_doc, hashes_doc};
 ghost use Rattle.tough_trust.specs.Requests.{stated_digest, bound, targets_specifier, root_request, timestamp_request, snapshot_request, targets_request, role_request, fits_request};
 ghost use Rattle.tough_trust.specs.View.{request_doc};
 
-use crate::limits::Limits;
 use sha2::{Digest, Sha256};
 use std::alloc::{AllocError, Global};
-use tough_base::encode_filename;
+use tough_names::encode_filename;
+use tough_net::Limits;
 use tough_roles::names::{file_name, versioned};
 use tough_roles::{Hashes, Metafile};
 

@@ -9,7 +9,7 @@ ghost use Rattle.tough_roles.specs.Root.{root_doc};
 ghost use Rattle.tough_roles.specs.Keyring.{keys_along};
 ghost use Rattle.tough_trust.specs.Rotation.{key_in, same_keys, ids_of, is_rotated_role, is_rotated};
 
-use tough_base::{Decoded, Hex};
+use tough_decoded::{Decoded, Hex};
 use tough_keys::Key;
 use tough_roles::{RoleType, Root};
 

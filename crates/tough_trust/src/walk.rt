@@ -11,9 +11,9 @@ ghost use Rattle.tough_trust.specs.Walk.{first_root, next_root, root_refusal, ne
 ghost use Rattle.tough_trust.specs.View.{request_doc};
 
 use crate::error::UpdateError;
-use crate::limits::Limits;
 use crate::request::{Request, root_request};
 use std::alloc::Global;
+use tough_net::Limits;
 use tough_roles::{self as schema, ReadError, RoleType, Root, Signed, Verify};
 use tough_vault::{Refusal, StepError, check_signed};
 

@@ -7,9 +7,10 @@ use Rattle.tough_keys.specs.Same.{Verifies}
 use Rattle.tough_roles.specs.Signature.{SignedDoc}
 use Rattle.tough_roles.specs.Timestamp.{TimestampDoc, MetafileDoc}
 use Rattle.tough_roles.specs.declared.role_type.RoleType.TheVariants as role
-use Rattle.tough_checks.specs.Documents.{root_in, timestamp_in, snapshot_in, metafile_in}
+use Rattle.tough_checks.specs.Documents.{root_in, timestamp_in, snapshot_in}
+use Rattle.tough_roles.specs.Timestamp.{metafile_in}
 use Rattle.tough_checks.specs.Files.{snapshot_file, targets_file}
-use Rattle.tough_trust.specs.declared.limits.Limits.{Limits}
+use Rattle.tough_net.specs.declared.limits.Limits.{Limits}
 use Rattle.tough_trust.specs.Failure.{Failure, ParseMetadata}
 use Rattle.tough_trust.specs.Walk.{first_root, next_root}
 use Rattle.tough_trust.specs.Outcomes.{holds_json}

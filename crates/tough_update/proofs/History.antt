@@ -7,7 +7,8 @@ use Rattle.tough_roles.specs.Root.{RootDoc}
 use Rattle.tough_roles.specs.Timestamp.{TimestampDoc, MetafileDoc}
 use Rattle.tough_roles.specs.declared.role_type.RoleType.TheVariants as role
 use Rattle.tough_checks.specs.Checks.{ExpiredMetadata, is_expired}
-use Rattle.tough_checks.specs.Documents.{root_in, timestamp_in, snapshot_in, metafile_in}
+use Rattle.tough_checks.specs.Documents.{root_in, timestamp_in, snapshot_in}
+use Rattle.tough_roles.specs.Timestamp.{metafile_in}
 use Rattle.tough_checks.specs.Files.{snapshot_file, targets_file}
 use Rattle.tough_vault.specs.Act.{Act, ClearRotated, AdvanceSnapshot}
 use Rattle.tough_trust.specs.Failure.{Failure, ParseMetadata, Checked}

@@ -13,14 +13,15 @@ use Rattle.tough_roles.specs.Root.{RootDoc, root_json}
 use Rattle.tough_roles.specs.Timestamp.{MetafileDoc, timestamp_json}
 use Rattle.tough_roles.specs.Snapshot.{snapshot_json}
 use Rattle.tough_roles.specs.Policy.{policy}
-use Rattle.tough_roles.specs.Verdict.{Refused, verdict}
+use Rattle.tough_roles.specs.Verdict.{Refused, MissingRole, RoleNotFound, verdict}
 use Rattle.tough_roles.specs.Chain.{ReachesUnder, text_by}
 use Rattle.tough_roles.specs.declared.role_type.RoleType.{RoleType}
 use Rattle.tough_roles.specs.declared.role_type.RoleType.TheVariants as role
 use Rattle.tough_roles.proofs.lemmas.Reached.{reaches-to}
 use Rattle.tough_schema.specs.Targets.{TargetsDoc, targets_json}
 use Rattle.tough_checks.specs.Checks.{Reason, VersionMismatch, TimestampMetaLength, MissingSnapshotMeta, SnapshotTargetsMetaMissing, ExpiredMetadata, refuse, or_else, is_expired, expiry, verified, timestamp_form, snapshot_form}
-use Rattle.tough_checks.specs.Documents.{root_text, snapshot_verdict, metafile_in}
+use Rattle.tough_checks.specs.Documents.{root_text, snapshot_verdict}
+use Rattle.tough_roles.specs.Timestamp.{metafile_in}
 use Rattle.tough_vault.specs.Steps.{time_text, needs}
 use Rattle.tough_vault.specs.Act.{Act}
 use Rattle.tough_vault.specs.Act as act
@@ -63,9 +64,9 @@ use Rattle.tough_update.specs.Loadable.{Files, Delivers, Gets, refusal_at_first,
 use Rattle.tough_update.proofs.Alike.{not-rotated}
 
 signed-ok : {A : Type 0} (v : Verifies) (holder : RootDoc) (type : RoleType) (json : A → Option Data) (d : SignedDoc A) → ReachesUnder v holder type json d
-    → verdict v (policy holder type) (text_by json d.role) d.signatures ≡ Ok (tt {0})
+    → verdict v (MissingRole type) type (policy holder type) (text_by json d.role) d.signatures ≡ Ok (tt {0})
 signed-ok v holder type json d r =
-    ap (λ p. verdict v p (text_by json d.role) d.signatures) r.there ∙ (ap (λ t. verdict v (Some r.asked) t d.signatures) r.canonical ∙ reaches-to v r.asked r.text d.signatures r.reached)
+    ap (λ p. verdict v (MissingRole type) type p (text_by json d.role) d.signatures) r.there ∙ (ap (λ t. verdict v (MissingRole type) type (Some r.asked) t d.signatures) r.canonical ∙ reaches-to v (MissingRole type) type r.asked r.text d.signatures r.reached)
 
 gets-bytes : (r : RequestDoc) (o : Option (List ℕ)) (bytes : List ℕ) → o ≡ Some bytes → fits_request r bytes ≡ true → (x : AnswerDoc) → Gets r o x → x ≡ got.Bytes bytes
 gets-bytes r o bytes e f x h = subst (λ b. Delivers b bytes x) f (subst (λ p. Gets r p x) e h)
@@ -210,7 +211,7 @@ module _ (v : Verifies) (files : Files) (s : SettingDoc) (l : LoadedDoc) (able :
 
   role-verified : (g : DelegationsDoc) (name : List ℕ) (page : SignedDoc TargetsDoc) → ReachesDelegated v g name targets_json page → targets_verdict v (by_delegations (Some g) name) page ≡ Ok (tt {0})
   role-verified g name page r =
-      ap (λ p. verdict v p (text_by targets_json page.role) page.signatures) r.there ∙ (ap (λ t. verdict v (Some r.asked) t page.signatures) r.canonical ∙ reaches-to v r.asked r.text page.signatures r.reached)
+      ap (λ p. verdict v (RoleNotFound name) role.Targets p (text_by targets_json page.role) page.signatures) r.there ∙ (ap (λ t. verdict v (RoleNotFound name) role.Targets (Some r.asked) t page.signatures) r.canonical ∙ reaches-to v (RoleNotFound name) role.Targets r.asked r.text page.signatures r.reached)
 
   role-checked : (g : DelegationsDoc) (name : List ℕ) (page : SignedDoc TargetsDoc) (u : IsRoleServed v files s l.known g name page) → targets_refusal v s.enforced l.known.start (by_delegations (Some g) name) u.entry.version page ≡ None
   role-checked g name page u =

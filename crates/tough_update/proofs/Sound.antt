@@ -13,7 +13,8 @@ use Rattle.tough_roles.specs.Chain.{text_by, ReachesUnder}
 use Rattle.tough_roles.specs.declared.role_type.RoleType.TheVariants as role
 use Rattle.tough_roles.proofs.lemmas.Reached.{ok-reaches}
 use Rattle.tough_checks.specs.Checks.{expiry, is_expired, snapshot_first}
-use Rattle.tough_checks.specs.Documents.{timestamp_in, snapshot_in, metafile_in, snapshot_verdict}
+use Rattle.tough_checks.specs.Documents.{timestamp_in, snapshot_in, snapshot_verdict}
+use Rattle.tough_roles.specs.Timestamp.{metafile_in}
 use Rattle.tough_checks.specs.Files.{snapshot_file, targets_file}
 use Rattle.tough_trust.specs.Failure.{Failure, ParseMetadata}
 use Rattle.tough_trust.specs.Walk.{first_root, next_root}

@@ -9,7 +9,7 @@ use Rattle.tough_keys.specs.Same.{Verifies}
 use Rattle.tough_roles.specs.declared.role_type.RoleType.TheVariants as role
 use Rattle.tough_checks.specs.Checks.{ExpiredMetadata, is_expired}
 use Rattle.tough_trust.specs.Failure.{Failure, MaxUpdatesExceeded, Checked}
-use Rattle.tough_trust.specs.declared.limits.Limits.{Limits}
+use Rattle.tough_net.specs.declared.limits.Limits.{Limits}
 use Rattle.tough_trust.specs.Outcomes.{unless, if_read, and_then}
 use Rattle.tough_trust.specs.Requests.{RequestDoc, root_request, timestamp_request}
 use Rattle.tough_trust.specs.Rotation.{is_rotated}

@@ -7,9 +7,10 @@ use Rattle.tough_roles.specs.Root.{RootDoc}
 use Rattle.tough_roles.specs.Timestamp.{TimestampDoc, MetafileDoc}
 use Rattle.tough_roles.specs.Snapshot.{SnapshotDoc}
 use Rattle.tough_vault.specs.Act.{Act, AdvanceTimestamp, AdvanceSnapshot}
-use Rattle.tough_checks.specs.Documents.{root_in, metafile_in}
+use Rattle.tough_checks.specs.Documents.{root_in}
+use Rattle.tough_roles.specs.Timestamp.{metafile_in}
 use Rattle.tough_checks.specs.Files.{snapshot_file, targets_file}
-use Rattle.tough_trust.specs.declared.limits.Limits.{Limits}
+use Rattle.tough_net.specs.declared.limits.Limits.{Limits}
 use Rattle.tough_trust.specs.Requests.{RequestDoc, root_request, timestamp_request, snapshot_request, targets_request, role_request}
 use Rattle.tough_update.specs.Stages.{CoreDoc}
 use Rattle.tough_update.specs.Questions.{Question}

@@ -9,7 +9,7 @@ use Rattle.tough_schema.specs.Entries.{first_missing}
 use Rattle.tough_update.specs.delegations.Growing.{Metas, WorkDoc, Progress, wants, grown, first_work, wanted_name, holder_of, with_taken, go_on}
 use Rattle.tough_trust.specs.delegations.Bare.{held_as}
 use Rattle.tough_checks.specs.Files.{time_file, root_file, timestamp_file, snapshot_file, targets_file}
-use Rattle.tough_trust.specs.declared.limits.Limits.{Limits}
+use Rattle.tough_net.specs.declared.limits.Limits.{Limits}
 use Rattle.tough_trust.specs.Failure.{Failure}
 use Rattle.tough_trust.specs.Listed.{HolderDoc, by_delegations, all_found, judged}
 use Rattle.tough_trust.specs.Outcomes.{and_then}

@@ -16,7 +16,8 @@ use Rattle.tough_schema.specs.Verify.{ReachesDelegated}
 use Rattle.tough_schema.specs.Fresh.{carriers_below}
 use Rattle.tough_schema.specs.Whole.{TreeDoc}
 use Rattle.tough_checks.specs.Checks.{Reason, or_else, is_expired}
-use Rattle.tough_checks.specs.Documents.{root_in, root_text, timestamp_in, snapshot_in, metafile_in}
+use Rattle.tough_checks.specs.Documents.{root_in, root_text, timestamp_in, snapshot_in}
+use Rattle.tough_roles.specs.Timestamp.{metafile_in}
 use Rattle.tough_vault.specs.Journal.{Last}
 use Rattle.tough_vault.specs.Step.{Step}
 use Rattle.tough_vault.specs.Steps.{time_text, time_step, root_step, timestamp_step, snapshot_step, document_step}

@@ -7,11 +7,12 @@ use Rattle.tough_roles.specs.Timestamp.{TimestampDoc, MetafileDoc}
 use Rattle.tough_roles.specs.Snapshot.{SnapshotDoc}
 use Rattle.tough_roles.specs.declared.role_type.RoleType.TheVariants as role
 use Rattle.tough_checks.specs.Checks.{MissingSnapshotMeta, SnapshotTargetsMetaMissing, ExpiredMetadata, is_expired}
-use Rattle.tough_checks.specs.Documents.{timestamp_in, snapshot_in, metafile_in}
+use Rattle.tough_checks.specs.Documents.{timestamp_in, snapshot_in}
+use Rattle.tough_roles.specs.Timestamp.{metafile_in}
 use Rattle.tough_checks.specs.Files.{snapshot_file, targets_file}
 use Rattle.tough_vault.specs.Act.{Act}
 use Rattle.tough_vault.specs.Act as act
-use Rattle.tough_trust.specs.declared.limits.Limits.{Limits}
+use Rattle.tough_net.specs.declared.limits.Limits.{Limits}
 use Rattle.tough_trust.specs.declared.fault.Fault.{Fault}
 use Rattle.tough_trust.specs.Failure.{Failure, ParseMetadata, Checked}
 use Rattle.tough_trust.specs.Walk.{first_root, next_root, next_request}

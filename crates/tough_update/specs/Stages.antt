@@ -6,7 +6,7 @@ use Rattle.tough_roles.specs.Timestamp.{TimestampDoc}
 use Rattle.tough_roles.specs.Snapshot.{SnapshotDoc}
 use Rattle.tough_schema.specs.Whole.{TreeDoc}
 use Rattle.tough_update.specs.delegations.Growing.{WorkDoc}
-use Rattle.tough_trust.specs.declared.limits.Limits.{Limits}
+use Rattle.tough_net.specs.declared.limits.Limits.{Limits}
 use Rattle.tough_trust.specs.Failure.{Failure}
 use Rattle.tough_trust.specs.Requests.{RequestDoc}
 

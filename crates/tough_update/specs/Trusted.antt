@@ -8,7 +8,8 @@ use Rattle.tough_roles.specs.Timestamp.{MetafileDoc, timestamp_json}
 use Rattle.tough_roles.specs.Snapshot.{snapshot_json}
 use Rattle.tough_roles.specs.Chain.{ReachesUnder, IsNext}
 use Rattle.tough_roles.specs.declared.role_type.RoleType.TheVariants as role
-use Rattle.tough_checks.specs.Documents.{root_in, metafile_in, snapshot_in}
+use Rattle.tough_checks.specs.Documents.{root_in, snapshot_in}
+use Rattle.tough_roles.specs.Timestamp.{metafile_in}
 use Rattle.tough_schema.specs.Targets.{TargetsDoc, targets_json}
 use Rattle.tough_schema.specs.Delegations.{DelegationsDoc}
 use Rattle.tough_schema.specs.Verify.{ReachesDelegated}

@@ -18,8 +18,8 @@ use crate::turns::Setting;
 use std::alloc::{AllocError, Global};
 use tough_roles::{Signed, Verify};
 use tough_schema::Targets;
-use tough_trust::{Limits, UpdateError, check_tree, holder_of, judge, role_request};
-use tough_vault::DocumentName;
+use tough_trust::{Limits, UpdateError, check_tree, holder_of, read_targets, role_request};
+use tough_vault::{Checker, DocumentName};
 
 // The tree is complete: each name that it lists must be found.
 fn finish(
@@ -147,15 +147,13 @@ pub(crate) fn take_role<V: Verify>(
         (roles_doc roles) listed (string_bytes file) bytes.items) result }
 {
     let holder = holder_of(&known.root.signed, Some(roles.growth.holder()));
-    let targets = match judge(
-        setting.alloc,
-        setting.enforcement,
-        known.start,
-        &holder,
-        listed,
-        bytes.as_slice(),
+    let checker = Checker {
+        alloc: setting.alloc,
         verifier,
-    ) {
+        start: known.start,
+        enforcement: setting.enforcement,
+    };
+    let targets = match read_targets(&checker, &holder, listed, bytes.as_slice()) {
         Ok(targets) => targets,
         Err(error) => return Err(error),
     };

@@ -183,6 +183,29 @@ impl Loaded {
     {
         &self.targets
     }
+
+    /// The four top-level documents: the root, the timestamp, the snapshot and the targets.
+    pub fn into_parts(
+        self,
+    ) -> (
+        Signed<Root>,
+        Signed<Timestamp>,
+        Signed<Snapshot>,
+        Signed<Targets>,
+    )
+        ensures root { result.0 ≡ root_of self }
+        ensures timestamp { result.1 ≡ timestamp_of self }
+        ensures snapshot { result.2 ≡ snapshot_of self }
+        ensures targets { result.3 ≡ targets_of self }
+    {
+        let Loaded {
+            known,
+            targets,
+            received: _,
+        } = self;
+        (known.root, known.timestamp, known.snapshot, targets)
+    }
+
     /// The bytes of the delegated roles' documents, in the order in which they were received; of two of one role the later counts.
     pub fn received(&self) -> &[Received]
         ensures { result.now ≡ received_of self.now }

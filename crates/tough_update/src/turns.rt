@@ -1,13 +1,14 @@
 //! What an answer makes of a stage.
 
-ghost use Rattle.std.specs.Prelude.{◌≡◌, OnOk, IfErr, option_map, option_copied, Ok, Err, string_bytes};
+ghost use Rattle.std.specs.Prelude.{◌≡◌, OnOk, IfErr, Ok, Err, string_bytes};
 ghost use Rattle.tough_keys.specs.Same.{Verifies};
 ghost use Rattle.tough_roles.specs.Signature.{signed_doc};
 ghost use Rattle.tough_roles.specs.Root.{root_doc};
-ghost use Rattle.tough_roles.specs.Timestamp.{timestamp_doc, metafile_doc, metafiles_doc};
+ghost use Rattle.tough_roles.specs.Timestamp.{timestamp_doc};
 ghost use Rattle.tough_roles.specs.Snapshot.{snapshot_doc};
 ghost use Rattle.tough_checks.specs.Checks.{enforces};
-ghost use Rattle.tough_checks.specs.Documents.{metafile_in, timestamp_in, snapshot_in};
+ghost use Rattle.tough_checks.specs.Documents.{timestamp_in, snapshot_in};
+ghost use Rattle.tough_roles.specs.Timestamp.{metafile_in};
 ghost use Rattle.tough_checks.specs.Files.{snapshot_file, targets_file};
 ghost use Rattle.tough_trust.specs.Failure.{Gives};
 ghost use Rattle.tough_trust.specs.Faults.{ends_start, ends_stream};
@@ -22,13 +23,12 @@ use crate::roles::{begin_roles, give_role, take_role};
 use crate::stage::{Base, Known, Pending, Stage, Walk, Wanted};
 use jiff::Timestamp as Instant;
 use std::alloc::Global;
-use std::collections::BTreeMap;
-use tough_roles::{Metafile, ReadError, RoleType, Signed, Snapshot, Timestamp, Verify};
+use tough_roles::{ReadError, RoleType, Signed, Snapshot, Timestamp, Verify};
 use tough_trust::{
-    Fault, Limits, Request, UpdateError, first_root, holder_of, is_rotated, judge, next_request,
-    next_root, snapshot_request, targets_request, timestamp_request,
+    Fault, Limits, Request, UpdateError, first_root, holder_of, is_rotated, next_request,
+    next_root, read_targets, snapshot_request, targets_request, timestamp_request,
 };
-use tough_vault::{ExpirationEnforcement, Refusal, StepError, check_expiry};
+use tough_vault::{Checker, ExpirationEnforcement, Refusal, StepError, check_expiry};
 
 /// What the caller set.
 #[derive(Clone, Copy, Drop)]
@@ -115,7 +115,7 @@ fn end_walk(
 {
     let last = &walk.last().signed;
     if let Err(refusal) = check_expiry(RoleType::Root, enforcement, walk.start, last.expires) {
-        return Err(UpdateError::Refused(refusal));
+        return Err(UpdateError::Step(StepError::Refused(refusal)));
     }
     if is_rotated(&walk.first.signed, last) {
         return Ok(Stage::Step(Pending::Clear(walk.into_base())));
@@ -137,14 +137,6 @@ fn take_timestamp(alloc: Global, base: Base, bytes: &[u8]) -> Result<Stage, Upda
     }
 }
 
-// What is listed for a name.
-fn listed<'a>(meta: &'a BTreeMap<String, Metafile>, name: &str) -> Option<&'a Metafile>
-    ensures { option_map metafile_doc (option_copied result)
-        ≡ metafile_in (metafiles_doc meta.now.entries) name.now }
-{
-    meta.get(name)
-}
-
 /// The timestamp was accepted.
 fn go_to_snapshot(
     alloc: Global,
@@ -156,8 +148,8 @@ fn go_to_snapshot(
         (want_snapshot limits.now (base_doc base) (signed_doc timestamp_doc timestamp)
         (metafile_in (timestamp_doc timestamp.signed).meta snapshot_file)) result }
 {
-    let Some(meta) = listed(&timestamp.signed.meta, "snapshot.json") else {
-        return Err(UpdateError::Refused(Refusal::MissingSnapshotMeta {
+    let Some(meta) = timestamp.signed.metafile("snapshot.json") else {
+        return Err(UpdateError::from(Refusal::MissingSnapshotMeta {
             version: timestamp.signed.version.get(),
         }));
     };
@@ -203,8 +195,8 @@ fn go_to_targets(alloc: Global, limits: &Limits, known: Known) -> Result<Stage, 
         (want_targets limits.now (known_doc known)
         (metafile_in (snapshot_doc known.snapshot.signed).meta targets_file)) result }
 {
-    let Some(meta) = listed(&known.snapshot.signed.meta, "targets.json") else {
-        return Err(UpdateError::Refused(Refusal::SnapshotTargetsMetaMissing {
+    let Some(meta) = known.snapshot.signed.metafile("targets.json") else {
+        return Err(UpdateError::from(Refusal::SnapshotTargetsMetaMissing {
             version: known.snapshot.signed.version.get(),
         }));
     };
@@ -226,15 +218,13 @@ fn take_targets<V: Verify>(
         listed bytes.now) result }
 {
     let holder = holder_of(&known.root.signed, None);
-    match judge(
-        setting.alloc,
-        setting.enforcement,
-        known.start,
-        &holder,
-        listed,
-        bytes,
+    let checker = Checker {
+        alloc: setting.alloc,
         verifier,
-    ) {
+        start: known.start,
+        enforcement: setting.enforcement,
+    };
+    match read_targets(&checker, &holder, listed, bytes) {
         Ok(targets) => Ok(Stage::Step(Pending::PutTargets(known, targets))),
         Err(error) => Err(error),
     }

@@ -25,8 +25,8 @@ ok_of type (Err r) h = cc
 some_none : {A : Type 0} (o : Option A) (a : A) → o ≡ Some a → o ≡ None → ⊥
 some_none o a is none = cc
 
-unwritten : (v : Verifies) (p : Option Policy) (o : Option Data) (ss : List SignatureDoc) → verdict v p (option_and_then canonical_of o) ss ≡ Ok tt → option_and_then (text_in forms.Compact) o ≡ None → ⊥
-unwritten v p o ss h none = let t = verified-text v p o ss h in some_none _ t.0 t.1 none
+unwritten : (v : Verifies) (absent : Refused) (type : RoleType) (p : Option Policy) (o : Option Data) (ss : List SignatureDoc) → verdict v absent type p (option_and_then canonical_of o) ss ≡ Ok tt → option_and_then (text_in forms.Compact) o ≡ None → ⊥
+unwritten v absent type p o ss h none = let t = verified-text v absent type p o ss h in some_none _ t.0 t.1 none
 
 timestamp_ok : (v : Verifies) (root : RootDoc) (d : SignedDoc TimestampDoc) → timestamp_first (timestamp_verdict v root d) d.role ≡ None → timestamp_verdict v root d ≡ Ok tt
 timestamp_ok v root d h =
@@ -35,7 +35,7 @@ timestamp_ok v root d h =
 
 -- a timestamp that passed its first checks has a text
 pub timestamp-unwritten : (v : Verifies) (root : RootDoc) (d : SignedDoc TimestampDoc) → timestamp_first (timestamp_verdict v root d) d.role ≡ None → option_and_then (text_in forms.Compact) (timestamp_json d.role) ≡ None → ⊥
-timestamp-unwritten v root d h none = unwritten v _ (timestamp_json d.role) d.signatures (timestamp_ok v root d h) none
+timestamp-unwritten v root d h none = unwritten v _ _ _ (timestamp_json d.role) d.signatures (timestamp_ok v root d h) none
 
 snapshot_ok : (v : Verifies) (root : RootDoc) (listed : ℕ) (d : SignedDoc SnapshotDoc) → snapshot_first listed (snapshot_verdict v root d) d.role ≡ None → snapshot_verdict v root d ≡ Ok tt
 snapshot_ok v root listed d h =
@@ -45,10 +45,10 @@ snapshot_ok v root listed d h =
 
 -- the same of a snapshot
 pub snapshot-unwritten : (v : Verifies) (root : RootDoc) (listed : ℕ) (d : SignedDoc SnapshotDoc) → snapshot_first listed (snapshot_verdict v root d) d.role ≡ None → option_and_then (text_in forms.Compact) (snapshot_json d.role) ≡ None → ⊥
-snapshot-unwritten v root listed d h none = unwritten v _ (snapshot_json d.role) d.signatures (snapshot_ok v root listed d h) none
+snapshot-unwritten v root listed d h none = unwritten v _ _ _ (snapshot_json d.role) d.signatures (snapshot_ok v root listed d h) none
 
 pub timestamp-stored : (v : Verifies) (root : RootDoc) (d : SignedDoc TimestampDoc) → timestamp_verdict v root d ≡ Ok tt → AreSpelled d.signatures → timestamp_text d ≢ None
-timestamp-stored v root d h spelled none = let t = verified-written v _ (timestamp_json d.role) d.signatures h spelled in some_none (timestamp_text d) t.0 t.1 none
+timestamp-stored v root d h spelled none = let t = verified-written v _ _ _ (timestamp_json d.role) d.signatures h spelled in some_none (timestamp_text d) t.0 t.1 none
 
 pub snapshot-stored : (v : Verifies) (root : RootDoc) (d : SignedDoc SnapshotDoc) → snapshot_verdict v root d ≡ Ok tt → AreSpelled d.signatures → snapshot_text d ≢ None
-snapshot-stored v root d h spelled none = let t = verified-written v _ (snapshot_json d.role) d.signatures h spelled in some_none (snapshot_text d) t.0 t.1 none
+snapshot-stored v root d h spelled none = let t = verified-written v _ _ _ (snapshot_json d.role) d.signatures h spelled in some_none (snapshot_text d) t.0 t.1 none

@@ -1,5 +1,6 @@
 -- What a store over a folder tells: how often the device failed, and which names its files may have (the TUF specification 1.0, section 5, leaves how a client keeps its files open).
-use Rattle.std.specs.Prelude.{◌≡◌, ◌≢◌, ◌<◌, ℕ, List, length, Option, IsSome, Result, IsErrOf, codes, string_bytes, Contains}
+use Rattle.std.specs.Prelude.{◌≡◌, ◌≢◌, ◌<◌, ℕ, List, length, Option, IsSome, Result, IsErrOf, codes, string_bytes, Contains, false, nat_eq}
+use Rattle.std.specs.List.{starts_with}
 use Rattle.std.specs.declared.io.Error.{Error}
 use Rattle.tough_vault.specs.declared.folder.DirStore.{DirStore}
 use Rattle.tough_vault.specs.declared.store.StoreError.{StoreError}
@@ -7,6 +8,9 @@ use Rattle.tough_vault.specs.declared.store.StoreError.TheVariants.{Failed}
 
 abbrev pub store_failures : {R : Type 0} → DirStore R → ℕ
 store_failures store = store.failures
+
+abbrev pub removals_of : {R : Type 0} → DirStore R → ℕ
+removals_of store = store.removals
 
 -- what the operating system said when a call last failed
 abbrev pub last_fault : {R : Type 0} → DirStore R → Option Error
@@ -25,10 +29,10 @@ folder_of store = string_bytes store.folder
 abbrev pub runtime_of : {R : Type 0} → DirStore R → R
 runtime_of store = store.rt
 
--- a name of a file in the folder itself, which isn't the one that writing fills first
+-- a name of a file in the folder itself, and of none that writing fills first
 pub record IsFileName (name : List ℕ) : Type 0 where
   pub not_empty : 0 < length name
   pub not_here : name ≢ codes "."
   pub not_above : name ≢ codes ".."
-  pub not_new : name ≢ codes "+new"
+  pub not_new : starts_with nat_eq name (codes "+new") ≡ false
   pub no_slash : Contains name 47 → ⊥

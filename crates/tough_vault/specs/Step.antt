@@ -1,5 +1,5 @@
 -- What a step is, and what it does to the parts of a vault.
-use Rattle.std.specs.Prelude.{◌≡◌, ◌≢◌, ◌⊎◌, ℕ, List, [], ◌∷◌, ◌++◌, length, Option, None, Some, Result, Ok, Err, Bool, true, IfOk, IfErr, OnOk, IsErrOf, string_bytes}
+use Rattle.std.specs.Prelude.{◌≡◌, ◌≢◌, ◌⊎◌, ℕ, ◌+◌, ◌%◌, ◌^◌, List, [], ◌∷◌, ◌++◌, length, Option, None, Some, Result, Ok, Err, Bool, true, IfOk, IfErr, OnOk, IsErrOf, string_bytes}
 use Rattle.tough_vault.specs.Stored.{Files, SameFiles, SameElsewhere, HasCause}
 use Rattle.tough_vault.specs.declared.store.StoreError.{StoreError}
 use Rattle.tough_vault.specs.declared.store.StoreError.TheVariants as device
@@ -124,3 +124,7 @@ module _ {S : Type 0} (tells : Bool) (files : S → Files) (count : S → ℕ) w
   -- The contract of `clear_rotated`: both removals are tried; only want of memory before the first changes nothing.
   abbrev pub Clears : Parts S → Parts S → Result Receipt StepError → Type 0
   Clears old new result = ((result ≡ Err Memory) × (new ≡ old)) ⊎ Tried old new result
+
+-- a step that did anything has tried to remove two files
+abbrev pub TriesTwo : {S : Type 0} → (S → ℕ) → Parts S → Parts S → Type 0
+TriesTwo removals old new = (new ≡ old) ⊎ (removals new.store ≡ (removals old.store + 2) % 2 ^ 64)

@@ -20,7 +20,7 @@ pub use folder::DirStore;
 pub use memory::MemoryStore;
 pub use store::{Store, StoreError};
 pub use tough_checks::{
-    DocumentName, ExpirationEnforcement, ListedVersion, Refusal, SnapshotVersions, StepError,
-    TimestampVersions, check_expiry, check_signed, check_version,
+    Checker, DocumentName, ExpirationEnforcement, ListedVersion, Refusal, SnapshotVersions,
+    StepError, TimestampVersions, check_expiry, check_signed, check_version,
 };
 pub use vault::Vault;

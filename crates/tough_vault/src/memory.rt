@@ -1,7 +1,7 @@
 //! A store in memory, which tells its files.
 
 ghost use Rattle.std.specs.Prelude.{◌≡◌, ℕ, List, None, is_some};
-ghost use Rattle.tough_vault.specs.Memory.{memory_files};
+ghost use Rattle.tough_vault.specs.Memory.{memory_files, memory_removals};
 
 use crate::store::{Store, StoreError};
 use std::alloc::Global;
@@ -12,6 +12,7 @@ use std::collections::BTreeMap;
 pub struct MemoryStore {
     alloc: Global,
     files: BTreeMap<String, Vec<u8>>,
+    removals: u64,
 }
 
 impl MemoryStore {
@@ -22,6 +23,7 @@ impl MemoryStore {
         MemoryStore {
             alloc,
             files: BTreeMap::new(alloc),
+            removals: 0,
         }
     }
 
@@ -41,6 +43,8 @@ impl Store for MemoryStore {
     ghost files = { memory_files };
 
     ghost count = { λ s. 0 };
+
+    ghost removals = { memory_removals };
 
     fn read(&mut self, alloc: Global, name: &str) -> Result<Option<Vec<u8>>, StoreError> {
         let Some(bytes) = self.files.get(name) else {
@@ -66,6 +70,7 @@ impl Store for MemoryStore {
     }
 
     fn remove(&mut self, name: &str) -> Result<(), StoreError> {
+        self.removals = self.removals.wrapping_add(1);
         self.files.remove(name);
         Ok(())
     }

@@ -24,8 +24,8 @@ use jiff::Timestamp as Instant;
 use serde_json::Value;
 use std::alloc::Global;
 use tough_checks::{
-    DocumentName, ExpirationEnforcement, Refusal, StepError, TimestampVersions, check_time,
-    check_timestamp, check_timestamp_late, read_time, read_timestamp, snapshot_version,
+    Checker, DocumentName, ExpirationEnforcement, Refusal, StepError, TimestampVersions,
+    check_time, check_timestamp, check_timestamp_late, read_time, read_timestamp, snapshot_version,
 };
 use tough_json::text::bytes_of;
 use tough_json::{MomentError, moment_text};
@@ -133,43 +133,40 @@ pub(crate) fn prepare_root<S: Store>(
 }
 
 pub(crate) fn prepare_timestamp<S: Store, V: Verify>(
-    alloc: Global,
+    checker: &Checker<'_, V>,
     store: &mut S,
     tip: &Tip,
-    verifier: &V,
     root: &Root,
     new: &Signed<Timestamp>,
-    start: Instant,
-    enforcement: ExpirationEnforcement,
 ) -> Result<Prepared, StepError>
     ensures step { Prepares S.tells S.files S.count
-        (timestamp_step (V.verifies verifier.now) (root_doc root.now) (tip_of tip.now)
-        (signed_doc timestamp_doc new.now) start.nanosecond (enforces enforcement))
-        store.old store.new result }
+        (timestamp_step (V.verifies checker.now.verifier.now) (root_doc root.now)
+        (tip_of tip.now) (signed_doc timestamp_doc new.now) checker.now.start.nanosecond
+        (enforces checker.now.enforcement)) store.old store.new result }
     ensures back { OnOk result
         (ReadsBack timestamp_in (signed_json timestamp_json (signed_doc timestamp_doc new.now))
         (signed_doc timestamp_doc new.now) (timestamp_text (signed_doc timestamp_doc new.now))) }
 {
-    if let Err(error) = check_timestamp(alloc, verifier, root, new) {
+    if let Err(error) = check_timestamp(checker.alloc, checker.verifier, root, new) {
         return Err(error);
     }
-    let found = match read_file(alloc, store, TIMESTAMP) {
+    let found = match read_file(checker.alloc, store, TIMESTAMP) {
         Ok(found) => found,
         Err(error) => return Err(error),
     };
-    let Ok(old) = read_timestamp(alloc, verifier, root, &found) else {
+    let Ok(old) = read_timestamp(checker.alloc, checker.verifier, root, &found) else {
         return Err(StepError::Memory);
     };
     if let Err(refusal) = check_timestamp_late(
         &old,
         tip.timestamp,
         &new.signed,
-        start,
-        enforcement,
+        checker.start,
+        checker.enforcement,
     ) {
         return Err(StepError::Refused(refusal));
     }
-    let bytes = match new.compact(alloc) {
+    let bytes = match new.compact(checker.alloc) {
         Ok(bytes) => bytes,
         Err(WriteError::Memory) => return Err(StepError::Memory),
         Err(WriteError::Unwritable) => unreachable!(),

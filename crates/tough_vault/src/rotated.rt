@@ -1,7 +1,7 @@
 //! Forgetting what rotated keys had signed.
 
-ghost use Rattle.std.specs.Prelude.{◌≡◌, string_bytes};
-ghost use Rattle.tough_vault.specs.Step.{RemovesBoth, Clears, TellsRemoval};
+ghost use Rattle.std.specs.Prelude.{◌≡◌, ◌+◌, ◌%◌, ◌^◌, string_bytes};
+ghost use Rattle.tough_vault.specs.Step.{RemovesBoth, Clears, TriesTwo, TellsRemoval};
 ghost use Rattle.tough_vault.specs.Parts.{parts};
 
 use crate::entry::{Entry, Receipt, Tip};
@@ -12,7 +12,8 @@ use tough_checks::StepError;
 
 // Tries both removals. The outcomes are those of the timestamp's and of the snapshot's.
 fn remove_both<S: Store>(store: &mut S) -> (Result<(), StoreError>, Result<(), StoreError>)
-    ensures { RemovesBoth S.tells S.files S.count store.old store.new result.0 result.1 }
+    ensures removes { RemovesBoth S.tells S.files S.count store.old store.new result.0 result.1 }
+    ensures counted { S.removals store.new ≡ (S.removals store.old + 2) % 2 ^ 64 }
 {
     let timestamp = store.remove(TIMESTAMP);
     let snapshot = store.remove(SNAPSHOT);
@@ -25,8 +26,10 @@ pub(crate) fn clear<S: Store>(
     journal: &mut Vec<Entry>,
     tip: &mut Tip,
 ) -> Result<Receipt, StepError>
-    ensures { Clears S.tells S.files S.count (parts store.old journal.old.items tip.old)
+    ensures clears { Clears S.tells S.files S.count (parts store.old journal.old.items tip.old)
         (parts store.new journal.new.items tip.new) result }
+    ensures both { TriesTwo S.removals (parts store.old journal.old.items tip.old)
+        (parts store.new journal.new.items tip.new) }
 {
     let alloc = *journal.allocator();
     let (Ok(first), Ok(second)) = (

@@ -15,59 +15,53 @@ use crate::entry::{Entry, Tip};
 use crate::parts::Prepared;
 use crate::prepare::{SNAPSHOT, read_file};
 use crate::store::Store;
-use jiff::Timestamp as Instant;
-use std::alloc::Global;
 use tough_checks::{
-    ExpirationEnforcement, StepError, check_snapshot, check_snapshot_late, read_snapshot,
-    versions_of,
+    Checker, StepError, check_snapshot, check_snapshot_late, read_snapshot, versions_of,
 };
 use tough_roles::{Root, Signed, Snapshot, Verify, WriteError};
 
 pub(crate) fn prepare_snapshot<S: Store, V: Verify>(
-    alloc: Global,
+    checker: &Checker<'_, V>,
     store: &mut S,
     tip: &Tip,
-    verifier: &V,
     root: &Root,
     listed: u64,
     new: &Signed<Snapshot>,
-    start: Instant,
-    enforcement: ExpirationEnforcement,
 ) -> Result<Prepared, StepError>
     ensures step { Prepares S.tells S.files S.count
-        (snapshot_step (V.verifies verifier.now) (root_doc root.now) (tip_of tip.now) listed
-        (signed_doc snapshot_doc new.now) start.nanosecond (enforces enforcement))
-        store.old store.new result }
+        (snapshot_step (V.verifies checker.now.verifier.now) (root_doc root.now)
+        (tip_of tip.now) listed (signed_doc snapshot_doc new.now) checker.now.start.nanosecond
+        (enforces checker.now.enforcement)) store.old store.new result }
     ensures back { OnOk result
         (ReadsBack snapshot_in (signed_json snapshot_json (signed_doc snapshot_doc new.now))
         (signed_doc snapshot_doc new.now) (snapshot_text (signed_doc snapshot_doc new.now))) }
 {
-    if let Err(error) = check_snapshot(alloc, verifier, root, listed, new) {
+    if let Err(error) = check_snapshot(checker.alloc, checker.verifier, root, listed, new) {
         return Err(error);
     }
-    let found = match read_file(alloc, store, SNAPSHOT) {
+    let found = match read_file(checker.alloc, store, SNAPSHOT) {
         Ok(found) => found,
         Err(error) => return Err(error),
     };
-    let Ok(old) = read_snapshot(alloc, verifier, root, &found) else {
+    let Ok(old) = read_snapshot(checker.alloc, checker.verifier, root, &found) else {
         return Err(StepError::Memory);
     };
     if let Err(error) = check_snapshot_late(
-        alloc,
+        checker.alloc,
         &old,
         &tip.snapshot,
         &new.signed,
-        start,
-        enforcement,
+        checker.start,
+        checker.enforcement,
     ) {
         return Err(error);
     }
-    let bytes = match new.compact(alloc) {
+    let bytes = match new.compact(checker.alloc) {
         Ok(bytes) => bytes,
         Err(WriteError::Memory) => return Err(StepError::Memory),
         Err(WriteError::Unwritable) => unreachable!(),
     };
-    let Ok(versions) = versions_of(alloc, &new.signed) else {
+    let Ok(versions) = versions_of(checker.alloc, &new.signed) else {
         return Err(StepError::Memory);
     };
     Ok(Prepared {

@@ -1,5 +1,5 @@
 //! Where documents are kept: files by name, as a device of the caller's.
-ghost use Rattle.std.specs.Prelude.{◌≡◌, ℕ, List, Option, Bool, true, IfOk, OnOk, IsErrOf};
+ghost use Rattle.std.specs.Prelude.{◌≡◌, ℕ, ◌+◌, ◌%◌, ◌^◌, List, Option, Bool, true, IfOk, OnOk, IsErrOf};
 ghost use Rattle.tough_checks.specs.StoredDocuments.{content};
 ghost use Rattle.tough_vault.specs.Stored.{Files, Is, SameFiles, SameElsewhere, HasCause};
 
@@ -15,6 +15,9 @@ pub trait Store {
 
     /// How often the device failed, modulo 2^64.
     ghost count: { Self → ℕ };
+
+    /// How often a file was to be removed, modulo 2^64.
+    ghost removals: { Self → ℕ };
 
     /// The file's bytes, if it is there.
     fn read(&mut self, alloc: Global, name: &str) -> Result<Option<Vec<u8>>, StoreError>
@@ -34,6 +37,7 @@ pub trait Store {
 
     /// A file that is missing is removed already.
     fn remove(&mut self, name: &str) -> Result<(), StoreError>
+        ensures counted { removals self.new ≡ (removals self.old + 1) % 2 ^ 64 }
         ensures removed { OnOk result (tells ≡ true → files self.new name.now ≡ None) }
         ensures elsewhere { tells ≡ true
             → SameElsewhere name.now (files self.old) (files self.new) }

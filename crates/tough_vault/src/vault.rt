@@ -7,7 +7,7 @@ ghost use Rattle.tough_roles.specs.Timestamp.{timestamp_doc};
 ghost use Rattle.tough_roles.specs.Snapshot.{snapshot_doc};
 ghost use Rattle.tough_checks.specs.Checks.{enforces};
 ghost use Rattle.tough_vault.specs.Journal.{no_tip, replay, Rises, Legal, NothingGoesBack, has_broken, notes_of, tip_of};
-ghost use Rattle.tough_vault.specs.Step.{Takes, Clears};
+ghost use Rattle.tough_vault.specs.Step.{Takes, Clears, TriesTwo};
 ghost use Rattle.tough_vault.specs.Steps.{time_step, root_step, timestamp_step, snapshot_step, document_step};
 ghost use Rattle.tough_checks.specs.Documents.{role_text};
 ghost use Rattle.tough_checks.specs.DocumentName.{name_of};
@@ -25,7 +25,7 @@ use crate::snapshot_step::prepare_snapshot;
 use crate::store::Store;
 use jiff::Timestamp as Instant;
 use std::alloc::Global;
-use tough_checks::{DocumentName, ExpirationEnforcement, StepError};
+use tough_checks::{Checker, DocumentName, ExpirationEnforcement, StepError};
 use tough_roles::{Role, Root, Signed, Snapshot, Timestamp, Verify};
 
 /// A store, what was accepted from it, and the tip of that.
@@ -114,7 +114,9 @@ impl<S: Store> Vault<S> {
     /// Forgets timestamp and snapshot, whose keys were rotated (TUF specification 5.3.11). Both removals are tried; it
     /// refuses with the fault of the first that failed.
     pub fn clear_rotated(&mut self) -> Result<Receipt, StepError>
-        ensures { Clears S.tells S.files S.count (parts_of self.old) (parts_of self.new) result }
+        ensures clears { Clears S.tells S.files S.count (parts_of self.old) (parts_of self.new)
+            result }
+        ensures both { TriesTwo S.removals (parts_of self.old) (parts_of self.new) }
     {
         let Vault {
             alloc: _,
@@ -151,16 +153,13 @@ impl<S: Store> Vault<S> {
             journal,
             tip,
         } = self;
-        let prepared = prepare_timestamp(
-            *alloc,
-            store,
-            tip,
+        let checker = Checker {
+            alloc: *alloc,
             verifier,
-            root,
-            new,
             start,
             enforcement,
-        );
+        };
+        let prepared = prepare_timestamp(&checker, store, tip, root, new);
         conclude(store, journal, tip, TIMESTAMP, prepared)
     }
 
@@ -192,17 +191,13 @@ impl<S: Store> Vault<S> {
             journal,
             tip,
         } = self;
-        let prepared = prepare_snapshot(
-            *alloc,
-            store,
-            tip,
+        let checker = Checker {
+            alloc: *alloc,
             verifier,
-            root,
-            listed,
-            new,
             start,
             enforcement,
-        );
+        };
+        let prepared = prepare_snapshot(&checker, store, tip, root, listed, new);
         conclude(store, journal, tip, SNAPSHOT, prepared)
     }
 

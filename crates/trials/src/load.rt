@@ -1,17 +1,18 @@
 //! Loads of whole repositories over memory.
 
-use crate::outcome::tell;
+use crate::outcome::{Documents, tell};
 use crate::update::counted;
 use bytes::Bytes;
 use jiff::Timestamp as Instant;
 use serde_json::Value;
 use std::alloc::Global;
-use tough::schema::DemoVerify;
+use tough::schema::{DemoVerify, Targets, Verify};
 use tough::{
-    Error, FixedClock, Keeper, Limits, Loaded, MemoryTransport, Repository, RepositoryLoader,
-    TargetName, Transport, Vault, drive,
+    Error, FixedClock, Keeper, Limits, MemoryTransport, Repository, RepositoryLoader, TargetName,
+    Transport, Vault, drive,
 };
-use trials_calls::case::{flag, list, number, text_of_either};
+use tough_ed25519::Ed25519Verify;
+use trials_calls::case::{flag, list, number, text, text_of_either};
 use trials_calls::shelf::Shelf;
 use trials_calls::vault::enforcement;
 use url::Url;
@@ -51,15 +52,16 @@ pub(crate) fn limits(case: &Value) -> Limits {
     limits
 }
 
-/// Loads a repository whose metadata and targets lie below two URLs, with the root, the moment, the limits and the enforcement of the load, or
-/// those of the case.
-pub(crate) fn open<T: Transport, K: Keeper>(
+// Loads a repository whose metadata and targets lie below two URLs, with the root, the moment, the limits and the enforcement of the load, or
+// those of the case.
+fn open_by<T: Transport, K: Keeper, V: Verify + Drop>(
     rt: &HostRuntime,
     load: &Value,
     case: &Value,
     [metadata, targets]: [&str; 2],
     transport: T,
     keeper: K,
+    verifier: V,
 ) -> anyhow::Result<Result<Repository<T, K, FixedClock>, Error>> {
     let alloc = rt.alloc();
     let now = text_of_either(load, case, "now").parse()?;
@@ -68,12 +70,27 @@ pub(crate) fn open<T: Transport, K: Keeper>(
     let trusted = text_of_either(load, case, "root").as_bytes();
     let loader = RepositoryLoader::new(alloc, trusted, metadata, targets)
         .transport(transport)
-        .verifier(DemoVerify)
+        .verifier(verifier)
         .clock(FixedClock(now))
         .keeper(keeper)
         .limits(limits(load))
         .expiration_enforcement(enforcement(load));
     Ok(drive(rt, loader.load()?)?)
+}
+
+/// The same by the scheme of the case: Ed25519 where it says so, else that for demonstrations.
+pub(crate) fn open<T: Transport, K: Keeper>(
+    rt: &HostRuntime,
+    load: &Value,
+    case: &Value,
+    urls: [&str; 2],
+    transport: T,
+    keeper: K,
+) -> anyhow::Result<Result<Repository<T, K, FixedClock>, Error>> {
+    match text(case, "scheme") {
+        "ed25519" => open_by(rt, load, case, urls, transport, keeper, Ed25519Verify),
+        _ => open_by(rt, load, case, urls, transport, keeper, DemoVerify),
+    }
 }
 
 // Loads the repository that is served, on the vault.
@@ -82,11 +99,14 @@ fn run(
     case: &Value,
     load: &Value,
     vault: &mut Vault<Shelf>,
-) -> anyhow::Result<Result<Loaded, Error>> {
+) -> anyhow::Result<Result<Documents, Error>> {
     let transport = served(rt.alloc(), case, load)?;
     let urls = [text_of_either(load, case, "base"), "http://h/t/"];
     match open(rt, load, case, urls, transport, vault)? {
-        Ok(repository) => Ok(Ok(repository.into_parts().documents)),
+        Ok(repository) => {
+            let parts = repository.into_parts();
+            Ok(Ok((parts.root, parts.timestamp, parts.snapshot, parts.targets)))
+        }
         Err(error) => Ok(Err(error)),
     }
 }
@@ -107,7 +127,7 @@ fn reopen(
 // Adds what the searches for these names find, the plain one and the permissive one: the length of the target.
 fn search(
     alloc: Global,
-    repository: &Loaded,
+    targets: &Targets,
     names: &[Value],
     told: &mut String,
 ) -> anyhow::Result<()> {
@@ -115,11 +135,7 @@ fn search(
         let text = name.as_str().unwrap_or("");
         let name = TargetName::new(alloc, String::from_str(alloc, text)?)?;
         for permissive in [false, true] {
-            let found = repository
-                .targets()
-                .signed
-                .find_target(alloc, &name, permissive);
-            let line = match found {
+            let line = match targets.find_target(alloc, &name, permissive) {
                 Ok(target) => format!(in alloc; "\n  {text} {permissive} {}", target.length)?,
                 Err(error) => format!(in alloc; "\n  {text} {permissive} {error}")?,
             };
@@ -133,13 +149,13 @@ fn search(
 fn tell_load(
     alloc: Global,
     case: &Value,
-    outcome: &Result<Loaded, Error>,
+    outcome: &Result<Documents, Error>,
     told: &mut String,
 ) -> anyhow::Result<()> {
     let line = tell(alloc, outcome)?;
     told.push_str(format!(in alloc; "\n  {line}")?.as_str())?;
     match outcome {
-        Ok(repository) => search(alloc, repository, list(case, "find"), told),
+        Ok((_, _, _, targets)) => search(alloc, &targets.signed, list(case, "find"), told),
         Err(_) => Ok(()),
     }
 }

@@ -2,24 +2,35 @@
 
 use std::alloc::{AllocError, Global};
 use std::fmt::Display;
-use tough::schema::{self, Targets};
-use tough::{Cause, Error, Loaded, TransportError};
+use tough::schema::{self, Root, Signed, Snapshot, Targets, Timestamp};
+use tough::{Cause, Error, TransportError};
 
 /// A value as a user reads it.
 pub(crate) fn shown<T: Display + Drop>(alloc: Global, value: T) -> Result<String, AllocError> {
     format!(in alloc; "{value}")
 }
 
+/// The documents of a load: the root, the timestamp, the snapshot and the targets.
+pub(crate) type Documents = (
+    Signed<Root>,
+    Signed<Timestamp>,
+    Signed<Snapshot>,
+    Signed<Targets>,
+);
+
 /// What a load came to.
-pub(crate) fn tell(alloc: Global, outcome: &Result<Loaded, Error>) -> Result<String, AllocError> {
+pub(crate) fn tell(
+    alloc: Global,
+    outcome: &Result<Documents, Error>,
+) -> Result<String, AllocError> {
     match outcome {
-        Ok(loaded) => {
-            let targets = &loaded.targets().signed;
+        Ok((root, timestamp, snapshot, targets)) => {
+            let targets = &targets.signed;
             let mut line = format!(in alloc;
                 "root {} timestamp {} snapshot {} targets {}",
-                loaded.root().signed.version,
-                loaded.timestamp().signed.version,
-                loaded.snapshot().signed.version,
+                root.signed.version,
+                timestamp.signed.version,
+                snapshot.signed.version,
                 targets.version
             )?;
             tell_roles(alloc, targets, "", &mut line)?;

@@ -52,7 +52,7 @@ fn asked(alloc: Global, core: &Core) -> Result<String, AllocError> {
 fn ended(alloc: Global, core: Core) -> Result<String, AllocError> {
     let outcome = match core.into_outcome() {
         None => return format!(in alloc; "not ended"),
-        Some(Ok(loaded)) => Ok(loaded),
+        Some(Ok(loaded)) => Ok(loaded.into_parts()),
         Some(Err(error)) => Err(Error::from(error)),
     };
     let told = tell(alloc, &outcome);

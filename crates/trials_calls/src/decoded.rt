@@ -5,7 +5,7 @@ use crate::compare::compared;
 use anyhow::Result;
 use serde_json::Value;
 use std::alloc::Global;
-use tough_base::{Compat, Decode, Decoded, EcdsaFlex, EcdsaPem, Encode, Hex, RsaPem};
+use tough_decoded::{Compat, Decode, Decoded, EcdsaFlex, EcdsaPem, Encode, Hex, RsaPem};
 
 // The bytes of a text and the text of their clone, or why there are none.
 fn decoded<T: Decode>(alloc: Global, input: &str) -> Result<String> {

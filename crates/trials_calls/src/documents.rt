@@ -7,8 +7,8 @@ use serde_json::Value;
 use std::alloc::Global;
 use std::collections::BTreeSet;
 use std::num::NonZeroU64;
-use tough_base::TargetName;
 use tough_json::Form;
+use tough_names::TargetName;
 use tough_schema::{
     DelegatedTargets, Delegations, DemoVerify, Error, ReadError, Role, RoleType, Root, Signed,
     Snapshot, Targets, Timestamp,

@@ -7,7 +7,7 @@ use anyhow::Result;
 use serde_json::Value;
 use std::alloc::Global;
 use std::fs;
-use tough_base::{Files, FilesError, MemoryFiles, OsFiles};
+use tough_files::{Files, FilesError, MemoryFiles, OsFiles};
 
 // The base folder on the system, below the folder that the program runs in.
 const FOLDER: &str = "steps";

@@ -1,9 +1,11 @@
 //! Keys, and what verifies and signs by them.
 
 use crate::case::text;
+use crate::ed25519::secret;
 use anyhow::{Result, anyhow};
 use serde_json::Value;
 use std::alloc::Global;
+use tough_ed25519::{Ed25519Sign, Ed25519Verify, NoVerify, Verifiers};
 use tough_keys::{DemoSign, DemoVerify, Key, Sign, Verify};
 
 // The key of a text of digits.
@@ -58,34 +60,56 @@ fn key_equals(alloc: Global, case: &Value) -> Result<String> {
 }
 
 // Whether the signature over the message is by the key.
-fn verify(alloc: Global, case: &Value) -> Result<String> {
+fn verify<V: Verify>(alloc: Global, case: &Value, verifier: &V) -> Result<String> {
     let signature = hex::decode(alloc, text(case, "signature"))?;
     let key = key_of(alloc, case, "key")?;
-    let verified = DemoVerify.verify(&key, text(case, "message").as_bytes(), signature.as_slice());
+    let verified = verifier.verify(&key, text(case, "message").as_bytes(), signature.as_slice());
     Ok(format!(in alloc; "{verified}")?)
 }
 
-// The signature of a message, with the public bytes of the signer's key.
+// The signature of a message, with the public bytes of the signer's key, or why there is none.
 fn signature_by<S: Sign>(alloc: Global, signer: &S, message: &str) -> Result<String> {
     let Ok(key) = signer.tuf_key(alloc) else {
         return Err(anyhow!("no key"));
     };
-    let Ok(signature) = signer.sign(alloc, message.as_bytes()) else {
-        return Err(anyhow!("no signature"));
-    };
-    let digits = hex::encode(alloc, signature.as_slice())?;
-    Ok(format!(in alloc; "{digits} by {:?}", key.public_bytes())?)
+    match signer.sign(alloc, message.as_bytes()) {
+        Ok(signature) => {
+            let digits = hex::encode(alloc, signature.as_slice())?;
+            Ok(format!(in alloc; "{digits} by {:?}", key.public_bytes())?)
+        }
+        Err(error) => Ok(format!(in alloc; "{error}")?),
+    }
 }
 
 // The signature of a message by a signer, and by the signer as it is lent.
-fn sign(alloc: Global, case: &Value) -> Result<String> {
+fn sign<S: Sign>(alloc: Global, case: &Value, signer: &S) -> Result<String> {
     let message = text(case, "message");
-    let signer = DemoSign {
-        key: key_of(alloc, case, "key")?,
-    };
-    let own = signature_by(alloc, &signer, message)?;
-    let lent = signature_by(alloc, &&signer, message)?;
+    let own = signature_by(alloc, signer, message)?;
+    let lent = signature_by(alloc, &signer, message)?;
     Ok(format!(in alloc; "{own}, lent {lent}")?)
+}
+
+// The same by a signer of demonstrations.
+fn sign_demo(alloc: Global, case: &Value) -> Result<String> {
+    let key = key_of(alloc, case, "key")?;
+    sign(alloc, case, &DemoSign { key })
+}
+
+// The same by an Ed25519 key and a secret.
+fn sign_ed25519(alloc: Global, case: &Value) -> Result<String> {
+    let secret = secret(alloc, case)?;
+    let key = key_of(alloc, case, "key")?;
+    sign(alloc, case, &Ed25519Sign { secret, key })
+}
+
+// Whether the signature is by the key, by Ed25519, or for keys of ECDSA by the scheme for demonstrations.
+fn verify_by_kind(alloc: Global, case: &Value) -> Result<String> {
+    let verifiers = Verifiers {
+        ed25519: Ed25519Verify,
+        rsa: NoVerify,
+        ecdsa: DemoVerify,
+    };
+    verify(alloc, case, &verifiers)
 }
 
 /// What a call on keys answers, if it is one.
@@ -94,8 +118,11 @@ pub(crate) fn answer(alloc: Global, call: &str, case: &Value) -> Result<Option<S
         "Key" => Some(key_json(alloc, case)?),
         "Key::key_id" => Some(key_ids(alloc, case)?),
         "Key::eq" => Some(key_equals(alloc, case)?),
-        "DemoVerify" => Some(verify(alloc, case)?),
-        "DemoSign" => Some(sign(alloc, case)?),
+        "DemoVerify" => Some(verify(alloc, case, &DemoVerify)?),
+        "DemoSign" => Some(sign_demo(alloc, case)?),
+        "Ed25519Verify" => Some(verify(alloc, case, &Ed25519Verify)?),
+        "Ed25519Sign" => Some(sign_ed25519(alloc, case)?),
+        "Verifiers" => Some(verify_by_kind(alloc, case)?),
         _ => None,
     })
 }

@@ -1,4 +1,4 @@
-//! What single calls answer, on names, patterns, decoded values, JSON, keys, documents, trees of targets, files, streams, retries and stores,
+//! What single calls answer, on names, patterns, decoded values, JSON, keys, Ed25519, documents, trees of targets, files, streams, retries and stores,
 //! for the cases of `trials`.
 #![tactic(auto)]
 
@@ -6,6 +6,7 @@ pub mod case;
 mod compare;
 mod decoded;
 mod documents;
+mod ed25519;
 mod files;
 mod folder;
 mod json;
@@ -37,6 +38,9 @@ fn of_values(alloc: Global, call: &str, case: &Value) -> Result<Option<String>> 
         return Ok(Some(told));
     }
     if let Some(told) = json::answer(alloc, call, case)? {
+        return Ok(Some(told));
+    }
+    if let Some(told) = ed25519::answer(alloc, call, case)? {
         return Ok(Some(told));
     }
     keys::answer(alloc, call, case)

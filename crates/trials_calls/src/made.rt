@@ -6,8 +6,8 @@ use anyhow::Result;
 use serde_json::Value;
 use sha2::{Digest, Sha256};
 use std::alloc::Global;
-use tough_base::{Files, FilesError, MemoryFiles};
 use tough_demo::{RepositoryFiles, repository};
+use tough_files::{Files, FilesError, MemoryFiles};
 use tough_schema::Target;
 
 // A file `/f` with these bytes, a link `/l` to it, and a folder `/d`.

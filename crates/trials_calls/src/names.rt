@@ -5,7 +5,8 @@ use crate::compare::compared;
 use anyhow::Result;
 use serde_json::Value;
 use std::alloc::Global;
-use tough_base::{SafeUrlPath, TargetName, encode_filename};
+use tough_decoded::SafeUrlPath;
+use tough_names::{TargetName, encode_filename};
 use url::Url;
 
 // A name as it resolves. Its raw text is told where it isn't the one that was given.

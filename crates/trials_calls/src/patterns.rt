@@ -4,7 +4,7 @@ use crate::case::text;
 use anyhow::Result;
 use serde_json::Value;
 use std::alloc::Global;
-use tough_base::{PathHashPrefix, PathPattern, TargetName};
+use tough_names::{PathHashPrefix, PathPattern, TargetName};
 
 // Whether a pattern matches the name, or why its text is no pattern.
 fn pattern_matches(alloc: Global, input: &str, target: &str) -> Result<String> {

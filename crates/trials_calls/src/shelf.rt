@@ -38,6 +38,7 @@ pub struct Shelf {
     fault: Fault,
     left: u64,
     failures: u64,
+    removals: u64,
 }
 
 // What goes wrong, and after how many calls.
@@ -163,6 +164,8 @@ impl Store for Shelf {
 
     ghost count = { λ s. s.failures };
 
+    ghost removals = { λ s. s.removals };
+
     fn read(&mut self, alloc: Global, name: &str) -> Result<Option<Vec<u8>>, StoreError> {
         if let Err(error) = self.fail() {
             return Err(error);
@@ -192,6 +195,7 @@ impl Store for Shelf {
     }
 
     fn remove(&mut self, name: &str) -> Result<(), StoreError> {
+        self.removals = self.removals.wrapping_add(1);
         if let Err(error) = self.fail() {
             return Err(error);
         }

@@ -5,7 +5,7 @@ use crate::documents::verdict;
 use anyhow::Result;
 use serde_json::Value;
 use std::alloc::Global;
-use tough_base::TargetName;
+use tough_names::TargetName;
 use tough_schema::{DelegatedTargets, Delegations, Error, PathSet, Signed, Target, Targets};
 
 // The document, where each role whose mark is `1` has the last of the documents that were made.

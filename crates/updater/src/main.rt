@@ -6,11 +6,11 @@ use std::net::Net;
 use std::random::RandomSource;
 use std::sync::Wait;
 use std::{env, fs, rt};
-use tough::schema::DemoVerify;
 use tough::{
     DefaultTransport, DirStore, LocalRuntime, OsFiles, Prefix, RepositoryLoader, SystemClock,
     TargetName, Transport, Url, Vault, open_on,
 };
+use tough_ed25519::Ed25519Verify;
 
 const USAGE: &str = "usage: updater ROOT METADATA TARGETS STORE NAME OUTDIR";
 
@@ -77,7 +77,7 @@ where
     let mut files = OsFiles::new(rt.clone()?);
     let load = RepositoryLoader::new(alloc, wanted.trusted, wanted.metadata, wanted.targets)
         .transport(transport)
-        .verifier(DemoVerify) // put your own verifier here: this one proves nothing
+        .verifier(Ed25519Verify) // for keys of another kind, put a verifier of your own here
         .clock(SystemClock::new(rt.clone()?))
         .keeper(&mut vault)
         .load()?;

@@ -1,41 +1,16 @@
--- What a document lists for a name, as the map has it.
-use Rattle.std.proofs.Common.{◌≡◌, ℕ, List, [], ◌∷◌, Option, Some, Bool, true, false, cond, option_map, nat_cmp, String, string_bytes, refl, sym}
-use Rattle.std.specs.declared.alloc.Global.{Global}
-use Rattle.std.specs.Cmp.Lexicographic.{slice_cmp}
-use Rattle.std.specs.Ordering.{is_eq}
-use Rattle.std.specs.Str.{bytes_eq}
-use Rattle.std.specs.Map.{lookup}
-use Rattle.std.proofs.lemmas.Map.Text.{is_eq-slice_cmp}
-use Rattle.tough_roles.specs.declared.timestamp.Metafile.{Metafile}
-use Rattle.tough_roles.specs.Timestamp.{MetafileDoc, metafile_doc, metafiles_doc}
+-- The version that a document lists for a file.
+use Rattle.std.proofs.Common.{◌≡◌, ℕ, List, [], ◌∷◌, Option, Some, Bool, true, false, cond, option_map, refl}
 use Rattle.std.specs.Prelude.{if◌then◌else◌}
-use Rattle.tough_checks.specs.Documents.{metafile_in}
+use Rattle.std.specs.Str.{bytes_eq}
+use Rattle.tough_roles.specs.Timestamp.{MetafileDoc, metafile_in}
 use Rattle.tough_checks.specs.Versions.{version_in}
 use Rattle.tough_checks.specs.Checks.{items_in}
 
-step : (b c : Bool) (m : Metafile) (r : Option MetafileDoc) (l : Option Metafile) → b ≡ c → r ≡ option_map metafile_doc l
-    → cond b (Some (metafile_doc m)) r ≡ option_map metafile_doc (cond c (Some m) l)
-step true true m r l e h = refl
-step true false m r l e h = absurd (cc (e))
-step false true m r l e h = absurd (cc (e))
-step false false m r l e h = h
+at : (b : Bool) (m : MetafileDoc) (r : Option ℕ) (l : Option MetafileDoc) → r ≡ option_map (λ (x : MetafileDoc). x.version) l
+    → (if b then Some m.version else r) ≡ option_map (λ (x : MetafileDoc). x.version) (cond b (Some m) l)
+at true m r l h = refl
+at false m r l h = h
 
-pub looked : (es : List (String Global × Metafile)) (name : List ℕ)
-    → metafile_in (metafiles_doc es) name ≡ option_map metafile_doc (lookup (λ k. is_eq (slice_cmp nat_cmp name (string_bytes k))) es)
-looked [] name = refl
-looked (e ∷ es) name = step (bytes_eq name (string_bytes e.0)) (is_eq (slice_cmp nat_cmp name (string_bytes e.0))) e.1
-    (metafile_in (metafiles_doc es) name) (lookup (λ k. is_eq (slice_cmp nat_cmp name (string_bytes k))) es) (sym (is_eq-slice_cmp name (string_bytes e.0))) (looked es name)
-
-pick : (b c : Bool) (m : Metafile) (r : Option ℕ) (l : Option Metafile) → b ≡ c → r ≡ option_map (λ x. (metafile_doc x).version) l
-    → (if b then Some (metafile_doc m).version else r) ≡ option_map (λ x. (metafile_doc x).version) (cond c (Some m) l)
-pick true true m r l e h = refl
-pick true false m r l e h = absurd (cc (e))
-pick false true m r l e h = absurd (cc (e))
-pick false false m r l e h = h
-
--- the version that is listed for a name, as the map has it
-pub versioned : (es : List (String Global × Metafile)) (name : List ℕ)
-    → version_in (items_in (metafiles_doc es)) name ≡ option_map (λ x. (metafile_doc x).version) (lookup (λ k. is_eq (slice_cmp nat_cmp name (string_bytes k))) es)
-versioned [] name = refl
-versioned (e ∷ es) name = pick (bytes_eq name (string_bytes e.0)) (is_eq (slice_cmp nat_cmp name (string_bytes e.0))) e.1
-    (version_in (items_in (metafiles_doc es)) name) (lookup (λ k. is_eq (slice_cmp nat_cmp name (string_bytes k))) es) (sym (is_eq-slice_cmp name (string_bytes e.0))) (versioned es name)
+pub version-listed : (es : List (List ℕ × MetafileDoc)) (name : List ℕ) → version_in (items_in es) name ≡ option_map (λ (x : MetafileDoc). x.version) (metafile_in es name)
+version-listed [] name = refl
+version-listed (e ∷ es) name = at (bytes_eq name e.0) e.1 (version_in (items_in es) name) (metafile_in es name) (version-listed es name)

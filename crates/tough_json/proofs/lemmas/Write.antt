@@ -4,7 +4,7 @@ use Rattle.std.specs.Ordering.{match_ordering}
 use Rattle.std.proofs.lemmas.Cmp.{nat_list_cmp_total, tied_itself}
 use Rattle.std.specs.Cmp.Lexicographic.{slice_cmp}
 use Rattle.std.proofs.lemmas.Slice.Eq.{bytes_eq-Decides}
-use Rattle.tough_base.specs.Spelled.{Spelled, hex_bytes}
+use Rattle.tough_decoded.specs.Spelled.{Spelled, hex_bytes}
 use Rattle.serde_json.specs.Data.{Data, string, Members, no_members, member, put, Items, item}
 use Rattle.serde_json.specs.Find.{get_member}
 use Rattle.serde_json.proofs.Views.{get_member-put}

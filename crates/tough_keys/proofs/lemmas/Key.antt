@@ -1,6 +1,6 @@
 -- What is written for a key is read as it.
 use Rattle.std.proofs.Common.{◌≡◌, ℕ, List, codes, Option, Some, refl}
-use Rattle.tough_base.specs.Spelled.{Spelled}
+use Rattle.tough_decoded.specs.Spelled.{Spelled}
 use Rattle.serde_json.specs.Data.{Data, string, object, Members}
 use Rattle.tough_json.specs.Reading.{◌>>=◌, decoded}
 use Rattle.tough_json.specs.Writing.{with, decoded_json}

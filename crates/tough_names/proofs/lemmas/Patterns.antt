@@ -1,7 +1,7 @@
 -- A pattern's text, its forms and its parts.
-use Rattle.std.proofs.Common.{◌≡◌, ℕ, List, [], ◌∷◌, map, Some, None, ◌∙◌, ap, ap₂, refl, subst}
+use Rattle.std.proofs.Common.{◌++◌, ◌≡◌, ℕ, List, [], ◌∷◌, map, Some, None, ◌∙◌, ap, ap₂, refl, subst}
 use Rattle.std.specs.List.{AllZip}
-use Rattle.tough_names.specs.Items.{part_of, parts_of}
+use Rattle.tough_names.specs.Items.{item_parts, parts_of}
 use Rattle.tough_names.specs.declared.pattern.item.Item.{Item}
 use Rattle.tough_names.specs.Glob.{Part, Fits}
 use Rattle.tough_names.specs.Grammar.{parts_in}
@@ -30,8 +30,8 @@ fits_if pattern text parts e (forms, are, whole, f) =
     subst P same f
 
 -- items cloned one by one stand for the same parts
-pub parts_of-AllZip : (xs ys : List Item) → AllZip (λ x y. part_of y ≡ part_of x) xs ys → parts_of ys ≡ parts_of xs
+pub parts_of-AllZip : (xs ys : List Item) → AllZip (λ x y. item_parts y ≡ item_parts x) xs ys → parts_of ys ≡ parts_of xs
 parts_of-AllZip [] [] h = refl
 parts_of-AllZip [] (y ∷ ys) h = absurd h
 parts_of-AllZip (x ∷ xs) [] h = absurd h
-parts_of-AllZip (x ∷ xs) (y ∷ ys) h = ap₂ (λ p ps. p ∷ ps) h.0 (parts_of-AllZip xs ys h.1)
+parts_of-AllZip (x ∷ xs) (y ∷ ys) h = ap₂ (λ p ps. p ++ ps) h.0 (parts_of-AllZip xs ys h.1)

@@ -11,28 +11,47 @@ pub(crate) struct Span {
     pub(crate) last: char,
 }
 
-/// A part of a pattern.
+/// Which characters may stand in one place.
 #[derive(Debug, Drop)]
-pub(crate) enum Item {
-    Run,
+pub(crate) enum CharSet {
     Any,
-    Literal(char),
     OneOf(Vec<Span>),
     NoneOf(Vec<Span>),
 }
 
-impl Clone for Item {
-    ghost use Rattle.tough_names.specs.Items.{part_of};
+/// A part of a pattern.
+#[derive(Debug, Drop)]
+pub(crate) enum Item {
+    Run,
+    One(CharSet),
+    /// These characters, one after another.
+    Text(String),
+}
 
-    ghost is_clone = { λ x y. part_of y ≡ part_of x };
+impl Clone for CharSet {
+    ghost use Rattle.tough_names.specs.Items.{set_part};
+
+    ghost is_clone = { λ x y. set_part y ≡ set_part x };
+
+    fn clone(&self) -> Result<CharSet, AllocError> {
+        Ok(match self {
+            CharSet::Any => CharSet::Any,
+            CharSet::OneOf(spans) => CharSet::OneOf(spans.clone()?),
+            CharSet::NoneOf(spans) => CharSet::NoneOf(spans.clone()?),
+        })
+    }
+}
+
+impl Clone for Item {
+    ghost use Rattle.tough_names.specs.Items.{item_parts};
+
+    ghost is_clone = { λ x y. item_parts y ≡ item_parts x };
 
     fn clone(&self) -> Result<Item, AllocError> {
         Ok(match self {
             Item::Run => Item::Run,
-            Item::Any => Item::Any,
-            Item::Literal(c) => Item::Literal(*c),
-            Item::OneOf(spans) => Item::OneOf(spans.clone()?),
-            Item::NoneOf(spans) => Item::NoneOf(spans.clone()?),
+            Item::One(set) => Item::One(set.clone()?),
+            Item::Text(text) => Item::Text(text.clone()?),
         })
     }
 }

@@ -1,10 +1,11 @@
 //! Reading a pattern, a character at a time.
-ghost use Rattle.std.specs.Prelude.{◌≡◌, ◌≢◌, OnOk, IfOk, IfErr, Some, None, chars, option_map};
+ghost use Rattle.std.specs.Prelude.{◌≡◌, ◌≢◌, OnOk, IfOk, IfErr, Some, None, [], ◌∷◌, false, chars, string_bytes};
 ghost use Rattle.tough_names.specs.Grammar as grammar;
+ghost use Rattle.tough_names.specs.Glob.{Part};
 ghost use Rattle.tough_names.specs.Reader.{state_of};
-ghost use Rattle.tough_names.specs.Items.{part_of, parts_of};
+ghost use Rattle.tough_names.specs.Items.{item_parts, literal, parts_of};
 
-use crate::pattern::item::{Item, Span};
+use crate::pattern::item::{CharSet, Item, Span};
 use crate::pattern::matching::split_first;
 use std::alloc::{AllocError, AllocFailed, Global};
 use std::mem;
@@ -144,25 +145,61 @@ fn decide(place: Place, c: char) -> Action
     }
 }
 
-/// The items so far, and the members of the open class.
+/// The items so far, the plain characters after them, and the members of the open class.
 #[derive(Drop)]
 pub(crate) struct Reader {
     items: Vec<Item>,
+    text: String,
     spans: Vec<Span>,
     negated: bool,
     place: Place,
 }
 
 impl Reader {
-    fn add(&mut self, item: Item, place: Place) -> Result<(), PatternError>
-        ensures ok { OnOk result (state_of self.new
-            ≡ grammar.with_part (state_of self.old) (part_of item) place) }
+    // Makes the plain characters an item.
+    fn end_text(&mut self, alloc: Global) -> Result<(), PatternError>
+        ensures ok { OnOk result ((state_of self.new ≡ state_of self.old)
+            × (string_bytes self.new.text ≡ [])) }
         ensures err { IfErr result (λ e. e ≡ PatternError.Memory) }
     {
-        self.items.push(item)?;
+        if self.text.is_empty() {
+            return Ok(());
+        }
+        let text = mem::replace(&mut self.text, String::new(alloc));
+        self.items.push(Item::Text(text))?;
+        Ok(())
+    }
+
+    fn begin(&mut self, place: Place)
+        ensures { state_of self.new ≡ record (state_of self.old) {
+          spans = [];
+          negated = false;
+          place = place;
+        } }
+    {
         self.spans.clear();
         self.negated = false;
         self.place = place;
+    }
+
+    fn add(&mut self, alloc: Global, item: Item, place: Place) -> Result<(), PatternError>
+        ensures ok { OnOk result ((part : Part) → item_parts item ≡ part ∷ []
+            → state_of self.new ≡ grammar.with_part (state_of self.old) part place) }
+        ensures err { IfErr result (λ e. e ≡ PatternError.Memory) }
+    {
+        self.end_text(alloc)?;
+        self.items.push(item)?;
+        self.begin(place);
+        Ok(())
+    }
+
+    fn add_literal(&mut self, c: char) -> Result<(), PatternError>
+        ensures ok { OnOk result (state_of self.new
+            ≡ grammar.with_part (state_of self.old) (literal c) Place.Outside) }
+        ensures err { IfErr result (λ e. e ≡ PatternError.Memory) }
+    {
+        self.text.push(c)?;
+        self.begin(Place::Outside);
         Ok(())
     }
 
@@ -173,12 +210,12 @@ impl Reader {
         ensures err { IfErr result (λ e. e ≡ PatternError.Memory) }
     {
         let spans = mem::replace(&mut self.spans, Vec::new(alloc));
-        let item = if self.negated {
-            Item::NoneOf(spans)
+        let set = if self.negated {
+            CharSet::NoneOf(spans)
         } else {
-            Item::OneOf(spans)
+            CharSet::OneOf(spans)
         };
-        self.add(item, Place::Outside)
+        self.add(alloc, Item::One(set), Place::Outside)
     }
 
     fn act(&mut self, alloc: Global, action: Action) -> Result<(), PatternError>
@@ -190,9 +227,9 @@ impl Reader {
     {
         match action {
             Action::Refuse => Err(PatternError::Glob),
-            Action::AddRun => self.add(Item::Run, Place::AfterRun),
-            Action::AddAny => self.add(Item::Any, Place::Outside),
-            Action::AddLiteral(c) => self.add(Item::Literal(c), Place::Outside),
+            Action::AddRun => self.add(alloc, Item::Run, Place::AfterRun),
+            Action::AddAny => self.add(alloc, Item::One(CharSet::Any), Place::Outside),
+            Action::AddLiteral(c) => self.add_literal(c),
             Action::Open => {
                 self.spans.clear();
                 self.negated = false;
@@ -233,6 +270,7 @@ impl Reader {
     {
         Reader {
             items: Vec::new(alloc),
+            text: String::new(alloc),
             spans: Vec::new(alloc),
             negated: false,
             place: Place::Outside,
@@ -240,13 +278,19 @@ impl Reader {
     }
 
     /// The items, where the text may end here.
-    fn finish(self) -> Option<Vec<Item>>
-        ensures { option_map (λ items. parts_of items.items) result
-            ≡ grammar.finish (state_of self) }
+    fn finish(mut self, alloc: Global) -> Result<Vec<Item>, PatternError>
+        ensures ok { IfOk result (λ items. grammar.finish (state_of self)
+            ≡ Some (parts_of items.items)) }
+        ensures err { IfErr result
+            (λ e. e ≢ PatternError.Memory → (e ≡ PatternError.Glob)
+            × (grammar.finish (state_of self) ≡ None)) }
     {
         match self.place {
-            Place::Outside | Place::AfterRun => Some(self.items),
-            _ => None,
+            Place::Outside | Place::AfterRun => {
+                self.end_text(alloc)?;
+                Ok(self.items)
+            }
+            _ => Err(PatternError::Glob),
         }
     }
 }
@@ -266,5 +310,5 @@ pub(crate) fn read(alloc: Global, text: &str) -> Result<Vec<Item>, PatternError>
         reader.act(alloc, action)?;
         rest = tail;
     }
-    reader.finish().ok_or(PatternError::Glob)
+    reader.finish(alloc)
 }

@@ -6,7 +6,7 @@ use Rattle.std.specs.Ordering.{match_ordering}
 use Rattle.std.specs.Str.{bytes_eq}
 use Rattle.std.proofs.lemmas.Slice.Eq.{bytes_eq-Decides}
 use Rattle.std.proofs.lemmas.Map.Text.{is_eq-slice_cmp}
-use Rattle.tough_base.specs.Spelled.{Spelled, hex_bytes}
+use Rattle.tough_decoded.specs.Spelled.{Spelled, hex_bytes}
 use Rattle.tough_json.specs.Reading.{◌>>=◌, required, without, spelled, truth}
 use Rattle.tough_json.proofs.lemmas.Write.{bind_ok, some-inj}
 use Rattle.tough_roles.specs.Head.{Head, head_at}

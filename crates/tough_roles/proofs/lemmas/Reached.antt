@@ -17,7 +17,7 @@ use Rattle.tough_roles.specs.Signature.{SignatureDoc, SignedDoc}
 use Rattle.tough_roles.specs.Root.{RootDoc}
 use Rattle.tough_roles.specs.Chain.{text_by, ReachesUnder}
 use Rattle.tough_roles.specs.Policy.{Policy, policy}
-use Rattle.tough_roles.specs.Verdict.{SignatureThreshold, is_by, has_signed, signers, signer_count, some_twice, counted, verdict, Answers, IsRefusal, IsOkOrMemory}
+use Rattle.tough_roles.specs.Verdict.{Refused, MissingRole, SignatureThreshold, is_by, has_signed, signers, signer_count, some_twice, counted, verdict, Answers, IsRefusal, IsOkOrMemory}
 use Rattle.tough_roles.specs.Reaches.{IsAmong, IsSigner, AreOnce, Reaches}
 use Rattle.tough_roles.proofs.Counts.{list_any-map, any-filter, or_false}
 
@@ -157,53 +157,53 @@ signer-to v p text ss id s =
 leb-le : (a b : ℕ) → nat_le a b ≡ true → a ≤ b
 leb-le a b h = grind (arith, nat_tests, h)
 
-ok_counted : (threshold count : ℕ) (t : Bool) → nat_le threshold count ≡ t → counted threshold count ≡ Ok tt → t ≡ true
-ok_counted threshold count true e h = refl
-ok_counted threshold count false e h = let none = rw e at h in cc
+ok_counted : (type : RoleType) (threshold count : ℕ) (t : Bool) → nat_le threshold count ≡ t → counted type threshold count ≡ Ok tt → t ≡ true
+ok_counted type threshold count true e h = refl
+ok_counted type threshold count false e h = let none = rw e at h in cc
 
-ok_parts : (v : Verifies) (p : Policy) (text : List ℕ) (ss : List SignatureDoc) (t : Bool) → some_twice ss ≡ t → verdict v (Some p) (Some text) ss ≡ Ok tt → (t ≡ false) × (counted p.threshold (signer_count v p text ss) ≡ Ok tt)
+ok_parts : (v : Verifies) (absent : Refused) (type : RoleType) (p : Policy) (text : List ℕ) (ss : List SignatureDoc) (t : Bool) → some_twice ss ≡ t → verdict v absent type (Some p) (Some text) ss ≡ Ok tt → (t ≡ false) × (counted type p.threshold (signer_count v p text ss) ≡ Ok tt)
 unfolding verdict
-ok_parts v p text ss true e h = let none = rw e at h in cc
-ok_parts v p text ss false e h = (refl, rw e at h)
+ok_parts v absent type p text ss true e h = let none = rw e at h in cc
+ok_parts v absent type p text ss false e h = (refl, rw e at h)
 
-pub reaches-from : (v : Verifies) (p : Policy) (text : List ℕ) (ss : List SignatureDoc) → verdict v (Some p) (Some text) ss ≡ Ok tt → Reaches v p text ss
-reaches-from v p text ss h =
-    let parts = ok_parts v p text ss (some_twice ss) refl h in
+pub reaches-from : (v : Verifies) (absent : Refused) (type : RoleType) (p : Policy) (text : List ℕ) (ss : List SignatureDoc) → verdict v absent type (Some p) (Some text) ss ≡ Ok tt → Reaches v p text ss
+reaches-from v absent type p text ss h =
+    let parts = ok_parts v absent type p text ss (some_twice ss) refl h in
     let all = signers v p text ss in
     record {
       once = once_from ss parts.0;
       ids = unique_keys bytes_eq all;
       distinct = unique-distinct all;
       signers = all_from (IsSigner v p text ss) (unique_keys bytes_eq all) (λ id m. signer-from v p text ss id (sym (unique-member id all) ∙ m));
-      enough = leb-le p.threshold (signer_count v p text ss) (ok_counted p.threshold (signer_count v p text ss) (nat_le p.threshold (signer_count v p text ss)) refl parts.1);
+      enough = leb-le p.threshold (signer_count v p text ss) (ok_counted type p.threshold (signer_count v p text ss) (nat_le p.threshold (signer_count v p text ss)) refl parts.1);
     }
 
 within : (a b c : ℕ) → a ≤ b → b ≤ c → a ≤ c
 within a b c h k = omega (arith, h, k)
 
-pub reaches-to : (v : Verifies) (p : Policy) (text : List ℕ) (ss : List SignatureDoc) → Reaches v p text ss → verdict v (Some p) (Some text) ss ≡ Ok tt
+pub reaches-to : (v : Verifies) (absent : Refused) (type : RoleType) (p : Policy) (text : List ℕ) (ss : List SignatureDoc) → Reaches v p text ss → verdict v absent type (Some p) (Some text) ss ≡ Ok tt
 unfolding verdict
-reaches-to v p text ss r =
+reaches-to v absent type p text ss r =
     let all = signers v p text ss in
     let few : length r.ids ≤ signer_count v p text ss =
     length-le_from_is_member nat_list_eq_equiv r.ids (unique_keys bytes_eq all) r.distinct (λ q m. unique-member q all ∙ signer-to v p text ss q (all_member (IsSigner v p text ss) r.ids q r.signers m)) in
-    rw (once_to ss r.once) (ap (λ b. if b then Ok tt else Err (SignatureThreshold p.threshold (signer_count v p text ss))) (le-leb p.threshold (signer_count v p text ss) (within p.threshold (length r.ids) (signer_count v p text ss) r.enough few)))
+    rw (once_to ss r.once) (ap (λ b. if b then Ok tt else Err (SignatureThreshold type p.threshold (signer_count v p text ss))) (le-leb p.threshold (signer_count v p text ss) (within p.threshold (length r.ids) (signer_count v p text ss) r.enough few)))
 
 -- ---- an answer
 
-ok_at : {A : Type 0} (v : Verifies) (holder : RootDoc) (role : RoleType) (json : A → Option Data) (s : SignedDoc A) (p : Option Policy) (text : Option (List ℕ)) → policy holder role ≡ p → text_by json s.role ≡ text → verdict v p text s.signatures ≡ Ok tt → ReachesUnder v holder role json s
+ok_at : {A : Type 0} (v : Verifies) (holder : RootDoc) (role : RoleType) (json : A → Option Data) (s : SignedDoc A) (p : Option Policy) (text : Option (List ℕ)) → policy holder role ≡ p → text_by json s.role ≡ text → verdict v (MissingRole role) role p text s.signatures ≡ Ok tt → ReachesUnder v holder role json s
 unfolding verdict
 ok_at v holder role json s None text e f h = cc
 ok_at v holder role json s (Some p) None e f h = cc
-ok_at v holder role json s (Some p) (Some t) e f h = record { asked = p; there = e; text = t; canonical = f; reached = reaches-from v p t s.signatures h }
+ok_at v holder role json s (Some p) (Some t) e f h = record { asked = p; there = e; text = t; canonical = f; reached = reaches-from v (MissingRole role) role p t s.signatures h }
 
-pub ok-reaches : {A : Type 0} (v : Verifies) (holder : RootDoc) (role : RoleType) (json : A → Option Data) (s : SignedDoc A) (result : Result Unit Error) → Answers result (verdict v (policy holder role) (text_by json s.role) s.signatures) → IfOk result (λ u. ReachesUnder v holder role json s)
+pub ok-reaches : {A : Type 0} (v : Verifies) (holder : RootDoc) (role : RoleType) (json : A → Option Data) (s : SignedDoc A) (result : Result Unit Error) → Answers result (verdict v (MissingRole role) role (policy holder role) (text_by json s.role) s.signatures) → IfOk result (λ u. ReachesUnder v holder role json s)
 ok-reaches v holder role json s (Ok u) h = ok_at v holder role json s (policy holder role) (text_by json s.role) refl refl h
 ok-reaches v holder role json s (Err e) h = tt
 
-reached_ok : {A : Type 0} (v : Verifies) (holder : RootDoc) (role : RoleType) (json : A → Option Data) (s : SignedDoc A) → ReachesUnder v holder role json s → verdict v (policy holder role) (text_by json s.role) s.signatures ≡ Ok tt
+reached_ok : {A : Type 0} (v : Verifies) (holder : RootDoc) (role : RoleType) (json : A → Option Data) (s : SignedDoc A) → ReachesUnder v holder role json s → verdict v (MissingRole role) role (policy holder role) (text_by json s.role) s.signatures ≡ Ok tt
 reached_ok v holder role json s r =
-    ap (λ p. verdict v p (text_by json s.role) s.signatures) r.there ∙ ap (λ t. verdict v (Some r.asked) t s.signatures) r.canonical ∙ reaches-to v r.asked r.text s.signatures r.reached
+    ap (λ p. verdict v (MissingRole role) role p (text_by json s.role) s.signatures) r.there ∙ ap (λ t. verdict v (MissingRole role) role (Some r.asked) t s.signatures) r.canonical ∙ reaches-to v (MissingRole role) role r.asked r.text s.signatures r.reached
 
 no_refusal : (e : Error) → IsRefusal e (Ok tt) → IsOkOrMemory (Err e)
 no_refusal (errors.RoleNotFound name) h = cc
@@ -218,5 +218,5 @@ not_refused : (result : Result Unit Error) → Answers result (Ok tt) → IsOkOr
 not_refused (Ok u) h = tt
 not_refused (Err e) h = no_refusal e h
 
-pub reaches-ok : {A : Type 0} (v : Verifies) (holder : RootDoc) (role : RoleType) (json : A → Option Data) (s : SignedDoc A) (result : Result Unit Error) → Answers result (verdict v (policy holder role) (text_by json s.role) s.signatures) → ReachesUnder v holder role json s → IsOkOrMemory result
+pub reaches-ok : {A : Type 0} (v : Verifies) (holder : RootDoc) (role : RoleType) (json : A → Option Data) (s : SignedDoc A) (result : Result Unit Error) → Answers result (verdict v (MissingRole role) role (policy holder role) (text_by json s.role) s.signatures) → ReachesUnder v holder role json s → IsOkOrMemory result
 reaches-ok v holder role json s result h r = not_refused result (subst (Answers result) (reached_ok v holder role json s r) h)

@@ -5,7 +5,7 @@ use Rattle.std.specs.Cmp.Lexicographic.{on_texts}
 use Rattle.std.proofs.lemmas.Cmp.{nat_cmp_total}
 use Rattle.std.proofs.lemmas.Slice.Eq.{bytes_eq-Decides}
 use Rattle.jiff_core.specs.Timestamp.{IsTimestampNanos}
-use Rattle.tough_base.specs.Spelled.{Spelled, hex_bytes}
+use Rattle.tough_decoded.specs.Spelled.{Spelled, hex_bytes}
 use Rattle.serde_json.specs.Data.{Data, boolean, array, object, no_members}
 use Rattle.tough_json.specs.Reading.{◌>>=◌, spelled, hexadecimal, listing, positive, truth}
 use Rattle.tough_json.specs.Writing.{with, stands_for, positive_json, hexadecimal_json, all_json}

@@ -1,7 +1,7 @@
 -- What signatures add to a role's JSON can always be written.
 use Rattle.std.proofs.Common.{◌≡◌, ℕ, Bool, true, false, List, [], ◌∷◌, codes, Option, Some, None, Ok, option_and_then, if◌then◌else◌, refl, sym, ap, ◌∙◌}
 use Rattle.std.proofs.lemmas.Slice.Eq.{bytes_eq-Decides}
-use Rattle.tough_base.specs.Spelled.{Spelled, hex_bytes}
+use Rattle.tough_decoded.specs.Spelled.{Spelled, hex_bytes}
 use Rattle.serde_json.specs.Data.{Data, string, array, object, Items, no_items, item, no_members, member}
 use Rattle.serde_json.specs.Written.{has_float, items_have_float, compact_text}
 use Rattle.tough_json.specs.CanonicalText.{canonical_of}
@@ -14,7 +14,8 @@ use Rattle.tough_json.proofs.lemmas.Exactness.{accepted}
 use Rattle.tough_json.proofs.lemmas.Write.{bind_ok, some-inj}
 use Rattle.tough_keys.specs.Same.{Verifies}
 use Rattle.tough_roles.specs.Policy.{Policy}
-use Rattle.tough_roles.specs.Verdict.{verdict}
+use Rattle.tough_roles.specs.Verdict.{Refused, verdict}
+use Rattle.tough_roles.specs.declared.role_type.RoleType.{RoleType}
 use Rattle.tough_roles.specs.Signature.{SignatureDoc, signature_json, signed_parts_json, IsSpelled, AreSpelled}
 
 -- ---- no float in signatures
@@ -86,29 +87,29 @@ unfolding all_json
 all-some [] h = (no_items, refl)
 all-some (s ∷ ss) h = let r = all-some ss h.2 in (item (signature_of s) r.0, rw (signature-is s (digits-some s.sig h.1) (digits-some s.keyid h.0), r.1) refl)
 
-verdict-text : (v : Verifies) (p : Option Policy) (text : Option (List ℕ)) (ss : List SignatureDoc) → verdict v p text ss ≡ Ok tt → (t : List ℕ) × (text ≡ Some t)
+verdict-text : (v : Verifies) (absent : Refused) (type : RoleType) (p : Option Policy) (text : Option (List ℕ)) (ss : List SignatureDoc) → verdict v absent type p text ss ≡ Ok tt → (t : List ℕ) × (text ≡ Some t)
 unfolding verdict
-verdict-text v None text ss h = cc
-verdict-text v (Some p) None ss h = cc
-verdict-text v (Some p) (Some t) ss h = (t, refl)
+verdict-text v absent type None text ss h = cc
+verdict-text v absent type (Some p) None ss h = cc
+verdict-text v absent type (Some p) (Some t) ss h = (t, refl)
 
 -- what was verified holds no float
-pub verified-plain : (v : Verifies) (p : Option Policy) (o : Option Data) (ss : List SignatureDoc) → verdict v p (option_and_then canonical_of o) ss ≡ Ok tt → (d : Data) × (o ≡ Some d) × (has_float d ≡ false)
-verified-plain v p o ss h =
-    let t = verdict-text v p (option_and_then canonical_of o) ss h in
+pub verified-plain : (v : Verifies) (absent : Refused) (type : RoleType) (p : Option Policy) (o : Option Data) (ss : List SignatureDoc) → verdict v absent type p (option_and_then canonical_of o) ss ≡ Ok tt → (d : Data) × (o ≡ Some d) × (has_float d ≡ false)
+verified-plain v absent type p o ss h =
+    let t = verdict-text v absent type p (option_and_then canonical_of o) ss h in
     let d = then_some canonical_of o t.0 t.1 in
     (d.0, d.1, (accepted d.0 t.0 (Canon-computed d.0 t.0 d.2)).0)
 
 text-at : (o : Option Data) (d : Data) → o ≡ Some d → has_float d ≡ false → option_and_then (text_in forms.Compact) o ≡ Some (compact_text d)
 text-at o d e f = rw (e, f) refl
 
-pub verified-text : (v : Verifies) (p : Option Policy) (o : Option Data) (ss : List SignatureDoc) → verdict v p (option_and_then canonical_of o) ss ≡ Ok tt → (t : List ℕ) × (option_and_then (text_in forms.Compact) o ≡ Some t)
-verified-text v p o ss h = let d = verified-plain v p o ss h in (compact_text d.0, text-at o d.0 d.1 d.2)
+pub verified-text : (v : Verifies) (absent : Refused) (type : RoleType) (p : Option Policy) (o : Option Data) (ss : List SignatureDoc) → verdict v absent type p (option_and_then canonical_of o) ss ≡ Ok tt → (t : List ℕ) × (option_and_then (text_in forms.Compact) o ≡ Some t)
+verified-text v absent type p o ss h = let d = verified-plain v absent type p o ss h in (compact_text d.0, text-at o d.0 d.1 d.2)
 
-pub verified-written : (v : Verifies) (p : Option Policy) (o : Option Data) (ss : List SignatureDoc) → verdict v p (option_and_then canonical_of o) ss ≡ Ok tt → AreSpelled ss
+pub verified-written : (v : Verifies) (absent : Refused) (type : RoleType) (p : Option Policy) (o : Option Data) (ss : List SignatureDoc) → verdict v absent type p (option_and_then canonical_of o) ss ≡ Ok tt → AreSpelled ss
     → (t : List ℕ) × (option_and_then (text_in forms.Compact) (o >>= λ role. signed_parts_json role ss) ≡ Some t)
-verified-written v p o ss h spelled =
-    let d = verified-plain v p o ss h in
+verified-written v absent type p o ss h spelled =
+    let d = verified-plain v absent type p o ss h in
     let items = all-some ss spelled in
     let plain = document-plain d.0 items.0 d.2 (all-plain ss items.0 items.1) in
     let is = ap (λ x. x >>= λ role. signed_parts_json role ss) d.1 ∙ document-is d.0 ss items.0 items.1 in

@@ -1,6 +1,6 @@
 -- A document that was read is the bare tree of what it says for itself.
 use Rattle.std.proofs.Common.{◌≡◌, List, [], ◌∷◌, Option, Some, None, refl, ap, sym, ◌∙◌}
-use Rattle.tough_base.specs.Spelled.{Spelled}
+use Rattle.tough_decoded.specs.Spelled.{Spelled}
 use Rattle.tough_keys.specs.Key.{KeyDoc}
 use Rattle.serde_json.specs.Data.{Members}
 use Rattle.tough_roles.specs.Head.{Head}

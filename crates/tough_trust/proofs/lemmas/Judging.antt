@@ -5,7 +5,7 @@ use Rattle.std.proofs.lemmas.Bool.{eqb-true}
 use Rattle.tough_keys.specs.Same.{Verifies}
 use Rattle.tough_roles.specs.Signature.{SignedDoc}
 use Rattle.tough_roles.specs.Policy.{Policy}
-use Rattle.tough_roles.specs.Verdict.{verdict}
+use Rattle.tough_roles.specs.Verdict.{RoleNotFound, verdict}
 use Rattle.tough_roles.specs.Chain.{text_by}
 use Rattle.tough_roles.specs.declared.role_type.RoleType.TheVariants as role
 use Rattle.tough_roles.proofs.lemmas.Reached.{reaches-from}
@@ -58,8 +58,8 @@ judged-ok verifies enforced start holder listed bytes d h =
 
 -- signatures that delegations ask for
 pub delegated-at : (verifies : Verifies) (g : DelegationsDoc) (name : List ℕ) (d : SignedDoc TargetsDoc) (p : Option Policy) (text : Option (List ℕ)) → delegated_policy g name ≡ p → text_by targets_json d.role ≡ text
-    → verdict verifies p text d.signatures ≡ Ok tt → ReachesDelegated verifies g name targets_json d
+    → verdict verifies (RoleNotFound name) role.Targets p text d.signatures ≡ Ok tt → ReachesDelegated verifies g name targets_json d
 unfolding verdict
 delegated-at verifies g name d None text e f h = cc
 delegated-at verifies g name d (Some p) None e f h = cc
-delegated-at verifies g name d (Some p) (Some t) e f h = record { asked = p; there = e; text = t; canonical = f; reached = reaches-from verifies p t d.signatures h }
+delegated-at verifies g name d (Some p) (Some t) e f h = record { asked = p; there = e; text = t; canonical = f; reached = reaches-from verifies (RoleNotFound name) role.Targets p t d.signatures h }

@@ -34,7 +34,7 @@ fn entry_of<'a>(
         ≡ listed_as (metas_of snapshot.now) name.now) }
 {
     let file = format!(in alloc; "{name}.json")?;
-    Ok(snapshot.meta.get(file.as_str()))
+    Ok(snapshot.metafile(file.as_str()))
 }
 
 // The first role from this place on whose name had no turn: its document is to be fetched.

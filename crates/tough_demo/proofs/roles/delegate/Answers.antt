@@ -1,7 +1,7 @@
 use Rattle.std.proofs.Common.{rules, ◌≡◌, ℕ, List, [], ◌∷◌, ◌++◌, string_bytes, map, ap, ◌∙◌}
 use Rattle.std.proofs.lemmas.List.{map_push}
 use Rattle.std.specs.Int.NonZero.{non_zero_u64_get}
-use Rattle.tough_base.specs.Spelled.{Spelled}
+use Rattle.tough_decoded.specs.Spelled.{Spelled}
 use Rattle.tough_schema.specs.Delegations.{DelegatedRoleDoc, delegated_role_doc}
 use Rattle.tough_schema.specs.Paths.{paths_doc}
 use Rattle.tough_schema.specs.declared.delegations.Delegations.{out-Delegations, out-roll-Delegations}

@@ -1,4 +1,4 @@
-use Rattle.std.proofs.Common.{◌≡◌, length, subst, refl, ap, sym, ◌∙◌, arith, List, ℕ, Err, Result}
+use Rattle.std.proofs.Common.{◌≡◌, [], inr, append-nil, length, subst, refl, ap, sym, ◌∙◌, arith, List, ℕ, Err, Result}
 use Rattle.std.proofs.lemmas.List.{take_all}
 use Rattle.std.proofs.lemmas.Result.{err_from_is_err_and}
 use Rattle.sha2.specs.Hashers.{Holds256}
@@ -7,6 +7,9 @@ use Rattle.tough_files.specs.declared.files.FilesError.TheVariants as fault
 use Rattle.tough_schema.specs.FileDigest.{Feeds, MeasuresFile}
 use Rattle.tough_schema.specs.declared.file_digest.Reading.{Reading}
 use Rattle.tough_schema.specs.declared.file_digest.Measured.{Measured}
+use Rattle.std.specs.List.{concat}
+use Rattle.tough_schema.specs.Measuring.{ReadsAll}
+use Rattle.tough_schema.proofs.Measures.{read_more, read_all, read_refused}
 use Rattle.tough_schema.proofs.Pieces.{there-kept}
 use Rattle.tough_schema.proofs.file_digest.read_all.Goals as goal
 
@@ -17,7 +20,7 @@ refused bytes old new fault.NotFound r s is was h = subst (MeasuresFile bytes) (
 refused bytes old new fault.Failed r s is was h = subst (MeasuresFile bytes) (sym was) (subst (λ x. Feeds bytes old x new) is h)
 
 pub loop-init : goal.loop-init
-loop-init g c = (λ tells path. refl, λ bytes tells is. (record { within = omega arith; holds = c.new.ensures }, omega arith))
+loop-init g c = (λ tells path. refl, λ bytes tells is. (record { within = omega arith; holds = c.new.ensures }, omega arith), λ tells. record { pieces = []; calls = sym (append-nil _); size = refl; holds = c.new.ensures; many = omega arith })
 
 pub returns-in_err-feed-clause-measured : goal.returns-in_err-feed-clause-measured
 returns-in_err-feed-clause-measured g c = λ bytes tells is.
@@ -53,6 +56,7 @@ loop-preserved g c = (
       let before = read.1 in
       let some = c.if-branch-eq0.false in
       (fed.0, omega (arith, more, before, some)),
+  λ tells. read_more c.args.path.now (g.F.Files.calls c.args.files.now) (g.F.Files.calls c.loop.files) (g.F.Files.calls c.feed.new.files) c.loop.counter c.loop.reading c.feed.new.reading (c.loop.invariant.2 tells) c.in_ok-feed.field-0 (c.in_ok-feed.ensures.calls tells) (λ none. let some = c.if-branch-eq0.false in omega (arith, none, some)),
 )
 
 pub returns-clause-measured : goal.returns-clause-measured
@@ -64,3 +68,23 @@ returns-clause-measured g c = λ bytes tells is.
 
 pub returns-clause-kept : goal.returns-clause-kept
 returns-clause-kept g c = λ tells path. c.loop.invariant.0 tells path
+
+pub returns-in_err-feed-clause-calls : goal.returns-in_err-feed-clause-calls
+returns-in_err-feed-clause-calls g c = λ tells.
+    let old = g.F.Files.calls c.args.files.now in
+    let new = g.F.Files.calls c.feed.new.files in
+    let p = err_from_is_err_and c.from_residual.result c.from_residual.ensures.1 in
+    subst (λ r. ReadsAll c.args.path.now r old new) (sym (p.1 ∙ ap Err p.2)) (read_refused c.args.path.now old (g.F.Files.calls c.loop.files) new c.loop.counter c.loop.reading c.feed.new.reading (c.loop.invariant.2 tells) c.in_err-feed.field-0.0 (c.in_err-feed.ensures.calls tells))
+
+pub returns-then-branch-eq0-clause-calls : goal.returns-then-branch-eq0-clause-calls
+returns-then-branch-eq0-clause-calls g c = λ tells.
+    let h = c.loop.invariant.2 tells in
+    let p = read_all c.args.path.now (g.F.Files.calls c.args.files.now) (g.F.Files.calls c.loop.files) (g.F.Files.calls c.feed.new.files) c.loop.counter c.loop.reading c.feed.new.reading h c.in_ok-feed.field-0 (c.in_ok-feed.ensures.calls tells) c.if-branch-eq0.true in
+    (h.pieces, p.0, p.1, c.finalize.ensures (concat h.pieces) p.2)
+
+pub returns-clause-calls : goal.returns-clause-calls
+returns-clause-calls g c = λ tells.
+    let h = c.loop.invariant.2 tells in
+    let many = h.many in
+    let size = h.size in
+    (h.pieces, inr (refl, h.calls, omega (arith, many, size)))

@@ -1,12 +1,11 @@
-use Rattle.std.proofs.Common.{rules, ◌≡◌, ◌⊎◌, List, ℕ, Option, Some, None, option_map, refl, ap, ◌∙◌, inl, inr}
-use Rattle.tough_roles.specs.Verdict.{verdict}
+use Rattle.std.proofs.Common.{rules, ◌≡◌, ◌⊎◌, List, ℕ, Option, Some, None, option_map, refl, ap, ◌∙◌, inl, inr, Err, sym}
+use Rattle.tough_roles.specs.Verdict.{RoleNotFound, verdict}
 use Rattle.tough_roles.specs.Signature.{signed_doc}
 use Rattle.tough_roles.specs.Chain.{text_by}
 use Rattle.tough_roles.specs.declared.role_type.RoleType.TheVariants as role
 use Rattle.tough_roles.proofs.lemmas.Verdicts.{verdict-missing}
 use Rattle.tough_schema.specs.Delegations.{DelegatedRoleDoc, DelegationsDoc, delegations_doc, delegated_role_doc}
 use Rattle.tough_schema.specs.Targets.{targets_doc, targets_json}
-use Rattle.tough_schema.proofs.lemmas.Names.{names-judged}
 use Rattle.tough_trust.specs.Listed.{policy_in, by_role}
 use Rattle.tough_trust.proofs.holder.RoleHolder.verify.Goals.{in-Some+in_default-role, in_default}
 use Rattle.tough_trust.proofs.holder.RoleHolder.verify.Goals as goal
@@ -18,8 +17,8 @@ missing (Some g) None name h = refl
 missing (Some g) (Some r) name (inl h) = absurd (cc (h))
 missing (Some g) (Some r) name (inr h) = absurd (cc (h))
 
-pub returns-clause-verdict : goal.returns-clause-verdict
-returns-clause-verdict g c =
+pub returns : goal.returns
+returns g c =
     let holder = c.args.self.now in
     let delegations = option_map (λ d. delegations_doc d.now) holder.delegations in
     let first = option_map (λ r. delegated_role_doc r.now) holder.role in
@@ -31,9 +30,5 @@ returns-clause-verdict g c =
     let d = signed_doc targets_doc c.args.targets.now in
     let v = g.V.Verify.verifies c.args.verifier.now in
     let text = text_by targets_json d.role in
-    ap (λ p. verdict v p text d.signatures) (missing delegations first holder.name.now none) ∙ verdict-missing v text d.signatures
-
-pub returns-in-Some-role-clause-named : goal.returns-in-Some-role-clause-named
-returns-in-Some-role-clause-named g c =
-    let d = signed_doc targets_doc c.args.targets.now in
-    names-judged c.args.self.now.name.now (g.V.Verify.verifies c.args.verifier.now) _ _ role.Targets d.signatures c.verify_by.result c.verify_by.ensures.verdict c.verify_by.ensures.named
+    ap (λ p. verdict v (RoleNotFound holder.name.now) role.Targets p text d.signatures) (missing delegations first holder.name.now none) ∙ verdict-missing v (RoleNotFound holder.name.now) role.Targets text d.signatures
+    ∙ ap (λ n. Err (RoleNotFound n)) (sym c.in_ok-from_str.ensures.ok)

@@ -1,0 +1,4 @@
+pub mod Check
+pub mod Coding
+pub mod Curve
+pub mod Vectors

@@ -1,0 +1,13 @@
+use Rattle.std.proofs.Common.{refl}
+use Rattle.sha2.specs.Sha512.{sha512, first_words, schedule, rounds, compress, hash_after, digest_bytes}
+use Rattle.tough_field.specs.Bytes.{bytes_number}
+use Rattle.tough_field.specs.Field.{plus, minus, times, power, inverse}
+use Rattle.tough_curve.specs.Check.{checks}
+use Rattle.tough_curve.specs.Coding.{encode, decode, root}
+use Rattle.tough_curve.specs.Curve.{add, double, multiple}
+use Rattle.tough_ed25519.specs.Signatures.{is_signature}
+use Rattle.tough_ed25519.proofs.laws.second_vector.Goals as goal
+
+pub returns : goal.returns
+unfolding sha512 first_words schedule rounds compress hash_after digest_bytes plus minus times power inverse add double multiple checks encode decode root bytes_number is_signature
+returns c = refl

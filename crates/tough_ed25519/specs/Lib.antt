@@ -1,0 +1,5 @@
+pub mod Signatures
+pub mod Secrets
+pub mod Vectors
+pub mod Keys
+pub mod Kinds

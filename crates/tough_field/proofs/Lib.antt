@@ -1,0 +1,4 @@
+pub mod Bits
+pub mod Modular
+pub mod Powers
+pub mod LittleEndian

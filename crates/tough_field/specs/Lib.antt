@@ -1,0 +1,5 @@
+pub mod Bytes
+pub mod Field
+pub mod Limbs
+pub mod Sums
+pub mod Words

@@ -1,0 +1,4 @@
+pub mod Newline
+pub mod Inserts
+pub mod Reaching
+pub mod Makings

@@ -1,0 +1,5 @@
+pub mod Pretty
+pub mod Making
+pub mod Signers
+pub mod Files
+pub mod Listing
