@@ -14,7 +14,7 @@ use Rattle.tough_net.proofs.TurnLemmas.{fault_received, answer_received}
 module _ {Q : Type 0} (bodies : Q → ℕ → Runs Item) (answers : Q → ℕ → RetryEvent → Type 0) (s : RetrySettings) (q : Q) (url : List ℕ) where
   -- what may happen between two pieces counts nothing
   happens_received : (p : Progress) (event : RetryEvent) → Happens bodies answers q p.received event → (turn s p event).progress.received ≡ p.received
-  happens_received p Fault happens = fault_received s p
+  happens_received p (Fault fault) happens = fault_received s p fault
   happens_received p (Answer status accepts) happens = answer_received s p status accepts
   happens_received p (Piece len) happens = absurd happens
   happens_received p End happens = absurd happens

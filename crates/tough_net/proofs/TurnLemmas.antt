@@ -2,7 +2,10 @@
 use Rattle.std.specs.Prelude.{◌≡◌, ℕ, ◌+◌, Bool, true, false, if◌then◌else◌}
 use Rattle.std.proofs.Common.{refl, ap, ◌∙◌}
 use Rattle.std.proofs.lemmas.Bool.{cond-false}
-use Rattle.tough_net.specs.declared.error.HttpError.{HttpError}
+use Rattle.tough_net.specs.declared.http_error.HttpError.{HttpError}
+use Rattle.tough_net.specs.declared.http_error.LastRequest.{LastRequest}
+use Rattle.tough_net.specs.declared.http_error.LastRequest.TheVariants.{Status}
+use Rattle.tough_net.specs.declared.http_error.RequestFault.{RequestFault}
 use Rattle.tough_net.specs.declared.retry_events.RetrySettings.{RetrySettings}
 use Rattle.tough_net.specs.declared.retry_events.RetryEvent.TheVariants.{Fault, Answer, Piece}
 use Rattle.tough_net.specs.declared.retry_events.RetryAction.TheVariants.{Read, Finish, Fail}
@@ -42,25 +45,25 @@ if_received true t u n first second = first
 if_received false t u n first second = second
 
 module _ (s : RetrySettings) (p : Progress) where
-  retried_received : (retried s p).progress.received ≡ p.received
-  retried_received = if_received _ _ _ p.received refl refl
+  retried_received : (last : LastRequest) → (retried s p last).progress.received ≡ p.received
+  retried_received last = if_received _ _ _ p.received refl refl
 
-  answered_received : (accepts : Bool) (class : AnswerClass) → (answered s p accepts class).progress.received ≡ p.received
-  answered_received accepts Body = refl
-  answered_received accepts Missing = refl
-  answered_received accepts Refused = refl
-  answered_received accepts Unready = retried_received
+  answered_received : (status : ℕ) (accepts : Bool) (class : AnswerClass) → (answered s p status accepts class).progress.received ≡ p.received
+  answered_received status accepts Body = refl
+  answered_received status accepts Missing = refl
+  answered_received status accepts Refused = refl
+  answered_received status accepts Unready = retried_received (Status status)
 
   -- no answer is counted, and no piece that isn't handed on
   pub answer_received : (status : ℕ) (accepts : Bool) → (turn s p (Answer status accepts)).progress.received ≡ p.received
-  answer_received status accepts = if_received p.is_over _ _ p.received refl (answered_received accepts (class_of status p.received))
+  answer_received status accepts = if_received p.is_over _ _ p.received refl (answered_received status accepts (class_of status p.received))
 
   pub unread_received : (len : ℕ) → ¬ ((turn s p (Piece len)).action ≡ Read) → (turn s p (Piece len)).progress.received ≡ p.received
   unread_received len unread = over_unread p.is_over p (turned s p (Piece len)) p.received unread refl (λ h. unread_chosen _ _ _ _ _ h refl)
 
   -- a fault counts nothing
-  pub fault_received : (turn s p Fault).progress.received ≡ p.received
-  fault_received = if_received p.is_over _ _ p.received refl retried_received
+  pub fault_received : (fault : RequestFault) → (turn s p (Fault fault)).progress.received ≡ p.received
+  fault_received fault = if_received p.is_over _ _ p.received refl (retried_received (LastRequest.Fault fault))
 
   counts : (b : Bool) (q r : Progress) (error : HttpError) → (chosen b q r error).action ≡ Read → (chosen b q r error).progress ≡ q
   counts true q r error e = refl

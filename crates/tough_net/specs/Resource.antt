@@ -4,25 +4,29 @@ use Rattle.futures.specs.Runs.{Runs, Ends}
 use Rattle.tough_net.specs.declared.error.TransportError.{TransportError}
 use Rattle.tough_net.specs.declared.error.TransportErrorKind.{TransportErrorKind}
 use Rattle.tough_net.specs.declared.error.TransportErrorKind.TheVariants.{FileNotFound, Other}
-use Rattle.tough_net.specs.declared.error.HttpError.{HttpError}
-use Rattle.tough_net.specs.declared.error.HttpError.TheVariants.{FetchFileNotFound, FetchFatal, FetchNoMoreRetries}
+use Rattle.tough_net.specs.declared.http_error.HttpError.{HttpError}
+use Rattle.tough_net.specs.declared.http_error.HttpError.TheVariants.{FetchFileNotFound, FetchFatal, FetchNoMoreRetries, HttpClient, InvalidHeader, RequestBuild, TlsBuildError}
+use Rattle.tough_net.specs.declared.http_error.RequestFault.TheVariants.{Cut}
 use Rattle.tough_net.specs.declared.error.Cause.TheVariants.{Http}
-use Rattle.tough_net.specs.declared.retry_events.AnswerClass.{AnswerClass}
-use Rattle.tough_net.specs.declared.retry_events.AnswerClass.TheVariants.{Missing, Refused, Unready}
+use Rattle.tough_net.specs.declared.retry_events.RetryAction.TheVariants.{Fail}
 use Rattle.tough_net.specs.declared.retry_events.RetryEvent.{RetryEvent}
 use Rattle.tough_net.specs.declared.retry_events.RetryEvent.TheVariants.{Fault, Answer, Piece, End}
 use Rattle.tough_net.specs.declared.retry_events.RetrySettings.{RetrySettings}
 use Rattle.tough_net.specs.Errors.{IsMemory, error_kind, error_url, error_cause}
 use Rattle.tough_net.specs.Items.{Item, joined, all_bytes}
-use Rattle.tough_net.specs.Retries.{Progress, class_of, turn}
+use Rattle.tough_net.specs.Retries.{Progress, turn}
 
 abbrev pub IsBeginning : List ℕ → List ℕ → Type 0
 IsBeginning xs ys = (later : List ℕ) × (ys ≡ xs ++ later)
 
 abbrev pub kind_of_http : HttpError → TransportErrorKind
-kind_of_http FetchFileNotFound = FileNotFound
-kind_of_http FetchFatal = Other
-kind_of_http (FetchNoMoreRetries _) = Other
+kind_of_http (FetchFileNotFound _) = FileNotFound
+kind_of_http (FetchFatal _) = Other
+kind_of_http (FetchNoMoreRetries _ _) = Other
+kind_of_http HttpClient = Other
+kind_of_http InvalidHeader = Other
+kind_of_http RequestBuild = Other
+kind_of_http TlsBuildError = Other
 
 -- this fault of HTTP at this URL
 abbrev pub IsHttpFault : List ℕ → HttpError → TransportError → Type 0
@@ -48,24 +52,22 @@ module _ {Q : Type 0} (bodies : Q → ℕ → Runs Item) (answers : Q → ℕ �
   -- What may happen to a fetch that has come to this byte: a request comes to that, or a body breaks off. Pieces and ends are told
   -- by `Follows`.
   abbrev pub Happens : Q → ℕ → RetryEvent → Type 0
-  Happens q at Fault = answers q at Fault ⊎ ((e : TransportError) × Gave bodies q at (Some (Err e)))
+  Happens q at (Fault fault) = answers q at (Fault fault) ⊎ ((fault ≡ Cut) × ((e : TransportError) × Gave bodies q at (Some (Err e))))
   Happens q at (Answer status accepts) = answers q at (Answer status accepts)
   Happens q at (Piece len) = ⊥
   Happens q at End = ⊥
 
-  -- an answer of this class may come to a request from this byte
-  abbrev pub IsAnswered : Q → ℕ → AnswerClass → Type 0
-  IsAnswered q at class = (status : ℕ) × (accepts : Bool) × answers q at (Answer status accepts) × (class_of status at ≡ class)
+  -- what may happen to it, or a piece of a body that may come
+  abbrev pub MayMeet : Q → ℕ → RetryEvent → Type 0
+  MayMeet q at (Fault fault) = Happens q at (Fault fault)
+  MayMeet q at (Answer status accepts) = Happens q at (Answer status accepts)
+  MayMeet q at (Piece len) = (piece : List ℕ) × Gave bodies q at (Some (Ok piece)) × (length piece ≡ len)
+  MayMeet q at End = ⊥
 
   module _ (s : RetrySettings) where
-    -- what a fault of HTTP says of a fetch that has come so far
+    -- a fault of HTTP is what the rule answers to something that a fetch which has come so far may meet
     abbrev pub WasSo : Q → Progress → HttpError → Type 0
-    WasSo q p FetchFileNotFound = IsAnswered q p.received Missing
-    WasSo q p FetchFatal = IsAnswered q p.received Refused
-        ⊎ ((piece : List ℕ) × Gave bodies q p.received (Some (Ok piece)) × (2 ^ 64 ≤ p.received + length piece))
-    WasSo q p (FetchNoMoreRetries tries) = (tries ≡ s.tries)
-        × (Happens q p.received Fault ⊎ IsAnswered q p.received Unready)
-        × ((s.tries ≤ p.retries) ⊎ ((p.received ≢ 0) × (p.is_ranged ≡ false)))
+    WasSo q p error = (event : RetryEvent) × MayMeet q p.received event × ((turn s p event).action ≡ Fail error)
 
     -- an error that a fetch which has come so far may end with: what it says was so, or there was no memory
     abbrev pub IsFetchFault : Q → List ℕ → Progress → TransportError → Type 0

@@ -1,8 +1,11 @@
 -- When a resource that is fetched over HTTP is asked for again.
 use Rattle.std.specs.Prelude.{ℕ, ◌+◌, ◌*◌, ◌/◌, ◌^◌, Bool, true, false, ◌&&◌, ◌||◌, ◌==◌, nat_lt, nat_le, if◌then◌else◌}
 use Rattle.std.specs.Duration.{as_nanos}
-use Rattle.tough_net.specs.declared.error.HttpError.{HttpError}
-use Rattle.tough_net.specs.declared.error.HttpError.TheVariants.{FetchFileNotFound, FetchFatal, FetchNoMoreRetries}
+use Rattle.tough_net.specs.declared.http_error.HttpError.{HttpError}
+use Rattle.tough_net.specs.declared.http_error.HttpError.TheVariants.{FetchFileNotFound, FetchFatal, FetchNoMoreRetries}
+use Rattle.tough_net.specs.declared.http_error.LastRequest.{LastRequest}
+use Rattle.tough_net.specs.declared.http_error.LastRequest.TheVariants.{Status, TooLong}
+use Rattle.tough_net.specs.declared.http_error.RequestError.{RequestError}
 use Rattle.tough_net.specs.declared.retry_events.AnswerClass.{AnswerClass}
 use Rattle.tough_net.specs.declared.retry_events.AnswerClass.TheVariants.{Body, Missing, Refused, Unready}
 use Rattle.tough_net.specs.declared.retry_events.RetryEvent.{RetryEvent}
@@ -31,6 +34,10 @@ pub record Progress : Type 0 where
   pub is_ranged : Bool
   pub is_over : Bool
 
+-- what is told of a fetch whose last request came to this
+abbrev pub told : Progress → LastRequest → RequestError
+told p last = record { requests = p.retries + 1; received = p.received; last = last }
+
 pub record Turn : Type 0 where
   pub progress : Progress
   pub action : RetryAction
@@ -54,29 +61,30 @@ module _ (s : RetrySettings) where
   failed p error = record { progress = record p { is_over = true }; action = Fail error }
 
   -- one more request, if one is left and can ask for the bytes that are missing. The first retry pauses as the first request did
-  abbrev pub retried : Progress → Turn
-  retried p =
+  abbrev pub retried : Progress → LastRequest → Turn
+  retried p last =
       if nat_lt p.retries s.tries && (p.received == 0 || p.is_ranged)
       then record {
         progress = record p { retries = p.retries + 1; pause = if p.retries == 0 then p.pause else next_pause p.pause };
         action = Request;
       }
-      else failed p (FetchNoMoreRetries s.tries)
+      else failed p (FetchNoMoreRetries s.tries (told p last))
 
-  abbrev pub answered : Progress → Bool → AnswerClass → Turn
-  answered p accepts_ranges Body = record { progress = record p { is_ranged = p.is_ranged || accepts_ranges }; action = Read }
-  answered p accepts_ranges Missing = failed p FetchFileNotFound
-  answered p accepts_ranges Refused = failed p FetchFatal
-  answered p accepts_ranges Unready = retried p
+  -- what an answer of this class leads to, whose status code is this
+  abbrev pub answered : Progress → ℕ → Bool → AnswerClass → Turn
+  answered p status accepts_ranges Body = record { progress = record p { is_ranged = p.is_ranged || accepts_ranges }; action = Read }
+  answered p status accepts_ranges Missing = failed p (FetchFileNotFound (told p (Status status)))
+  answered p status accepts_ranges Refused = failed p (FetchFatal (told p (Status status)))
+  answered p status accepts_ranges Unready = retried p (Status status)
 
   -- what follows an event of a fetch that isn't over
   abbrev pub turned : Progress → RetryEvent → Turn
-  turned p Fault = retried p
-  turned p (Answer status accepts_ranges) = answered p accepts_ranges (class_of status p.received)
+  turned p (Fault fault) = retried p (LastRequest.Fault fault)
+  turned p (Answer status accepts_ranges) = answered p status accepts_ranges (class_of status p.received)
   turned p (Piece len) =
       if nat_lt (p.received + len) (2 ^ 64)
       then record { progress = record p { received = p.received + len }; action = Read }
-      else failed p FetchFatal
+      else failed p (FetchFatal (told p TooLong))
   turned p End = record { progress = record p { is_over = true }; action = Finish }
 
   -- what follows an event. After its end a fetch stays as it is

@@ -3,6 +3,7 @@ ghost use Rattle.std.specs.Prelude.{◌≡◌, string_bytes, Some, None, IfOk};
 ghost use Rattle.std.specs.Option.{option_copied};
 ghost use Rattle.tough_net.specs.Errors.{IsExceeded, IsMemory, IsMismatch, error_kind, error_url, error_cause};
 
+use crate::HttpError;
 use std::alloc::{AllocError, Global};
 use std::error::Error;
 use std::fmt;
@@ -19,17 +20,6 @@ pub enum TransportErrorKind {
     Other,
     /// A request for memory was refused.
     Memory,
-}
-
-/// How a fetch over HTTP failed.
-#[derive(Debug, Drop, Clone, Copy, PartialEq, Eq)]
-pub enum HttpError {
-    /// The server answered that there is no such file.
-    FetchFileNotFound,
-    /// The server's answer forbids another request.
-    FetchFatal,
-    /// No request is left, or the bytes that are missing can't be asked for.
-    FetchNoMoreRetries { tries: u32 },
 }
 
 /// What led to a transport's fault.
@@ -193,20 +183,6 @@ impl Display for TransportErrorKind {
         })
     }
 }
-
-impl Display for HttpError {
-    fn fmt<W: fmt::Write>(&self, f: &mut Formatter<W>) -> fmt::Result {
-        match self {
-            HttpError::FetchFileNotFound => f.write_str("File not found"),
-            HttpError::FetchFatal => f.write_str("A non-retryable error occurred"),
-            HttpError::FetchNoMoreRetries { tries } => {
-                write!(f, "Fetch failed after {tries} retries")
-            }
-        }
-    }
-}
-
-impl Error for HttpError {}
 
 impl Display for Cause {
     fn fmt<W: fmt::Write>(&self, f: &mut Formatter<W>) -> fmt::Result {

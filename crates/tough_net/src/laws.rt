@@ -44,12 +44,18 @@ pub fn requests_are_few(settings: RetrySettings)
         → FewAndPaced settings (pauses_of run) }
 {}
 
+/// A stream that asks again has sent no more requests than the first and `tries` further ones, whatever was polled of it.
+pub fn sends_few<Q: Requests>(stream: &Retrying<Q>)
+    ensures { ⟦<Retrying<Q> as Stream>⟧.can_poll stream.now
+        → Q.sent stream.now.requests ≤ stream.now.core.settings.tries + 1 }
+{}
+
 /// A stream that asks again ends without an error only where a body ended: at the byte up to which
 /// it has handed on.
 pub fn ends_where_a_body_did<Q: Requests>(stream: &Retrying<Q>)
     ensures { (pieces : List (List ℕ))
-        → Fetches Q.bodies Q.answers stream.now.core.settings stream.now.requests
+        → Fetches Q.bodies Q.answers stream.now.core.settings (Q.resource stream.now.requests)
         (string_bytes stream.now.url) stream.now.core.progress (map Ok pieces) None
-        → Gave Q.bodies stream.now.requests
+        → Gave Q.bodies (Q.resource stream.now.requests)
         (stream.now.core.progress.received + length (joined_pieces pieces)) None }
 {}

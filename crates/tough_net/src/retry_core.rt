@@ -1,9 +1,11 @@
 //! When a resource that is fetched over HTTP is asked for again.
 ghost use Rattle.std.specs.Prelude.{◌≡◌, ◌+◌, ◌*◌, ◌/◌, ◌≤◌, ◌<◌};
 ghost use Rattle.std.specs.Duration.{as_nanos};
-ghost use Rattle.tough_net.specs.Retries.{class_of, next_pause, started, turn, turned, retried, answered, failed};
+ghost use Rattle.tough_net.specs.Retries.{class_of, next_pause, started, told, turn, turned, retried, answered, failed};
 
-use crate::{AnswerClass, HttpError, RetryAction, RetryEvent, RetrySettings};
+use crate::{
+    AnswerClass, HttpError, LastRequest, RequestError, RetryAction, RetryEvent, RetrySettings,
+};
 use std::cmp::Ordering;
 use std::marker::Model;
 use std::time::Duration;
@@ -90,11 +92,11 @@ impl RetryCore {
             return RetryAction::Finish;
         }
         match event {
-            RetryEvent::Fault => self.retry(),
+            RetryEvent::Fault(fault) => self.retry(LastRequest::Fault(fault)),
             RetryEvent::Answer {
                 status,
                 accepts_ranges,
-            } => self.answer(class_of(status, self.received), accepts_ranges),
+            } => self.answer(status, accepts_ranges),
             RetryEvent::Piece { len } => self.receive(len),
             RetryEvent::End => {
                 self.is_over = true;
@@ -113,10 +115,21 @@ impl RetryCore {
         RetryAction::Fail(error)
     }
 
-    fn retry(&mut self) -> RetryAction
-        ensures action { result ≡ (retried self.old.settings self.old.progress).action }
+    // What is told of a fetch whose last request came to this.
+    fn told(&self, last: LastRequest) -> RequestError
+        ensures { result ≡ told self.now.progress last }
+    {
+        RequestError {
+            requests: self.requests(),
+            received: self.received,
+            last,
+        }
+    }
+
+    fn retry(&mut self, last: LastRequest) -> RetryAction
+        ensures action { result ≡ (retried self.old.settings self.old.progress last).action }
         ensures progress { self.new.progress
-            ≡ (retried self.old.settings self.old.progress).progress }
+            ≡ (retried self.old.settings self.old.progress last).progress }
         ensures settings { self.new.settings ≡ self.old.settings }
     {
         let tries = self.settings.tries;
@@ -127,25 +140,27 @@ impl RetryCore {
             self.retries += 1;
             RetryAction::Request
         } else {
-            self.fail(HttpError::FetchNoMoreRetries { tries })
+            let source = self.told(last);
+            self.fail(HttpError::FetchNoMoreRetries { tries, source })
         }
     }
 
-    fn answer(&mut self, class: AnswerClass, accepts_ranges: bool) -> RetryAction
+    fn answer(&mut self, status: u16, accepts_ranges: bool) -> RetryAction
         ensures action { result ≡ (answered self.old.settings self.old.progress
-            accepts_ranges class).action }
-        ensures progress { self.new.progress
-            ≡ (answered self.old.settings self.old.progress accepts_ranges class).progress }
+            status accepts_ranges (class_of status self.old.progress.received)).action }
+        ensures progress { self.new.progress ≡ (answered self.old.settings self.old.progress
+            status accepts_ranges (class_of status self.old.progress.received)).progress }
         ensures settings { self.new.settings ≡ self.old.settings }
     {
-        match class {
+        let source = self.told(LastRequest::Status(status));
+        match class_of(status, self.received) {
             AnswerClass::Body => {
                 self.is_ranged = self.is_ranged || accepts_ranges;
                 RetryAction::Read
             }
-            AnswerClass::Missing => self.fail(HttpError::FetchFileNotFound),
-            AnswerClass::Refused => self.fail(HttpError::FetchFatal),
-            AnswerClass::Unready => self.retry(),
+            AnswerClass::Missing => self.fail(HttpError::FetchFileNotFound { source }),
+            AnswerClass::Refused => self.fail(HttpError::FetchFatal { source }),
+            AnswerClass::Unready => self.retry(LastRequest::Status(status)),
         }
     }
 
@@ -162,7 +177,10 @@ impl RetryCore {
                 self.received = received;
                 RetryAction::Read
             }
-            None => self.fail(HttpError::FetchFatal),
+            None => {
+                let source = self.told(LastRequest::TooLong);
+                self.fail(HttpError::FetchFatal { source })
+            }
         }
     }
 }

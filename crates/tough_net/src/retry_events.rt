@@ -1,7 +1,8 @@
 //! What can happen to a fetch over HTTP, and what is to be done then.
-ghost use Rattle.std.specs.Prelude.{◌<◌, ◌≡◌};
+ghost use Rattle.std.specs.Prelude.{◌<◌, ◌≡◌, ◌*◌, ◌^◌};
+ghost use Rattle.std.specs.Duration.{as_nanos};
 
-use crate::HttpError;
+use crate::{HttpError, RequestFault};
 use std::time::Duration;
 
 /// How often, and after which pauses, a resource is asked for again.
@@ -20,6 +21,9 @@ pub struct RetrySettings {
 }
 
 impl Default for RetrySettings {
+    ghost is_default = { λ s. (s.tries ≡ 4) × (as_nanos s.initial_backoff ≡ 100 * 10 ^ 6)
+        × (as_nanos s.max_backoff ≡ 10 ^ 9) × (s.numerator ≡ 3) × (s.denominator ≡ 2) };
+
     /// 4 further requests, and pauses from 100 ms to 1 s that grow by half.
     fn default() -> RetrySettings {
         RetrySettings {
@@ -36,7 +40,7 @@ impl Default for RetrySettings {
 #[derive(Debug, Drop, Clone, Copy, PartialEq, Eq)]
 pub enum RetryEvent {
     /// The host's look-up, the connection or the request failed, the answer took too long, or the body broke off.
-    Fault,
+    Fault(RequestFault),
     /// An answer came, with this status code, and perhaps with a field `Accept-Ranges` that contains `bytes`.
     Answer { status: u16, accepts_ranges: bool },
     /// So many bytes of the body came.

@@ -4,11 +4,11 @@ ghost use Rattle.futures.specs.Runs.{Within};
 ghost use Rattle.tough_net.specs.Resource.{Fetches, Happens, IsHttpFault, kind_of_http};
 ghost use Rattle.tough_net.specs.Errors.{IsMemory};
 ghost use Rattle.tough_net.specs.Retries.{started};
-ghost use Rattle.tough_net.specs.Retrying.{Acts, CanAct, Goes, IsReadable, StandsWell, Yields};
+ghost use Rattle.tough_net.specs.Retrying.{Acts, CanAct, Goes, IsCounted, IsReadable, StandsWell, Yields};
 
 use crate::{
-    Cause, Exchange, HttpError, Requests, Response, RetryAction, RetryCore, RetryEvent,
-    RetrySettings, TransportError, TransportErrorKind,
+    Cause, Exchange, HttpError, RequestFault, Requests, Response, RetryAction, RetryCore,
+    RetryEvent, RetrySettings, TransportError, TransportErrorKind,
 };
 use bytes::Bytes;
 use futures::task::{Context, Poll};
@@ -39,22 +39,26 @@ impl<Q: Requests> Retrying<Q> {
     /// The resource at the URL of this text. `None` where a pause can't be made.
     pub fn new(
         alloc: Global,
-        requests: Q,
+        mut requests: Q,
         url: String,
         settings: RetrySettings,
     ) -> Option<Retrying<Q>>
         ensures stands { IfSome result (λ m. StandsWell Q.bodies Q.answers
-            Q.Pause.can_poll Q.Connect.can_poll Q.Connect.gives Q.Conn.can_poll
+            Q.Pause.can_poll Q.Pause.gives Q.Connect.can_poll Q.Connect.gives Q.Conn.can_poll
             Q.Answer.can_poll Q.Answer.gives Q.Body.can_poll Q.Body.yields
-            m.requests m.core.progress m.state) }
-        ensures parts { IfSome result (λ m. (m.requests ≡ requests) × (m.url ≡ url)) }
+            m.core.settings (Q.resource m.requests) (Q.sent m.requests)
+            m.core.progress m.state) }
+        ensures parts { IfSome result (λ m. (Q.resource m.requests ≡ Q.resource requests)
+            × (m.url ≡ url)) }
         ensures fresh { IfSome result (λ m. (m.core.settings ≡ settings)
             × (m.core.progress ≡ started settings)) }
         ensures yields { IfSome result (λ m. Within
-            (Fetches Q.bodies Q.answers settings requests (string_bytes url) (started settings))
+            (Fetches Q.bodies Q.answers settings (Q.resource requests) (string_bytes url)
+            (started settings))
             (Yields Q.bodies Q.answers m.core.settings
-            m.requests (string_bytes m.url) m.core.progress m.state)) }
+            (Q.resource m.requests) (string_bytes m.url) m.core.progress m.state)) }
     {
+        requests.start();
         let core = RetryCore::new(settings);
         let pause = requests.pause(core.pause())?;
         Some(Retrying {
@@ -87,8 +91,8 @@ impl<Q: Requests> Retrying<Q> {
         ensures requests { self.new.requests ≡ self.old.requests }
         ensures core { self.new.core ≡ self.old.core }
         ensures url { self.new.url ≡ self.old.url }
-        ensures acts { Acts Q.Pause.can_poll (string_bytes self.old.url) action self.new.state
-            cx.old cx.new result }
+        ensures acts { Acts Q.Pause.can_poll Q.Pause.gives (string_bytes self.old.url)
+            self.old.core.progress.pause action self.new.state cx.old cx.new result }
     {
         match action {
             RetryAction::Request => match self.requests.pause(self.core.pause()) {
@@ -116,45 +120,55 @@ impl<Q: Requests> Retrying<Q> {
     }
 
     // What a failed try leads to.
-    fn retry(&mut self, cx: &mut Context<'_>) -> Poll<Option<Result<Bytes, TransportError>>>
+    fn retry(
+        &mut self,
+        fault: RequestFault,
+        cx: &mut Context<'_>,
+    ) -> Poll<Option<Result<Bytes, TransportError>>>
         requires goes_on { self.old.core.progress.is_over ≡ false }
-        requires happens { Happens Q.bodies Q.answers self.old.requests
-            self.old.core.progress.received RetryEvent.Fault }
+        requires counted { IsCounted self.old.core.settings (Q.sent self.old.requests)
+            self.old.core.progress 1 }
+        requires happens { Happens Q.bodies Q.answers (Q.resource self.old.requests)
+            self.old.core.progress.received (RetryEvent.Fault fault) }
         ensures { Goes
             (Fetches Q.bodies Q.answers self.old.core.settings
-            self.old.requests (string_bytes self.old.url) self.old.core.progress)
+            (Q.resource self.old.requests) (string_bytes self.old.url) self.old.core.progress)
             (Yields Q.bodies Q.answers self.new.core.settings
-            self.new.requests (string_bytes self.new.url) self.new.core.progress self.new.state)
+            (Q.resource self.new.requests) (string_bytes self.new.url) self.new.core.progress self.new.state)
             (StandsWell Q.bodies Q.answers
-            Q.Pause.can_poll Q.Connect.can_poll Q.Connect.gives Q.Conn.can_poll
+            Q.Pause.can_poll Q.Pause.gives Q.Connect.can_poll Q.Connect.gives Q.Conn.can_poll
             Q.Answer.can_poll Q.Answer.gives Q.Body.can_poll Q.Body.yields
-            self.new.requests self.new.core.progress self.new.state)
+            self.new.core.settings (Q.resource self.new.requests) (Q.sent self.new.requests)
+            self.new.core.progress self.new.state)
             cx.old cx.new result }
     {
-        let action = self.core.next(RetryEvent::Fault);
+        let action = self.core.next(RetryEvent::Fault(fault));
         self.act(action, cx)
     }
 
     // Connects, once a pause is over.
     fn connect(&mut self, cx: &mut Context<'_>) -> Poll<Option<Result<Bytes, TransportError>>>
         requires goes_on { self.old.core.progress.is_over ≡ false }
+        requires counted { IsCounted self.old.core.settings (Q.sent self.old.requests)
+            self.old.core.progress 0 }
         ensures { Goes
             (Fetches Q.bodies Q.answers self.old.core.settings
-            self.old.requests (string_bytes self.old.url) self.old.core.progress)
+            (Q.resource self.old.requests) (string_bytes self.old.url) self.old.core.progress)
             (Yields Q.bodies Q.answers self.new.core.settings
-            self.new.requests (string_bytes self.new.url) self.new.core.progress self.new.state)
+            (Q.resource self.new.requests) (string_bytes self.new.url) self.new.core.progress self.new.state)
             (StandsWell Q.bodies Q.answers
-            Q.Pause.can_poll Q.Connect.can_poll Q.Connect.gives Q.Conn.can_poll
+            Q.Pause.can_poll Q.Pause.gives Q.Connect.can_poll Q.Connect.gives Q.Conn.can_poll
             Q.Answer.can_poll Q.Answer.gives Q.Body.can_poll Q.Body.yields
-            self.new.requests self.new.core.progress self.new.state)
+            self.new.core.settings (Q.resource self.new.requests) (Q.sent self.new.requests)
+            self.new.core.progress self.new.state)
             cx.old cx.new result }
     {
         match self.requests.connect() {
-            Some(connect) => {
+            Ok(connect) => {
                 self.state = State::Connecting(connect);
                 cx.yield_now()
             }
-            None => self.retry(cx),
+            Err(fault) => self.retry(fault, cx),
         }
     }
 
@@ -165,24 +179,27 @@ impl<Q: Requests> Retrying<Q> {
         cx: &mut Context<'_>,
     ) -> Poll<Option<Result<Bytes, TransportError>>>
         requires goes_on { self.old.core.progress.is_over ≡ false }
+        requires counted { IsCounted self.old.core.settings (Q.sent self.old.requests)
+            self.old.core.progress 0 }
         ensures { Goes
             (Fetches Q.bodies Q.answers self.old.core.settings
-            self.old.requests (string_bytes self.old.url) self.old.core.progress)
+            (Q.resource self.old.requests) (string_bytes self.old.url) self.old.core.progress)
             (Yields Q.bodies Q.answers self.new.core.settings
-            self.new.requests (string_bytes self.new.url) self.new.core.progress self.new.state)
+            (Q.resource self.new.requests) (string_bytes self.new.url) self.new.core.progress self.new.state)
             (StandsWell Q.bodies Q.answers
-            Q.Pause.can_poll Q.Connect.can_poll Q.Connect.gives Q.Conn.can_poll
+            Q.Pause.can_poll Q.Pause.gives Q.Connect.can_poll Q.Connect.gives Q.Conn.can_poll
             Q.Answer.can_poll Q.Answer.gives Q.Body.can_poll Q.Body.yields
-            self.new.requests self.new.core.progress self.new.state)
+            self.new.core.settings (Q.resource self.new.requests) (Q.sent self.new.requests)
+            self.new.core.progress self.new.state)
             cx.old cx.new result }
     {
         match self.requests.send(socket, self.core.received()) {
-            Some((body, conn)) => {
+            Ok((body, conn)) => {
                 let conn = Some(conn);
                 self.state = State::Asking(Exchange { conn, body });
                 cx.yield_now()
             }
-            None => self.retry(cx),
+            Err(fault) => self.retry(fault, cx),
         }
     }
 
@@ -195,17 +212,20 @@ impl<Q: Requests> Retrying<Q> {
     ) -> Poll<Option<Result<Bytes, TransportError>>>
         requires conn { IfSome conn Q.Conn.can_poll }
         requires body { IsReadable Q.bodies Q.answers Q.Body.can_poll Q.Body.yields
-            self.old.requests self.old.core.progress.received response }
+            (Q.resource self.old.requests) self.old.core.progress.received response }
         requires goes_on { self.old.core.progress.is_over ≡ false }
+        requires counted { IsCounted self.old.core.settings (Q.sent self.old.requests)
+            self.old.core.progress 1 }
         ensures { Goes
             (Fetches Q.bodies Q.answers self.old.core.settings
-            self.old.requests (string_bytes self.old.url) self.old.core.progress)
+            (Q.resource self.old.requests) (string_bytes self.old.url) self.old.core.progress)
             (Yields Q.bodies Q.answers self.new.core.settings
-            self.new.requests (string_bytes self.new.url) self.new.core.progress self.new.state)
+            (Q.resource self.new.requests) (string_bytes self.new.url) self.new.core.progress self.new.state)
             (StandsWell Q.bodies Q.answers
-            Q.Pause.can_poll Q.Connect.can_poll Q.Connect.gives Q.Conn.can_poll
+            Q.Pause.can_poll Q.Pause.gives Q.Connect.can_poll Q.Connect.gives Q.Conn.can_poll
             Q.Answer.can_poll Q.Answer.gives Q.Body.can_poll Q.Body.yields
-            self.new.requests self.new.core.progress self.new.state)
+            self.new.core.settings (Q.resource self.new.requests) (Q.sent self.new.requests)
+            self.new.core.progress self.new.state)
             cx.old cx.new result }
     {
         let action = self.core.next(RetryEvent::Answer {
@@ -224,39 +244,41 @@ impl<Q: Requests> Retrying<Q> {
     // Goes on with what is under way.
     fn go_on(&mut self, cx: &mut Context<'_>) -> Poll<Option<Result<Bytes, TransportError>>>
         requires { StandsWell Q.bodies Q.answers
-            Q.Pause.can_poll Q.Connect.can_poll Q.Connect.gives Q.Conn.can_poll
+            Q.Pause.can_poll Q.Pause.gives Q.Connect.can_poll Q.Connect.gives Q.Conn.can_poll
             Q.Answer.can_poll Q.Answer.gives Q.Body.can_poll Q.Body.yields
-            self.old.requests self.old.core.progress self.old.state }
+            self.old.core.settings (Q.resource self.old.requests) (Q.sent self.old.requests)
+            self.old.core.progress self.old.state }
         ensures { Goes
             (Yields Q.bodies Q.answers self.old.core.settings
-            self.old.requests (string_bytes self.old.url) self.old.core.progress self.old.state)
+            (Q.resource self.old.requests) (string_bytes self.old.url) self.old.core.progress self.old.state)
             (Yields Q.bodies Q.answers self.new.core.settings
-            self.new.requests (string_bytes self.new.url) self.new.core.progress self.new.state)
+            (Q.resource self.new.requests) (string_bytes self.new.url) self.new.core.progress self.new.state)
             (StandsWell Q.bodies Q.answers
-            Q.Pause.can_poll Q.Connect.can_poll Q.Connect.gives Q.Conn.can_poll
+            Q.Pause.can_poll Q.Pause.gives Q.Connect.can_poll Q.Connect.gives Q.Conn.can_poll
             Q.Answer.can_poll Q.Answer.gives Q.Body.can_poll Q.Body.yields
-            self.new.requests self.new.core.progress self.new.state)
+            self.new.core.settings (Q.resource self.new.requests) (Q.sent self.new.requests)
+            self.new.core.progress self.new.state)
             cx.old cx.new result }
     {
         match &mut self.state {
             State::Pausing(pause) => match pause.poll(cx) {
                 Poll::Pending => Poll::Pending,
-                Poll::Ready(()) => self.connect(cx),
+                Poll::Ready(_) => self.connect(cx),
             },
             State::Connecting(connect) => match connect.poll(cx) {
                 Poll::Pending => Poll::Pending,
-                Poll::Ready(Some(socket)) => self.send(socket, cx),
-                Poll::Ready(None) => self.retry(cx),
+                Poll::Ready(Ok(socket)) => self.send(socket, cx),
+                Poll::Ready(Err(fault)) => self.retry(fault, cx),
             },
             State::Asking(exchange) => {
                 exchange.poll_conn(cx);
                 match exchange.body.poll(cx) {
                     Poll::Pending => Poll::Pending,
-                    Poll::Ready(Some(response)) => {
+                    Poll::Ready(Ok(response)) => {
                         let conn = exchange.conn.take();
                         self.answer(response, conn, cx)
                     }
-                    Poll::Ready(None) => self.retry(cx),
+                    Poll::Ready(Err(fault)) => self.retry(fault, cx),
                 }
             }
             State::Reading(exchange) => match exchange.poll_next(cx) {
@@ -268,7 +290,7 @@ impl<Q: Requests> Retrying<Q> {
                         action => self.act(action, cx),
                     }
                 }
-                Poll::Ready(Some(Err(_))) => self.retry(cx),
+                Poll::Ready(Some(Err(_))) => self.retry(RequestFault::Cut, cx),
                 Poll::Ready(None) => {
                     self.state = State::Ended;
                     Poll::Ready(None)
@@ -283,12 +305,12 @@ impl<Q: Requests> Stream for Retrying<Q> {
     type Item = Result<Bytes, TransportError>;
 
     ghost can_poll = { λ m. StandsWell Q.bodies Q.answers
-        Q.Pause.can_poll Q.Connect.can_poll Q.Connect.gives Q.Conn.can_poll
+        Q.Pause.can_poll Q.Pause.gives Q.Connect.can_poll Q.Connect.gives Q.Conn.can_poll
         Q.Answer.can_poll Q.Answer.gives Q.Body.can_poll Q.Body.yields
-        m.requests m.core.progress m.state };
+        m.core.settings (Q.resource m.requests) (Q.sent m.requests) m.core.progress m.state };
 
     ghost yields = { λ m. Yields Q.bodies Q.answers m.core.settings
-        m.requests (string_bytes m.url) m.core.progress m.state };
+        (Q.resource m.requests) (string_bytes m.url) m.core.progress m.state };
 
     fn poll_next(&mut self, cx: &mut Context<'_>) -> Poll<Option<Self::Item>> {
         self.go_on(cx)
@@ -299,7 +321,7 @@ fn http_kind(error: HttpError) -> TransportErrorKind
     ensures { result ≡ kind_of_http error }
 {
     match error {
-        HttpError::FetchFileNotFound => TransportErrorKind::FileNotFound,
-        HttpError::FetchFatal | HttpError::FetchNoMoreRetries { .. } => TransportErrorKind::Other,
+        HttpError::FetchFileNotFound { .. } => TransportErrorKind::FileNotFound,
+        _ => TransportErrorKind::Other,
     }
 }
