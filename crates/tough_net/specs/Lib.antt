@@ -11,3 +11,4 @@ pub mod Resource
 pub mod Retries
 pub mod RetryRecord
 pub mod Retrying
+pub mod Urls

@@ -17,6 +17,7 @@ mod retry_core;
 mod retry_events;
 mod retrying;
 mod transport;
+mod urls;
 
 pub use collect::{Collect, fetch_whole};
 pub use digest_check::DigestCheck;
@@ -33,3 +34,4 @@ pub use retry_core::RetryCore;
 pub use retry_events::{AnswerClass, RetryAction, RetryEvent, RetrySettings};
 pub use retrying::{Retrying, State};
 pub use transport::{Transport, TransportStream, fetch_max_size, fetch_sha256};
+pub use urls::{JoinError, SlashError, join, with_slash};
