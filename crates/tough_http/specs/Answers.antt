@@ -1,10 +1,8 @@
 -- What an answer over HTTP tells a fetch.
-use Rattle.std.specs.Prelude.{◌≡◌, ◌↔◌, ◌⊎◌, ℕ, List, [], ◌∷◌, Bool, IsTrue, codes}
+use Rattle.std.specs.Prelude.{◌⊎◌, ℕ, List, [], ◌∷◌, codes}
 use Rattle.memchr.specs.Find.{OccursAt}
 use Rattle.http_header.specs.HeaderMap.{Entries, get_all}
 use Rattle.http_header.specs.declared.value.HeaderValue.{HeaderValue}
-use Rattle.tough_net.specs.declared.retry_events.RetryEvent.{RetryEvent}
-use Rattle.tough_net.specs.declared.retry_events.RetryEvent.TheVariants.{Answer}
 
 -- the part stands somewhere in the text
 abbrev pub HasPart : List ℕ → List ℕ → Type 0
@@ -18,7 +16,3 @@ IsInSome part (value ∷ values) = HasPart value.bytes part ⊎ IsInSome part va
 -- The answerer serves ranges of bytes: some field Accept-Ranges, RFC 9110, section 14.3, has that unit in its value.
 abbrev pub AcceptsBytes : Entries HeaderValue → Type 0
 AcceptsBytes fields = IsInSome (codes "bytes") (get_all fields (codes "accept-ranges"))
-
--- the event that an answer with this status code and these fields is
-abbrev pub IsEventOf : ℕ → Entries HeaderValue → RetryEvent → Type 0
-IsEventOf status fields event = (accepts : Bool) × (event ≡ Answer status accepts) × (IsTrue accepts ↔ AcceptsBytes fields)

@@ -23,6 +23,6 @@ abbrev pub RefusesHttp : List ℕ → List ℕ → TransportError → Type 0
 RefusesHttp scheme url e = IsMemory e ⊎ (¬ (IsHttpScheme scheme) × IsUnsupported url e)
 
 module _ {Q : Type 0} (bodies : Q → ℕ → Runs Item) (answers : Q → ℕ → RetryEvent → Type 0) where
-  -- what a fetch of the URL of this text may yield that has just begun, by requests of whatever state
+  -- what a fetch of the URL of this text may yield that has just begun, by requests of whatever resource
   abbrev pub ServesHttp : RetrySettings → List ℕ → Runs Item
-  ServesHttp s url xs last = (requests : Q) × Fetches bodies answers s requests url (started s) xs last
+  ServesHttp s url xs last = (resource : Q) × Fetches bodies answers s resource url (started s) xs last

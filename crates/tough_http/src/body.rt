@@ -1,6 +1,6 @@
 //! The answer to a request, and its body.
 
-use crate::accepts_ranges;
+use crate::answer::response;
 use crate::deadline::Deadline;
 use bytes::Bytes;
 use futures::task::{Context, Poll};
@@ -9,9 +9,9 @@ use http_body::Body;
 use hyper::body::Incoming;
 use hyper::client::conn::http1::ResponseFuture;
 use std::alloc::{AllocError, Global};
-use tough_net::{Response, TransportError, TransportErrorKind};
+use tough_net::{RequestFault, Response, TransportError, TransportErrorKind};
 
-/// Gives the answer to a request, or nothing where none comes in time.
+/// Gives the answer to a request, or why none came.
 #[derive(Drop)]
 pub struct HttpAnswer {
     pub alloc: Global,
@@ -20,25 +20,24 @@ pub struct HttpAnswer {
 }
 
 impl Future for HttpAnswer {
-    type Output = Option<Response<HttpBody>>;
+    type Output = Result<Response<HttpBody>, RequestFault>;
 
-    fn poll(&mut self, cx: &mut Context<'_>) -> Poll<Option<Response<HttpBody>>> {
+    fn poll(&mut self, cx: &mut Context<'_>) -> Poll<Self::Output> {
         match self.response.poll(cx) {
-            Poll::Ready(Ok(response)) => {
-                let (head, body) = response.into_parts();
+            Poll::Ready(Ok(answer)) => {
+                let (head, body) = answer.into_parts();
                 let (alloc, deadline) = (self.alloc, self.deadline.take());
-                Poll::Ready(Some(Response {
-                    status: head.status.as_u16(),
-                    accepts_ranges: accepts_ranges(&head.headers),
-                    body: HttpBody {
-                        alloc,
-                        body,
-                        deadline,
-                    },
-                }))
+                let body = HttpBody {
+                    alloc,
+                    body,
+                    deadline,
+                };
+                Poll::Ready(Ok(response(head.status.as_u16(), &head.headers, body)))
             }
-            Poll::Ready(Err(_)) => Poll::Ready(None),
-            Poll::Pending if self.deadline.poll_over(cx) => Poll::Ready(None),
+            Poll::Ready(Err(_)) => Poll::Ready(Err(RequestFault::Unanswered)),
+            Poll::Pending if self.deadline.poll_over(cx) => {
+                Poll::Ready(Err(RequestFault::TimedOut))
+            }
             Poll::Pending => Poll::Pending,
         }
     }

@@ -1,4 +1,5 @@
 //! One fresh connection.
+ghost use Rattle.std.specs.Prelude.{◌≡◌};
 ghost use Rattle.futures.specs.Poll.{OnPending};
 ghost use Rattle.futures.specs.Task.{IsArmed, Keeps};
 
@@ -12,6 +13,7 @@ use std::time::{Clock, Duration};
 use tokio::net::{ConnectFuture, TcpStream};
 use tokio::runtime::Handle;
 use tokio::time::Sleep;
+use tough_net::RequestFault;
 use url::{Host, Url};
 
 /// A connection, and until when its try may go on.
@@ -21,16 +23,21 @@ pub struct HttpSocket {
     pub deadline: Deadline,
 }
 
-/// Ends after a pause.
+/// Ends after a pause, and gives its length.
 #[derive(Drop)]
-pub struct HttpPause(pub Sleep);
+pub struct HttpPause {
+    pub sleep: Sleep,
+    pub length: Duration,
+}
 
 impl Future for HttpPause {
-    type Output = ();
+    type Output = Duration;
 
-    fn poll(&mut self, cx: &mut Context<'_>) -> Poll<()> {
-        match self.0.poll(cx) {
-            Poll::Ready(_) => Poll::Ready(()),
+    ghost gives = { λ p o. o ≡ p.length };
+
+    fn poll(&mut self, cx: &mut Context<'_>) -> Poll<Duration> {
+        match self.sleep.poll(cx) {
+            Poll::Ready(_) => Poll::Ready(self.length),
             Poll::Pending => Poll::Pending,
         }
     }
@@ -63,22 +70,26 @@ impl<R: Net + Clock + AllocGlobal + Drop> HttpConnect<R> {
         url: &Url,
         timeout: Duration,
         connect_timeout: Duration,
-    ) -> io::Result<HttpConnect<R>> {
-        let mut addresses = addresses_of(&rt, rt.alloc(), url)?;
+    ) -> Result<HttpConnect<R>, RequestFault> {
+        let Ok(mut addresses) = addresses_of(&rt, rt.alloc(), url) else {
+            return Err(RequestFault::NoSuchHost);
+        };
         addresses.reverse();
         let count = u32::try_from(addresses.len()).unwrap_or(u32::MAX);
         let share = connect_timeout
             .checked_div(count)
             .unwrap_or(connect_timeout);
-        let deadline = Deadline::new(handle.time().sleep(&rt, timeout)?);
-        Ok(HttpConnect {
-            rt,
-            handle,
-            addresses,
-            share,
-            under_way: None,
-            deadline,
-        })
+        match handle.time().sleep(&rt, timeout) {
+            Ok(sleep) => Ok(HttpConnect {
+                rt,
+                handle,
+                addresses,
+                share,
+                under_way: None,
+                deadline: Deadline::new(sleep),
+            }),
+            Err(_) => Err(RequestFault::NoMemory),
+        }
     }
 
     // Begins with the next address, if one is left.
@@ -91,8 +102,12 @@ impl<R: Net + Clock + AllocGlobal + Drop> HttpConnect<R> {
         })
     }
 
-    // Goes on to the next address.
-    fn go_on(&mut self, cx: &mut Context<'_>) -> Poll<Option<HttpSocket>>
+    // Goes on to the next address, after this fault of the one before.
+    fn go_on(
+        &mut self,
+        fault: RequestFault,
+        cx: &mut Context<'_>,
+    ) -> Poll<Result<HttpSocket, RequestFault>>
         ensures registered { OnPending result (IsArmed cx.new) }
         ensures kept { Keeps cx.old cx.new }
     {
@@ -101,26 +116,28 @@ impl<R: Net + Clock + AllocGlobal + Drop> HttpConnect<R> {
                 self.under_way = Some(attempt);
                 cx.yield_now()
             }
-            None => Poll::Ready(None),
+            None => Poll::Ready(Err(fault)),
         }
     }
 }
 
 impl<R: Net + Clock + AllocGlobal + Drop> Future for HttpConnect<R> {
-    type Output = Option<HttpSocket>;
+    type Output = Result<HttpSocket, RequestFault>;
 
-    fn poll(&mut self, cx: &mut Context<'_>) -> Poll<Option<HttpSocket>> {
+    fn poll(&mut self, cx: &mut Context<'_>) -> Poll<Self::Output> {
         let Some(attempt) = &mut self.under_way else {
-            return self.go_on(cx);
+            return self.go_on(RequestFault::NoSuchHost, cx);
         };
         match attempt.connect.poll(cx) {
             Poll::Ready(Ok(stream)) => {
                 let deadline = self.deadline.take();
-                Poll::Ready(Some(HttpSocket { stream, deadline }))
+                Poll::Ready(Ok(HttpSocket { stream, deadline }))
             }
-            Poll::Ready(Err(_)) => self.go_on(cx),
-            Poll::Pending if attempt.limit.poll_over(cx) => self.go_on(cx),
-            Poll::Pending if self.deadline.poll_over(cx) => Poll::Ready(None),
+            Poll::Ready(Err(_)) => self.go_on(RequestFault::Unconnected, cx),
+            Poll::Pending if attempt.limit.poll_over(cx) => self.go_on(RequestFault::TimedOut, cx),
+            Poll::Pending if self.deadline.poll_over(cx) => {
+                Poll::Ready(Err(RequestFault::TimedOut))
+            }
             Poll::Pending => Poll::Pending,
         }
     }

@@ -10,12 +10,12 @@ mod default;
 mod requests;
 mod transport;
 
-pub use answer::{accepts_ranges, answer_event};
+pub use answer::{accepts_ranges, response};
 pub use body::{HttpAnswer, HttpBody};
 pub use builder::HttpTransportBuilder;
 pub use connect::{HttpConnect, HttpPause, HttpSocket};
 pub use deadline::Deadline;
 pub use default::{DefaultStream, DefaultTransport};
 pub use requests::HttpRequests;
-pub use tough_net::HttpError;
+pub use tough_net::{HttpError, LastRequest, RequestError, RequestFault};
 pub use transport::{HttpStream, HttpTransport};

@@ -1,5 +1,6 @@
 //! Requests over sockets.
-ghost use Rattle.std.specs.Prelude.{⊤};
+ghost use Rattle.std.specs.Prelude.{⊤, List, ℕ};
+ghost use Rattle.url.specs.Parts.{serialize};
 
 use crate::body::{HttpAnswer, HttpBody};
 use crate::connect::{HttpConnect, HttpPause, HttpSocket};
@@ -14,7 +15,7 @@ use std::random::RandomSource;
 use std::time::{Clock, Duration};
 use tokio::net::TcpStream;
 use tokio::runtime::Handle;
-use tough_net::Requests;
+use tough_net::{RequestFault, Requests};
 use url::Url;
 
 /// Makes requests of the resource at a URL, each over a fresh connection.
@@ -25,6 +26,8 @@ pub struct HttpRequests<R> {
     pub url: Url,
     pub timeout: Duration,
     pub connect_timeout: Duration,
+    /// The requests sent since the fetch began, modulo 2^64.
+    pub sent: u64,
 }
 
 impl<R: Net + Clock + RandomSource + AllocGlobal + Clone + Drop> Requests for HttpRequests<R> {
@@ -40,36 +43,55 @@ impl<R: Net + Clock + RandomSource + AllocGlobal + Clone + Drop> Requests for Ht
 
     type Pause = HttpPause;
 
+    // A resource is what its URL names.
+    ghost Resource = { List ℕ };
+
+    ghost resource = { λ q. serialize q.url };
+
+    ghost sent = { λ q. q.sent };
+
     // Nothing is known of what comes over a socket.
     ghost bodies = { λ _ _ _ _. ⊤ };
 
     ghost answers = { λ _ _ _. ⊤ };
 
-    fn pause(&self, pause: Duration) -> Option<HttpPause> {
-        let sleep = self.handle.time().sleep(&self.rt, pause).ok()?;
-        Some(HttpPause(sleep))
+    fn start(&mut self) {
+        self.sent = 0;
     }
 
-    fn connect(&self) -> Option<HttpConnect<R>> {
-        let rt = self.rt.clone().ok()?;
-        let handle = self.handle.clone().ok()?;
-        HttpConnect::new(rt, handle, &self.url, self.timeout, self.connect_timeout).ok()
+    fn pause(&self, pause: Duration) -> Option<HttpPause> {
+        let sleep = self.handle.time().sleep(&self.rt, pause).ok()?;
+        Some(HttpPause {
+            sleep,
+            length: pause,
+        })
+    }
+
+    fn connect(&self) -> Result<HttpConnect<R>, RequestFault> {
+        let rt = self.rt.clone().map_err(|_| RequestFault::NoMemory)?;
+        let handle = self.handle.clone().map_err(|_| RequestFault::NoMemory)?;
+        HttpConnect::new(rt, handle, &self.url, self.timeout, self.connect_timeout)
     }
 
     fn send(
-        &self,
+        &mut self,
         socket: HttpSocket,
         from: u64,
-    ) -> Option<(HttpAnswer, Connection<TcpStream, Empty<Bytes>>)> {
+    ) -> Result<(HttpAnswer, Connection<TcpStream, Empty<Bytes>>), RequestFault> {
+        self.sent = self.sent.wrapping_add(1);
         let alloc = self.rt.alloc();
-        let request = request_for(alloc, &self.url, from)?;
-        let keys = RandomState::new(&self.rt).ok()?;
+        let Some(request) = request_for(alloc, &self.url, from) else {
+            return Err(RequestFault::NoMemory);
+        };
+        let Ok(keys) = RandomState::new(&self.rt) else {
+            return Err(RequestFault::NoMemory);
+        };
         let HttpSocket { stream, deadline } = socket;
         let Ok((mut sender, conn)) = http1::handshake(alloc, keys, stream) else {
-            return None;
+            return Err(RequestFault::NoMemory);
         };
         let response = sender.send_request(request);
-        Some((
+        Ok((
             HttpAnswer {
                 alloc,
                 response,

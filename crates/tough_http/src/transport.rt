@@ -75,6 +75,7 @@ impl<R: Clone> HttpTransport<R> {
             url: url.clone()?,
             timeout: self.settings.try_time(),
             connect_timeout: self.settings.connect_time(),
+            sent: 0,
         })
     }
 }

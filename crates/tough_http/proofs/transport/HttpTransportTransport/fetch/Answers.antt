@@ -12,5 +12,5 @@ returns-in-Some-clause-served g c =
     let is : string_bytes c.in_ok-text.text ≡ serialize c.args.url.now = search rules in
     λ xs last h. (
       search rules,
-      begun_serves (λ _ _ _ _. ⊤) (λ _ _ _. ⊤) c.retries.result (retries_of (builder_of c.args.self.now)) (string_bytes c.in_ok-text.text) (serialize c.args.url.now) c.in_ok-requests.requests same is xs last (c.in-Some.ensures.yields xs last h),
+      begun_serves (λ _ _ _ _. ⊤) (λ _ _ _. ⊤) c.retries.result (retries_of (builder_of c.args.self.now)) (string_bytes c.in_ok-text.text) (serialize c.args.url.now) (serialize c.in_ok-requests.requests.url) same is xs last (c.in-Some.ensures.yields xs last h),
     )
