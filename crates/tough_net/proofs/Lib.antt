@@ -1,7 +1,6 @@
 pub mod lemmas
 pub mod CheckLemmas
 pub mod EndLemmas
-pub mod FileLemmas
 pub mod Going
 pub mod JoinLemmas
 pub mod LimitLemmas

@@ -1,2 +1,3 @@
 -- Facts about this crate's definitions, for the proofs of the crates above it too.
 pub mod Collect
+pub mod Files

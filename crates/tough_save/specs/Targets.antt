@@ -1,9 +1,9 @@
 -- The file of a target, as it is served (TUF specification 1.0, sections 5.7.2 and 5.7.3).
-use Rattle.std.specs.Prelude.{◌≡◌, ◌≢◌, ◌⊎◌, ℕ, Bool, true, false, List, [], ◌++◌, length, None, Some, Ok, Err, codes, nat_eq, string_bytes, if◌then◌else◌, ⊤}
+use Rattle.std.specs.Prelude.{◌≡◌, ◌≢◌, ◌⊎◌, ℕ, Bool, true, false, List, [], ◌++◌, length, None, Some, Ok, codes, nat_eq, string_bytes, if◌then◌else◌, ⊤}
 use Rattle.std.specs.List.{starts_with}
 use Rattle.hex.specs.Hex.{encode_lower}
 use Rattle.url.specs.Parts.{Parts, serialize}
-use Rattle.url.specs.Parser.{parse_url, Gives}
+use Rattle.url.specs.Parser.{parse_url}
 use Rattle.futures.specs.Runs.{Runs, Within}
 use Rattle.tough_net.specs.declared.error.TransportError.{TransportError}
 use Rattle.tough_net.specs.declared.digest_check.DigestCheck.{DigestCheck}
@@ -12,6 +12,7 @@ use Rattle.tough_net.specs.Checking.{checked, expected_of, failure_of, HasTaken}
 use Rattle.tough_net.specs.Errors.{IsMemory, IsMismatch}
 use Rattle.tough_net.specs.Items.{Item}
 use Rattle.tough_net.specs.Limiting.{limit_of, limited}
+use Rattle.tough_net.specs.Urls.{CannotJoin}
 use Rattle.tough_save.specs.declared.target.FetchError.{FetchError}
 use Rattle.tough_save.specs.declared.target.FetchError.TheVariants.{JoinUrl, Escapes, Transport, Memory}
 
@@ -37,7 +38,7 @@ module _ {T S : Type 0} (serves : T → Parts → Runs Item) (yields : S → Run
 module _ {T : Type 0} (refuses : T → Parts → TransportError → Type 0) where
   -- why the file isn't fetched
   abbrev pub IsUnbegun : T → Parts → List ℕ → List ℕ → FetchError → Type 0
-  IsUnbegun t base name digest (JoinUrl e) = Gives (Err e) (parse_url (Some base) name)
+  IsUnbegun t base name digest (JoinUrl e) = CannotJoin base name e
   IsUnbegun t base name digest (Escapes text) = (url : Parts) × (parse_url (Some base) name ≡ Ok url) × (string_bytes text ≡ serialize url)
       × (starts_with nat_eq (serialize url) (serialize base) ≡ false)
   IsUnbegun t base name digest (Transport e) = (url : Parts) × IsBelow base name url

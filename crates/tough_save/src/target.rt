@@ -10,7 +10,8 @@ ghost use Rattle.tough_save.specs.Targets as spec;
 
 use std::alloc::{AllocError, Global};
 use tough_net::{
-    Cause, DigestCheck, MaxSize, Transport, TransportError, TransportErrorKind, fetch_sha256,
+    Cause, DigestCheck, JoinError, MaxSize, Transport, TransportError, TransportErrorKind,
+    fetch_sha256, join,
 };
 use url::{ParseError, Url};
 
@@ -87,9 +88,10 @@ pub fn fetch_target<T: Transport>(
     ensures refused { IfErr result
         (IsUnbegun T.refuses transport.now base.now name.now digest.now) }
 {
-    let url = match base.join(name) {
+    let url = match join(base, name) {
         Ok(url) => url,
-        Err(error) => return Err(FetchError::JoinUrl(error)),
+        Err(JoinError::Parse(error)) => return Err(FetchError::JoinUrl(error)),
+        Err(JoinError::Memory) => return Err(FetchError::Memory),
     };
     if !url
         .as_str()

@@ -1,4 +1,4 @@
-use Rattle.tough_net.proofs.FileLemmas.{Collects_file}
+use Rattle.tough_net.proofs.lemmas.Files.{Collects_file}
 use Rattle.tough_net.proofs.laws.collected_is_file.Goals as goal
 
 pub returns : goal.returns
