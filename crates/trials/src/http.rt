@@ -4,6 +4,7 @@ use crate::program::run;
 use anyhow::Result;
 use serde_json::Value;
 use std::alloc::{AllocGlobal, Global};
+use std::fs::File;
 use std::io::{Read, Write};
 use std::net::{Ipv4Addr, Net, SocketAddr, TcpListener, TcpStream};
 use std::random::RandomSource;
@@ -82,7 +83,7 @@ fn run_and_end<R>(
     addr: SocketAddr,
 ) -> Result<String>
 where
-    R: Files + Net + Wait + Clock + RandomSource + AllocGlobal + Clone + Drop,
+    R: Files<File = File> + Net + Wait + Clock + RandomSource + AllocGlobal + Clone + Drop,
 {
     let host = format!(in rt.alloc(); "127.0.0.1:{}", addr.port())?;
     let told = run(waiting, folder, host.as_str(), step);
@@ -99,7 +100,7 @@ pub(crate) fn run_beside_server<R>(
     step: &Value,
 ) -> Result<String>
 where
-    R: Files + Net + Threads + Wait + Clock + RandomSource + AllocGlobal + Clone + Drop,
+    R: Files<File = File> + Net + Threads + Wait + Clock + RandomSource + AllocGlobal + Clone + Drop,
 {
     let listener = TcpListener::bind(rt, SocketAddr::from((Ipv4Addr::LOCALHOST, 0)))?;
     let addr = listener.local_addr()?;

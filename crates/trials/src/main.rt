@@ -20,6 +20,7 @@ mod update;
 use anyhow::{Result, anyhow};
 use serde_json::Value;
 use std::alloc::AllocGlobal;
+use std::fs::File;
 use std::net::Net;
 use std::random::RandomSource;
 use std::rt::{Clock, Files};
@@ -49,7 +50,7 @@ fn of_updates(rt: &HostRuntime, call: &str, case: &Value) -> Result<String> {
 // What the call of a case answers. The program waits by the second runtime.
 fn answer<R>(rt: &HostRuntime, waiting: &R, case: &Value) -> Result<String>
 where
-    R: Files + Net + Threads + Wait + Clock + RandomSource + AllocGlobal + Clone + Drop,
+    R: Files<File = File> + Net + Threads + Wait + Clock + RandomSource + AllocGlobal + Clone + Drop,
 {
     let call = text(case, "call");
     match call {
@@ -66,7 +67,7 @@ where
 // Answers a case, and tells whether that is what is wanted.
 fn is_answered<R>(rt: &HostRuntime, waiting: &R, case: &Value) -> Result<bool>
 where
-    R: Files + Net + Threads + Wait + Clock + RandomSource + AllocGlobal + Clone + Drop,
+    R: Files<File = File> + Net + Threads + Wait + Clock + RandomSource + AllocGlobal + Clone + Drop,
 {
     let told = answer(rt, waiting, case)?;
     let gap = if told.starts_with("\n") { "" } else { " " };
@@ -83,7 +84,7 @@ where
 // Answers the cases of a file.
 fn try_file<R>(rt: &HostRuntime, waiting: &R, file: &str) -> Result<()>
 where
-    R: Files + Net + Threads + Wait + Clock + RandomSource + AllocGlobal + Clone + Drop,
+    R: Files<File = File> + Net + Threads + Wait + Clock + RandomSource + AllocGlobal + Clone + Drop,
 {
     let bytes = fs::read(rt, file)?;
     let read = Value::from_slice(rt.alloc(), bytes.as_slice())?;

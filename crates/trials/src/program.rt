@@ -4,6 +4,7 @@ use crate::http::run_beside_server;
 use anyhow::Result;
 use serde_json::Value;
 use std::alloc::AllocGlobal;
+use std::fs::File;
 use std::net::Net;
 use std::random::RandomSource;
 use std::rt::{Clock, Files};
@@ -36,7 +37,7 @@ fn without_moment(text: &str) -> &str {
 /// beside it.
 pub(crate) fn run<R>(rt: &R, folder: &str, host: &str, step: &Value) -> Result<String>
 where
-    R: Files + Net + Wait + Clock + RandomSource + AllocGlobal + Clone + Drop,
+    R: Files<File = File> + Net + Wait + Clock + RandomSource + AllocGlobal + Clone + Drop,
 {
     let alloc = rt.alloc();
     let (mut words, mut out, mut err) = (Vec::new(alloc), Vec::new(alloc), Vec::new(alloc));
@@ -65,7 +66,7 @@ fn names(rt: &HostRuntime, at: &str) -> Result<String> {
 // Takes a step below the folder, and tells what it came to.
 fn take<R>(rt: &HostRuntime, waiting: &R, folder: &str, step: &Value) -> Result<String>
 where
-    R: Files + Net + Threads + Wait + Clock + RandomSource + AllocGlobal + Clone + Drop,
+    R: Files<File = File> + Net + Threads + Wait + Clock + RandomSource + AllocGlobal + Clone + Drop,
 {
     let alloc = rt.alloc();
     let at = format!(in alloc; "{folder}/{}", text(step, "path"))?;
@@ -102,7 +103,7 @@ fn prepare(rt: &HostRuntime, folder: &str, case: &Value) -> Result<()> {
 /// Takes the steps of a case in a new folder with the case's files, and tells what each came to. The program waits by the second runtime.
 pub(crate) fn play<R>(rt: &HostRuntime, waiting: &R, case: &Value) -> Result<String>
 where
-    R: Files + Net + Threads + Wait + Clock + RandomSource + AllocGlobal + Clone + Drop,
+    R: Files<File = File> + Net + Threads + Wait + Clock + RandomSource + AllocGlobal + Clone + Drop,
 {
     let alloc = rt.alloc();
     let number = process::id(rt.process());

@@ -84,6 +84,7 @@ impl Shelf {
             fault,
             left,
             failures: 0,
+            removals: 0,
         })
     }
 
@@ -96,6 +97,7 @@ impl Shelf {
             fault,
             left,
             failures: 0,
+            removals: 0,
         }
     }
 

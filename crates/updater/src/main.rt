@@ -2,6 +2,7 @@
 #![tactic(auto)]
 
 use std::alloc::AllocGlobal;
+use std::fs::File;
 use std::net::Net;
 use std::random::RandomSource;
 use std::sync::Wait;
@@ -53,7 +54,7 @@ struct Wanted<'a> {
 // Loads the repository over files or HTTP, and saves the target.
 fn update<R>(rt: &R, wanted: Wanted<'_>) -> anyhow::Result<()>
 where
-    R: rt::Files + Net + Wait + rt::Clock + RandomSource + AllocGlobal + Clone + Drop,
+    R: rt::Files<File = File> + Net + Wait + rt::Clock + RandomSource + AllocGlobal + Clone + Drop,
 {
     let mut runtime = LocalRuntime::new(rt)?;
     let transport = DefaultTransport::new(rt.clone()?, runtime.handle().clone()?)?;
@@ -68,7 +69,7 @@ fn update_by<R, T>(
     wanted: Wanted<'_>,
 ) -> anyhow::Result<()>
 where
-    R: rt::Files + Wait + rt::Clock + RandomSource + AllocGlobal + Clone + Drop,
+    R: rt::Files<File = File> + Wait + rt::Clock + RandomSource + AllocGlobal + Clone + Drop,
     T: Transport,
 {
     let alloc = rt.alloc();
