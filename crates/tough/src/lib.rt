@@ -6,8 +6,9 @@
 pub mod error;
 pub mod files;
 mod get;
+pub mod http;
 mod opening;
-mod program;
+pub mod program;
 mod progress;
 mod report;
 pub mod schema;
@@ -19,7 +20,7 @@ pub use error::Error;
 pub use futures::task::{Context, Poll};
 pub use futures::{Future, Stream};
 pub use jiff;
-pub use program::{run, run_watched};
+pub use serde_json::{Map, Value};
 pub use tokio::runtime::LocalRuntime;
 pub use tough_base::{
     FileKind, Files, FilesError, MemoryFiles, NameError, OsFiles, SafeUrlPath, TargetName,
@@ -38,9 +39,9 @@ pub use tough_http::{
 };
 pub use tough_net::{
     AnswerClass, Cause, DigestCheck, FileStream, FilesystemTransport, HttpError, IntoVec,
-    IntoVecFuture, MaxSize, MemoryStream, MemoryTransport, RetryAction, RetryCore, RetryEvent,
+    IntoVecFuture, LastRequest, MaxSize, MemoryStream, MemoryTransport, RequestError, RequestFault, RetryAction, RetryCore, RetryEvent,
     RetrySettings, Transport, TransportError, TransportErrorKind, TransportStream, fetch_max_size,
     fetch_sha256,
 };
-pub use url::Url;
+pub use url::{ParseError, Url};
 pub use waiting::{drive_on, open_on};

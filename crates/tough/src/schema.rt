@@ -7,6 +7,8 @@ pub use tough_base::{
     Compat, Decode, DecodeError, Decoded, EcdsaFlex, EcdsaPem, Encode, Hex, PathHashPrefix,
     PathPattern, PatternError, RsaPem,
 };
+pub use tough_json::Form;
+pub use tough_net::{FilesystemTransport, Transport};
 pub use tough_schema::{
     CjsonError, DelegatedRole, DelegatedTargets, Delegations, DemoSign, DemoVerify, EcdsaKey,
     EcdsaScheme, Ed25519Key, Ed25519Scheme, Error, FileError, Hashes, Key, KeyHolder,

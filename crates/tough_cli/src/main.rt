@@ -2,17 +2,30 @@
 #![tactic(auto)]
 
 use std::env;
-use std::io::{self, IsTerminal};
+use std::io::{self, ErrorKind, IsTerminal};
 use std::process::ExitCode;
 
-fn main(rt: HostRuntime) -> io::Result<ExitCode> {
+// The words behind the program's name: none where one of them is no UTF-8, since no command has such a word.
+fn words(rt: &HostRuntime) -> io::Result<Vec<String>> {
     let mut words = Vec::new(rt.alloc());
-    for word in env::args(&rt)?.skip(1) {
-        words.push(word)?;
+    match env::args(rt) {
+        Ok(args) => {
+            for word in args.skip(1) {
+                words.push(word)?;
+            }
+        }
+        Err(error) if error.kind() == ErrorKind::OutOfMemory => return Err(error),
+        Err(_) => {}
     }
+    Ok(words)
+}
+
+fn main(rt: HostRuntime) -> io::Result<ExitCode> {
+    let words = words(&rt)?;
     let mut out = rt.stdout();
     let mut err = rt.stderr();
     let is_watched = err.is_terminal();
-    let status = tough::run_watched(&rt, words.as_slice(), &mut out, &mut err, is_watched);
+    let words = words.as_slice();
+    let status = tough::program::run_watched(&rt, words, &mut out, &mut err, is_watched);
     Ok(ExitCode::from(status))
 }

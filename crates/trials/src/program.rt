@@ -45,7 +45,7 @@ where
         let word = word.as_str().unwrap_or("").replace(alloc, "DIR", folder)?;
         words.push(word.replace(alloc, "HOST", host)?)?;
     }
-    let status = tough::run(rt, words.as_slice(), &mut out, &mut err);
+    let status = tough::program::run(rt, words.as_slice(), &mut out, &mut err);
     let out = String::from_utf8(out)?.replace(alloc, folder, "DIR")?;
     let err = String::from_utf8(err)?.replace(alloc, folder, "DIR")?;
     let err = err.replace(alloc, host, "HOST")?;

@@ -5,7 +5,7 @@ use anyhow::Result;
 use serde_json::Value;
 use std::alloc::Global;
 use std::time::Duration;
-use tough_net::{RetryCore, RetryEvent, RetrySettings};
+use tough_net::{RequestFault, RetryCore, RetryEvent, RetrySettings};
 
 // The settings of the case, in milliseconds; else those by default.
 fn settings(case: &Value) -> RetrySettings {
@@ -35,7 +35,7 @@ fn event(step: &Value) -> RetryEvent {
         "piece" => RetryEvent::Piece {
             len: number(step, "len").unwrap_or(0),
         },
-        _ => RetryEvent::Fault,
+        _ => RetryEvent::Fault(RequestFault::Unconnected),
     }
 }
 

@@ -8,8 +8,8 @@ use serde_json::Value;
 use std::alloc::{AllocError, Global};
 use std::{env, fs, process, str};
 use tough_net::{
-    Cause, FilesystemTransport, HttpError, IntoVec, MemoryTransport, Transport, TransportError,
-    TransportErrorKind, fetch_max_size, fetch_sha256, fetch_whole,
+    Cause, FilesystemTransport, HttpError, IntoVec, LastRequest, MemoryTransport, RequestError,
+    Transport, TransportError, TransportErrorKind, fetch_max_size, fetch_sha256, fetch_whole,
 };
 use url::Url;
 
@@ -53,7 +53,12 @@ pub(crate) fn made(alloc: Global, case: &Value) -> Result<String> {
     let (kind, url) = (TransportErrorKind::FileNotFound, text(case, "url"));
     let error = match text(case, "cause") {
         "http" => {
-            let cause = Cause::Http(HttpError::FetchFileNotFound);
+            let source = RequestError {
+                requests: 1,
+                received: 0,
+                last: LastRequest::Status(404),
+            };
+            let cause = Cause::Http(HttpError::FetchFileNotFound { source });
             TransportError::new_with_cause(alloc, kind, url, cause)?
         }
         "memory" => TransportError::from(AllocError),
