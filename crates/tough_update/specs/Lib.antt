@@ -10,6 +10,7 @@ pub mod Promises
 pub mod Trusted
 pub mod Runs
 pub mod Loadable
+pub mod Asked
 pub mod Asking
 pub mod Counts
 pub mod Counted

@@ -1,5 +1,5 @@
 -- The machine of the program, seen as plain data.
-use Rattle.std.specs.Prelude.{List, Option, Some, None, Result, Ok, Err, map, string_bytes}
+use Rattle.std.specs.Prelude.{ℕ, List, Option, Some, None, Result, Ok, Err, map, option_map, string_bytes}
 use Rattle.tough_roles.specs.Signature.{signed_doc}
 use Rattle.tough_roles.specs.Root.{root_doc}
 use Rattle.tough_roles.specs.declared.root.Root.{Root}
@@ -139,6 +139,10 @@ setting_doc s = record { trusted = s.trusted.now; limits = s.limits; enforced = 
 -- how much it fetched and keeps
 abbrev pub counts_of : Core → Counts
 counts_of c = c.counts
+
+-- the name of the file that it last asked for
+abbrev pub last_file_of : Core → Option (List ℕ)
+last_file_of c = option_map string_bytes c.last_file
 
 abbrev pub core_doc : Core → CoreDoc
 core_doc c = record { setting = record { trusted = c.trusted.items; limits = c.limits; enforced = enforces c.enforcement }; stage = stage_doc c.stage }

@@ -1,12 +1,13 @@
 //! The update as a machine: what it wants next, and what it makes of an answer.
 
-ghost use Rattle.std.specs.Prelude.{◌≡◌, IsSome, IsNone, option_map, option_copied};
+ghost use Rattle.std.specs.Prelude.{◌≡◌, None, IsSome, IsNone, option_map, option_copied, string_bytes};
 ghost use Rattle.tough_checks.specs.Checks.{enforces};
 ghost use Rattle.tough_update.specs.Counts.{none_yet, with_fetch, with_tree};
 ghost use Rattle.tough_update.specs.Stages.{handed_out, new_core};
+ghost use Rattle.tough_update.specs.Asked.{IsLastFile, file_asked};
 ghost use Rattle.tough_update.specs.Machine.{question, stage_after};
 ghost use Rattle.tough_trust.specs.Failure.{Gives};
-ghost use Rattle.tough_update.specs.View.{core_doc, counts_of, stage_doc, answer_doc, question_of, setting_doc, outcome_doc};
+ghost use Rattle.tough_update.specs.View.{core_doc, counts_of, last_file_of, stage_doc, answer_doc, question_of, setting_doc, outcome_doc};
 ghost use Rattle.tough_update.specs.Promises.{Settles, Goes, fits, ended};
 
 use crate::ask::{Answer, Ask};
@@ -28,6 +29,7 @@ pub struct Core {
     enforcement: ExpirationEnforcement,
     stage: Stage,
     counts: Counts,
+    last_file: Option<String>,
 }
 
 // What an answer makes of a stage.
@@ -81,6 +83,7 @@ impl Core {
     pub fn new(trusted: Vec<u8>, limits: Limits, enforcement: ExpirationEnforcement) -> Core
         ensures core { core_doc result ≡ new_core trusted.items limits (enforces enforcement) }
         ensures counts { counts_of result ≡ none_yet }
+        ensures file { last_file_of result ≡ None }
     {
         Core {
             trusted,
@@ -93,6 +96,7 @@ impl Core {
                 kept: 0,
                 entries: 0,
             },
+            last_file: None,
         }
     }
 
@@ -118,6 +122,26 @@ impl Core {
         }
     }
 
+    // Keeps the name of the file that is asked for.
+    fn keep_file(&mut self, alloc: Global)
+        ensures core { core_doc self.new ≡ core_doc self.old }
+        ensures counts { counts_of self.new ≡ counts_of self.old }
+        ensures file { IsLastFile (file_asked (core_doc self.old).stage)
+            (last_file_of self.old) (last_file_of self.new) }
+    {
+        if let Stage::Fetch(_, request) = &self.stage {
+            self.last_file = String::from_str(alloc, request.name.as_str()).ok();
+        }
+    }
+
+    /// The name of the file that was last asked for, before the answer that came last: what a refusal speaks of. `None` before the first,
+    /// and where there was no memory for the name.
+    pub fn last_file(&self) -> Option<&str>
+        ensures { option_copied result ≡ last_file_of self.now }
+    {
+        self.last_file.as_deref()
+    }
+
     /// Takes an answer. One of a kind that isn't asked for changes nothing. Where memory is wanting, the update ends with `Memory`.
     pub fn answer<V: Verify>(&mut self, alloc: Global, verifier: &V, answer: Answer)
         ensures goes { Goes (V.verifies verifier.now) (core_doc self.old)
@@ -125,6 +149,21 @@ impl Core {
         ensures counted { counts_of self.new
             ≡ with_tree (core_doc self.new).stage
             (with_fetch (core_doc self.old).stage (answer_doc answer) (counts_of self.old)) }
+        ensures file { IsLastFile (file_asked (core_doc self.old).stage)
+            (last_file_of self.old) (last_file_of self.new) }
+    {
+        self.keep_file(alloc);
+        self.take(alloc, verifier, answer)
+    }
+
+    // Takes an answer.
+    fn take<V: Verify>(&mut self, alloc: Global, verifier: &V, answer: Answer)
+        ensures goes { Goes (V.verifies verifier.now) (core_doc self.old)
+            (answer_doc answer) (core_doc self.new) }
+        ensures counted { counts_of self.new
+            ≡ with_tree (core_doc self.new).stage
+            (with_fetch (core_doc self.old).stage (answer_doc answer) (counts_of self.old)) }
+        ensures file { last_file_of self.new ≡ last_file_of self.old }
     {
         let stage = mem::replace(&mut self.stage, Stage::Done(Err(UpdateError::Memory)));
         let setting = Setting {
@@ -170,6 +209,7 @@ impl Core {
         ensures taken { IsSome result → core_doc self.new ≡ handed_out (core_doc self.old) }
         ensures not_yet { IsNone result → core_doc self.new ≡ core_doc self.old }
         ensures counts { counts_of self.new ≡ counts_of self.old }
+        ensures file { last_file_of self.new ≡ last_file_of self.old }
     {
         match mem::replace(&mut self.stage, Stage::Taken) {
             Stage::Done(outcome) => Some(outcome),
