@@ -143,9 +143,19 @@ pub fn place_of(call: &str) -> Option<usize> {
     None
 }
 
+// The members of a call's cases.
+fn members_of(call: &str) -> Option<&'static str> {
+    for (name, members) in CALLS.iter() {
+        if *name == call {
+            return Some(*members);
+        }
+    }
+    None
+}
+
 /// What is wrong with a case: its call, a member that its call doesn't know, or that nothing is wanted of the answer.
 pub fn fault_of(alloc: Global, case: &Value) -> Result<Option<String>, AllocError> {
-    let Some((_, members)) = place_of(text(case, "call")).and_then(|place| CALLS.get(place)) else {
+    let Some(members) = members_of(text(case, "call")) else {
         return Ok(Some(String::from_str(alloc, "no such call")?));
     };
     if let Some(object) = case.as_object() {
