@@ -10,7 +10,7 @@ use crate::targets::{DelegatedTargets, Targets};
 use std::alloc::Global;
 use tough_roles::{Error, Signed};
 
-/// The result of a search for a name.
+/// What seeking a name comes to.
 #[derive(Drop)]
 pub enum Seen<'a> {
     /// The role.
@@ -39,7 +39,7 @@ fn if_found<'a>(seen: Seen<'a>) -> Option<Seen<'a>>
     }
 }
 
-/// The result of the search for the name in a document.
+/// What seeking the name comes to in a document.
 #[cycle(seek)]
 pub fn seek_in<'a>(document: &'a Targets, name: &str) -> Seen<'a>
     ensures { seen_of result ≡ seek_in name.now (tree_doc document.now) }
@@ -63,7 +63,7 @@ fn seek_among<'a>(roles: &'a [DelegatedRole], name: &str) -> Seen<'a>
     Seen::Missing
 }
 
-/// The result of the search for the name at a role; none where the search continues with the roles after it.
+/// What seeking the name comes to at a role; none where the roles after it are to be looked at.
 #[cycle(seek)]
 pub fn seek_at<'a>(role: &'a DelegatedRole, name: &str) -> Option<Seen<'a>>
     ensures { option_map seen_of result ≡ step_at name.now (role_tree role.now) }
