@@ -141,7 +141,7 @@ where
 // Prints the calls that had no case.
 fn print_untried(rt: &HostRuntime, tried: &[bool]) -> Result<()> {
     let mut count = 0usize;
-    for ((call, _), is_tried) in CALLS.iter().zip(tried) {
+    for ((call, _, _), is_tried) in CALLS.iter().zip(tried) {
         if !is_tried {
             count = count.saturating_add(1);
             println!(rt; "{call}: no case")?;
