@@ -98,7 +98,7 @@ where
     }
 }
 
-/// Loads the repository over a transport, saves the target, and gives the text that tells the versions and what was saved where.
+/// Loads the repository over a transport, saves the target, and gives the text with the versions and with what was saved where.
 pub(crate) fn get_by<R, T, E>(
     rt: &R,
     runtime: &mut LocalRuntime,

@@ -17,14 +17,14 @@ use tough_net::Transport;
 use tough_schema::DemoVerify;
 use url::Url;
 
-/// Why a run failed, as it is told.
+/// Why a run failed, as its line says.
 #[derive(Drop)]
 pub(crate) enum Fault {
     /// The load couldn't be begun, or it refused, or the saving did.
     Refused(String),
     /// Something else failed.
     Failed(String),
-    /// Memory was wanting.
+    /// Out of memory.
     Memory,
 }
 

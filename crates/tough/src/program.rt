@@ -230,7 +230,7 @@ where
 /// `load ROOT METADATA TARGETS STORE` loads the repository whose metadata and targets lie at the two URLs (of the scheme `file` or `http`), from the
 /// root in the file ROOT into the folder STORE, and prints the versions of its root, timestamp, snapshot and targets, a line each. A fault
 /// is a line on `err`. `get ROOT METADATA TARGETS STORE NAME OUTDIR` loads it so, saves the target NAME below the folder OUTDIR, and prints the
-/// same lines and one more, which tells what was saved where. Other words print how the program is used there. Each run first says there that its verifier proves nothing.
+/// same lines and one more, with what was saved where. Other words print how the program is used there. Each run first says there that its verifier proves nothing.
 pub fn run<R, O, E>(rt: &R, words: &[String], out: &mut O, err: &mut E) -> u8
 where
     R: rt::Files<File = File> + Net + Wait + rt::Clock + RandomSource + AllocGlobal + Clone + Drop,
@@ -243,7 +243,7 @@ where
     run_watched(rt, words, out, err, false)
 }
 
-/// As `run`; where `is_watched` says so, a line on `err` tells how much of the target is there while it is saved, at most ten times a
+/// As `run`; where `is_watched` says so, a line on `err` shows how much of the target is there while it is saved, at most ten times a
 /// second.
 pub fn run_watched<R, O, E>(
     rt: &R,

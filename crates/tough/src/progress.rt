@@ -1,4 +1,4 @@
-//! How much of a target is there, told while it is saved.
+//! The progress of a target, printed while it is saved.
 
 use std::io::Write;
 use std::time::{Clock, Duration};

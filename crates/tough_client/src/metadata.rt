@@ -165,7 +165,7 @@ fn root_again(alloc: Global, limits: &Limits, version: u64) -> Result<Request, A
     })
 }
 
-/// How a file of metadata is asked for again.
+/// The request by which a file of metadata is fetched again.
 pub(crate) fn file_again(
     alloc: Global,
     loaded: &Loaded,

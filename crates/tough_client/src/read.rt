@@ -121,7 +121,7 @@ impl<T: Transport, K: Keeper, C: Clock + Drop> Repository<T, K, C> {
         }
     }
 
-    /// The future of a stream of the target of this name (TUF specification 5.7), or of none where no document that the search comes to lists
+    /// The future of a stream of the target of this name (TUF specification 5.7), or of none where no document that the search reaches lists
     /// it. The stream gives no more bytes than are listed, and ends without an error only where they have the digest that is listed.
     ///
     /// Where expiry counts, the keeper first notes the time, which must be before the earliest expiry of root, timestamp, snapshot and

@@ -17,7 +17,7 @@ use tough_roles::{Root, Signed, Snapshot, Timestamp, Verify};
 use tough_schema::{DelegatedRole, Target, Targets};
 use url::Url;
 
-/// A repository that was loaded (TUF specification 5): the documents that the load vouches for, and what reads and saves targets by them.
+/// A repository that was loaded (TUF specification 5): the metadata that the load verified, and the calls that read and save targets.
 #[derive(Drop)]
 pub struct Repository<T, K, C> {
     pub(crate) alloc: Global,
@@ -33,7 +33,7 @@ pub struct Repository<T, K, C> {
 }
 
 impl<T, K, C> Repository<T, K, C> {
-    /// The repository that a load gave, which is taken apart for it: every part is handed on.
+    /// The repository of a load, with every part of it.
     pub fn new<V>(load: Load<T, K, C, V>, loaded: Loaded) -> Repository<T, K, C>
     where
         T: Transport,
@@ -130,7 +130,7 @@ impl<T, K, C> Repository<T, K, C> {
         }
     }
 
-    /// What the steps of the load, and those that noted the time since, were told, in their order.
+    /// The receipts of the steps of the load, and of those that noted the time since, in order.
     pub fn receipts(&self) -> &[Receipt]
         ensures { result.now ≡ receipts_of self.now }
     {

@@ -100,7 +100,15 @@ pub(crate) fn run_beside_server<R>(
     step: &Value,
 ) -> Result<String>
 where
-    R: Files<File = File> + Net + Threads + Wait + Clock + RandomSource + AllocGlobal + Clone + Drop,
+    R: Files<File = File>
+        + Net
+        + Threads
+        + Wait
+        + Clock
+        + RandomSource
+        + AllocGlobal
+        + Clone
+        + Drop,
 {
     let listener = TcpListener::bind(rt, SocketAddr::from((Ipv4Addr::LOCALHOST, 0)))?;
     let addr = listener.local_addr()?;

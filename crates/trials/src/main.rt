@@ -2,7 +2,8 @@
 //! answer that an outside source gives: the whole of it (`answer`), or words that stand in it in this order (`words`).
 //!
 //! `trials FILE..` prints a line for each case, the call, the case's name and what was answered; below it, where that isn't what is wanted,
-//! what was wanted; and at the end of a file how many cases it has, and how many were answered otherwise.
+//! what was wanted; and at the end of a file how many cases it has, and how many were answered otherwise. A case with a member that its call
+//! doesn't know is refused. At the end it prints which calls had no case.
 #![tactic(auto)]
 
 mod errors;
@@ -29,6 +30,7 @@ use std::thread::Threads;
 use std::{env, fs};
 use trials_calls::case::text;
 use trials_calls::judge::misses;
+use trials_calls::table::{CALLS, fault_of, place_of};
 
 // What a call on updates or errors answers.
 fn of_updates(rt: &HostRuntime, call: &str, case: &Value) -> Result<String> {
@@ -40,8 +42,9 @@ fn of_updates(rt: &HostRuntime, call: &str, case: &Value) -> Result<String> {
         "Load::core" => load::counts(rt.alloc(), case),
         "Limits::default" => update::limits_by_default(rt.alloc()),
         "save_target" | "cache" | "cache_metadata" => saves::play(rt, case),
+        "Repository::all_targets" | "Repository::delegated_role" => saves::play(rt, case),
+        "Repository::read_target" | "Repository::receipts" => saves::play(rt, case),
         "Target::from_path of the system" => errors::measured(rt, case),
-        "Error" => errors::told(rt.alloc(), case),
         "schema::Error" => errors::told_of_schema(rt.alloc(), case),
         _ => Err(anyhow!("no call {call}")),
     }
@@ -50,7 +53,15 @@ fn of_updates(rt: &HostRuntime, call: &str, case: &Value) -> Result<String> {
 // What the call of a case answers. The program waits by the second runtime.
 fn answer<R>(rt: &HostRuntime, waiting: &R, case: &Value) -> Result<String>
 where
-    R: Files<File = File> + Net + Threads + Wait + Clock + RandomSource + AllocGlobal + Clone + Drop,
+    R: Files<File = File>
+        + Net
+        + Threads
+        + Wait
+        + Clock
+        + RandomSource
+        + AllocGlobal
+        + Clone
+        + Drop,
 {
     let call = text(case, "call");
     match call {
@@ -67,11 +78,24 @@ where
 // Answers a case, and tells whether that is what is wanted.
 fn is_answered<R>(rt: &HostRuntime, waiting: &R, case: &Value) -> Result<bool>
 where
-    R: Files<File = File> + Net + Threads + Wait + Clock + RandomSource + AllocGlobal + Clone + Drop,
+    R: Files<File = File>
+        + Net
+        + Threads
+        + Wait
+        + Clock
+        + RandomSource
+        + AllocGlobal
+        + Clone
+        + Drop,
 {
+    let (call, name) = (text(case, "call"), text(case, "name"));
+    if let Some(fault) = fault_of(rt.alloc(), case)? {
+        println!(rt; "{call} {name}: {fault}")?;
+        return Ok(false);
+    }
     let told = answer(rt, waiting, case)?;
     let gap = if told.starts_with("\n") { "" } else { " " };
-    println!(rt; "{} {}:{gap}{told}", text(case, "call"), text(case, "name"))?;
+    println!(rt; "{call} {name}:{gap}{told}")?;
     match misses(case, told.as_str()) {
         Some(wanted) => {
             println!(rt; "  WANTED {wanted}")?;
@@ -81,10 +105,18 @@ where
     }
 }
 
-// Answers the cases of a file.
-fn try_file<R>(rt: &HostRuntime, waiting: &R, file: &str) -> Result<()>
+// Answers the cases of a file, and marks their calls.
+fn try_file<R>(rt: &HostRuntime, waiting: &R, file: &str, tried: &mut Vec<bool>) -> Result<()>
 where
-    R: Files<File = File> + Net + Threads + Wait + Clock + RandomSource + AllocGlobal + Clone + Drop,
+    R: Files<File = File>
+        + Net
+        + Threads
+        + Wait
+        + Clock
+        + RandomSource
+        + AllocGlobal
+        + Clone
+        + Drop,
 {
     let bytes = fs::read(rt, file)?;
     let read = Value::from_slice(rt.alloc(), bytes.as_slice())?;
@@ -92,6 +124,11 @@ where
     if let Some(cases) = read.as_array() {
         for case in cases {
             count = count.saturating_add(1);
+            if let Some(place) = place_of(text(case, "call"))
+                && let Some(mark) = tried.get_mut(place)
+            {
+                *mark = true;
+            }
             if !is_answered(rt, waiting, case)? {
                 others = others.saturating_add(1);
             }
@@ -101,9 +138,23 @@ where
     Ok(())
 }
 
-fn main(rt: HostRuntime) -> Result<()> {
-    for file in env::args(&rt)?.skip(1) {
-        try_file(&rt, &rt, file.as_str())?;
+// Prints the calls that had no case.
+fn print_untried(rt: &HostRuntime, tried: &[bool]) -> Result<()> {
+    let mut count = 0usize;
+    for ((call, _, _), is_tried) in CALLS.iter().zip(tried) {
+        if !is_tried {
+            count = count.saturating_add(1);
+            println!(rt; "{call}: no case")?;
+        }
     }
+    println!(rt; "{} calls, {count} without a case", CALLS.len())?;
     Ok(())
+}
+
+fn main(rt: HostRuntime) -> Result<()> {
+    let mut tried = Vec::from_elem(rt.alloc(), false, CALLS.len())?;
+    for file in env::args(&rt)?.skip(1) {
+        try_file(&rt, &rt, file.as_str(), &mut tried)?;
+    }
+    print_untried(&rt, tried.as_slice())
 }

@@ -66,7 +66,15 @@ fn names(rt: &HostRuntime, at: &str) -> Result<String> {
 // Takes a step below the folder, and tells what it came to.
 fn take<R>(rt: &HostRuntime, waiting: &R, folder: &str, step: &Value) -> Result<String>
 where
-    R: Files<File = File> + Net + Threads + Wait + Clock + RandomSource + AllocGlobal + Clone + Drop,
+    R: Files<File = File>
+        + Net
+        + Threads
+        + Wait
+        + Clock
+        + RandomSource
+        + AllocGlobal
+        + Clone
+        + Drop,
 {
     let alloc = rt.alloc();
     let at = format!(in alloc; "{folder}/{}", text(step, "path"))?;
@@ -103,7 +111,15 @@ fn prepare(rt: &HostRuntime, folder: &str, case: &Value) -> Result<()> {
 /// Takes the steps of a case in a new folder with the case's files, and tells what each came to. The program waits by the second runtime.
 pub(crate) fn play<R>(rt: &HostRuntime, waiting: &R, case: &Value) -> Result<String>
 where
-    R: Files<File = File> + Net + Threads + Wait + Clock + RandomSource + AllocGlobal + Clone + Drop,
+    R: Files<File = File>
+        + Net
+        + Threads
+        + Wait
+        + Clock
+        + RandomSource
+        + AllocGlobal
+        + Clone
+        + Drop,
 {
     let alloc = rt.alloc();
     let number = process::id(rt.process());

@@ -1,4 +1,4 @@
-//! Targets that are saved, and repositories that are cached, over files in memory.
+//! What a repository that was loaded answers; targets that are saved, and repositories that are cached, over files in memory.
 
 use crate::load::open;
 use crate::outcome::told;
@@ -141,6 +141,69 @@ fn cache_metadata<T: Transport, K: Keeper, C: Clock + Drop>(
     Ok(outcome(rt.alloc(), finish(rt, caching)?, "cached")?)
 }
 
+// What is listed in the repository, each target with its length.
+fn listed<T: Transport, K: Keeper, C: Clock + Drop>(
+    alloc: Global,
+    repository: &Repository<T, K, C>,
+) -> Result<String> {
+    let mut told = String::new(alloc);
+    for (name, target) in repository.all_targets()? {
+        let line = format!(in alloc; "\n  {} {}", name.raw(), target.length)?;
+        told.push_str(line.as_str())?;
+    }
+    Ok(told)
+}
+
+// The delegated role of the case: its name, and the version of its document.
+fn role<T: Transport, K: Keeper, C: Clock + Drop>(
+    alloc: Global,
+    case: &Value,
+    repository: &Repository<T, K, C>,
+) -> Result<String> {
+    let Some(role) = repository.delegated_role(text(case, "role"))? else {
+        return Ok(String::from_str(alloc, "none")?);
+    };
+    Ok(match &role.targets {
+        Some(document) => format!(in alloc; "{} {}", role.name, document.signed.targets.version)?,
+        None => format!(in alloc; "{} without a document", role.name)?,
+    })
+}
+
+// Whether the target of the case can be read.
+fn read<T: Transport, K: Keeper, C: Clock + Drop>(
+    rt: &HostRuntime,
+    case: &Value,
+    repository: &mut Repository<T, K, C>,
+) -> Result<String> {
+    let name = TargetName::from_str(rt.alloc(), text(case, "target"))?;
+    let answer = match finish(rt, repository.read_target(&name))? {
+        Ok(Some(stream)) => {
+            drop(stream);
+            Ok(())
+        }
+        Ok(None) => return Ok(String::from_str(rt.alloc(), "none")?),
+        Err(error) => Err(error),
+    };
+    Ok(outcome(rt.alloc(), answer, "a stream")?)
+}
+
+// The receipts of the load, and of the reading of a target.
+fn receipts<T: Transport, K: Keeper, C: Clock + Drop>(
+    rt: &HostRuntime,
+    case: &Value,
+    repository: &mut Repository<T, K, C>,
+) -> Result<String> {
+    let alloc = rt.alloc();
+    let loaded = repository.receipts().len();
+    let mut told = read(rt, case, repository)?;
+    for (number, receipt) in repository.receipts().iter().enumerate() {
+        let by = if number < loaded { "load" } else { "read" };
+        let line = format!(in alloc; "\n  {by} {} {:?}", receipt.number(), receipt.entry())?;
+        told.push_str(line.as_str())?;
+    }
+    Ok(told)
+}
+
 // Does with the repository what the case asks for, and tells what that came to.
 fn act<T: Transport, K: Keeper, C: Clock + Drop>(
     rt: &HostRuntime,
@@ -151,6 +214,10 @@ fn act<T: Transport, K: Keeper, C: Clock + Drop>(
     match text(case, "call") {
         "cache" => cache(rt, case, repository, files),
         "cache_metadata" => cache_metadata(rt, case, repository, files),
+        "Repository::all_targets" => listed(rt.alloc(), repository),
+        "Repository::delegated_role" => role(rt.alloc(), case, repository),
+        "Repository::read_target" => read(rt, case, repository),
+        "Repository::receipts" => receipts(rt, case, repository),
         _ => save(rt, case, repository, files),
     }
 }

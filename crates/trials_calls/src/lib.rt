@@ -1,4 +1,4 @@
-//! What single calls answer, on names, patterns, decoded values, JSON, keys, Ed25519, documents, trees of targets, files, streams, retries and stores,
+//! What single calls answer, on names, patterns, decoded values, JSON, keys, Ed25519, documents, trees of targets, files, streams, retries, stores and errors,
 //! for the cases of `trials`.
 #![tactic(auto)]
 
@@ -7,6 +7,7 @@ mod compare;
 mod decoded;
 mod documents;
 mod ed25519;
+mod errors;
 mod files;
 mod folder;
 mod json;
@@ -18,6 +19,7 @@ mod patterns;
 mod retries;
 pub mod shelf;
 mod streams;
+pub mod table;
 mod told;
 mod trees;
 pub mod vault;
@@ -57,9 +59,10 @@ fn of_documents(alloc: Global, call: &str, case: &Value) -> Result<Option<String
     made::answer(alloc, call, case)
 }
 
-// What a call on streams, retries or stores answers, if it is one.
+// What a call on streams, retries, stores or errors answers, if it is one.
 fn of_devices(rt: &HostRuntime, call: &str, case: &Value) -> Result<Option<String>> {
     Ok(Some(match call {
+        "Error" => errors::told(rt.alloc(), case)?,
         "vault" => vault::steps(rt.alloc(), case)?,
         "ExpirationEnforcement" => vault::switch(rt.alloc(), case)?,
         "DirStore" => folder::play(rt, case)?,
