@@ -8,5 +8,7 @@ pub mod Walk
 pub mod Rotation
 pub mod Listed
 pub mod Steps
+pub mod Checking
+pub mod Vaults
 pub mod View
 pub mod Timely

@@ -6,10 +6,9 @@ use Rattle.tough_roles.specs.declared.role_type.RoleType.TheVariants as role
 use Rattle.tough_vault.specs.Act.{Act, NoteTime}
 use Rattle.tough_checks.specs.Checks.{ExpiredMetadata}
 use Rattle.tough_checks.specs.declared.checks.StepError.{StepError}
-use Rattle.tough_vault.specs.declared.entry.Receipt.{Receipt}
 use Rattle.tough_trust.specs.declared.timely.Expiry.{Expiry}
 use Rattle.tough_trust.specs.Failure.{Failure, Checked}
-use Rattle.tough_trust.specs.Steps.{Steps, PutsBy}
+use Rattle.tough_trust.specs.Steps.{Keeping, TakesStep}
 
 -- no signature verifies: to note a moment asks for none
 abbrev pub nothing_verifies : Verifies
@@ -35,28 +34,22 @@ earliest root timestamp snapshot targets = sooner (sooner (sooner
     (record { role = role.Snapshot; time = snapshot }))
     (record { role = role.Targets; time = targets })
 
--- a keeper, and the receipts of the steps that it took
-pub record Keeping (K : Type 0) : Type 0 where
-  pub keeper : K
-  pub receipts : List Receipt
-
-module _ {K : Type 0} (keeps : Verifies → K → Act → Result Receipt StepError → K → Type 0) where
+module _ {K R : Type 0} (keeps : Verifies → K → Act → Result R StepError → K → Type 0) where
   -- the keeper noted this moment, and the receipt stands after those before it
-  abbrev pub HasNoted : ℤ → Keeping K → Keeping K → Type 0
-  HasNoted now k next = PutsBy keeps nothing_verifies (NoteTime now) k.keeper next.keeper k.receipts next.receipts
+  abbrev pub HasNoted : ℤ → Keeping K R → Keeping K R → Type 0
+  HasNoted now k next = TakesStep keeps nothing_verifies (NoteTime now) k (Ok (tt {0})) next
 
   -- it noted the moment, which isn't before the expiry, and the failure tells whose that is
-  pub record HasExpired (first : ExpiryDoc) (now : ℤ) (k : Keeping K) (f : Failure) (next : Keeping K) : Type 0 where
+  pub record HasExpired (first : ExpiryDoc) (now : ℤ) (k : Keeping K R) (f : Failure) (next : Keeping K R) : Type 0 where
     pub noted : HasNoted now k next
     pub after : int_lt now first.time ≡ false
     pub told : f ≡ Checked (ExpiredMetadata first.role first.time now)
 
   -- it didn't note the moment, and gave no receipt
-  pub record IsUnnoted (now : ℤ) (k : Keeping K) (f : Failure) (next : Keeping K) : Type 0 where
-    pub steps : Steps keeps nothing_verifies (NoteTime now) k.keeper (Err f) next.keeper
-    pub none : next.receipts ≡ k.receipts
+  abbrev pub IsUnnoted : ℤ → Keeping K R → Failure → Keeping K R → Type 0
+  IsUnnoted now k f next = TakesStep keeps nothing_verifies (NoteTime now) k (Err f) next
 
   -- What noting the moment answers: it was noted, and is before the expiry; else it isn't, or the keeper didn't note it.
-  abbrev pub NotesTimely : ExpiryDoc → ℤ → Keeping K → Result Unit Failure → Keeping K → Type 0
+  abbrev pub NotesTimely : ExpiryDoc → ℤ → Keeping K R → Result Unit Failure → Keeping K R → Type 0
   NotesTimely first now k (Ok u) next = HasNoted now k next × (int_lt now first.time ≡ true)
   NotesTimely first now k (Err f) next = HasExpired first now k f next ⊎ IsUnnoted now k f next

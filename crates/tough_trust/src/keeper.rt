@@ -1,13 +1,13 @@
 //! What keeps what an update accepts.
 
-ghost use Rattle.std.specs.Prelude.{◌≡◌, OnOk, OnErr, Result};
+ghost use Rattle.std.specs.Prelude.{Result};
 ghost use Rattle.tough_keys.specs.Same.{Verifies};
 ghost use Rattle.tough_vault.specs.Vault.{parts_of};
-ghost use Rattle.tough_vault.specs.declared.entry.Receipt.{Receipt as Told};
 ghost use Rattle.tough_checks.specs.declared.checks.StepError.{StepError as Refused};
-ghost use Rattle.tough_vault.specs.Act.{Act as ActDoc, CheckedIfOk, Acts};
-ghost use Rattle.tough_vault.specs.Checking.{checked};
-ghost use Rattle.tough_trust.specs.Steps.{Steps, PutsBy};
+ghost use Rattle.tough_vault.specs.Act.{Act as ActDoc};
+ghost use Rattle.tough_trust.specs.Checking.{CheckedIfOk, vault_checks};
+ghost use Rattle.tough_trust.specs.Steps.{TakesStep};
+ghost use Rattle.tough_trust.specs.Vaults.{vault_keeps};
 ghost use Rattle.tough_trust.specs.View.{act_of, step_doc};
 
 use crate::act::Act;
@@ -17,8 +17,11 @@ use tough_vault::{DocumentName, Receipt, StepError, Store, Vault};
 
 /// Takes the steps of an update on a store (TUF specification 5). A lent vault is one.
 pub trait Keeper: Drop {
+    /// What tells that a step was taken.
+    type Receipt: Drop;
+
     // Holds of a state, what is asked, the answer of that step and the state after, for signatures that verify so.
-    ghost keeps: { Verifies → Self → ActDoc → Result Told Refused → Self → Type 0 };
+    ghost keeps: { Verifies → Self → ActDoc → Result Self.Receipt Refused → Self → Type 0 };
 
     /// Takes a step.
     fn take<V: Verify>(
@@ -26,21 +29,21 @@ pub trait Keeper: Drop {
         alloc: Global,
         act: &Act<'_>,
         verifier: &V,
-    ) -> Result<Receipt, StepError>
+    ) -> Result<Self::Receipt, StepError>
         ensures { keeps (V.verifies verifier.now) self.old (act_of act.now) result self.new };
 
     /// A step that succeeded has made its checks on what it was given.
-    ghost checks: { (verifies : Verifies) (old : Self) (act : ActDoc) (result : Result Told Refused)
-        (new : Self) → keeps verifies old act result new → CheckedIfOk verifies act result };
-}
+    ghost checks: { (verifies : Verifies) (old : Self) (act : ActDoc) (result : Result Self.Receipt
+        Refused) (new : Self) → keeps verifies old act result new → CheckedIfOk verifies act result
+}; }
 
 impl<S: Store> Keeper for &mut Vault<S> {
-    // It is still the same loan, so that the lender learns what the steps left.
-    ghost keeps = { λ verifies k act result next. Acts S.tells S.files S.count verifies act
-        (parts_of k.now) (parts_of next.now) result × (next.ghost_name ≡ k.ghost_name) };
+    type Receipt = Receipt;
 
-    ghost checks = { λ verifies old act result new h. checked S.tells S.files S.count verifies act
-        (parts_of old.now) (parts_of new.now) result h.0 };
+    ghost keeps = { vault_keeps S.tells S.files S.count };
+
+    ghost checks = { λ verifies old act result new h. vault_checks S.tells S.files S.count verifies
+        act (parts_of old.now) (parts_of new.now) result h.0 };
 
     fn take<V: Verify>(
         &mut self,
@@ -90,14 +93,12 @@ pub fn take_step<K: Keeper, V: Verify>(
     alloc: Global,
     keeper: &mut K,
     verifier: &V,
-    receipts: &mut Vec<Receipt>,
+    receipts: &mut Vec<K::Receipt>,
     act: &Act<'_>,
 ) -> Result<(), StepError>
-    ensures steps { Steps K.keeps (V.verifies verifier.now) (act_of act.now) keeper.old
-        (step_doc result) keeper.new }
-    ensures receipt { OnOk result (PutsBy K.keeps (V.verifies verifier.now) (act_of act.now)
-        keeper.old keeper.new receipts.old.items receipts.new.items) }
-    ensures none { OnErr result (receipts.new.items ≡ receipts.old.items) }
+    ensures { TakesStep K.keeps (V.verifies verifier.now) (act_of act.now)
+        (record { keeper = keeper.old; receipts = receipts.old.items }) (step_doc result)
+        (record { keeper = keeper.new; receipts = receipts.new.items }) }
 {
     if receipts.reserve(1).is_err() {
         return Err(StepError::Memory);

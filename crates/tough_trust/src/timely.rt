@@ -10,7 +10,7 @@ use crate::keeper::{Keeper, take_step};
 use jiff::Timestamp as Instant;
 use std::alloc::Global;
 use tough_roles::{Key, RoleType, Verify};
-use tough_vault::{Receipt, Refusal, StepError};
+use tough_vault::{Refusal, StepError};
 
 /// A role, and when its document expires.
 #[derive(Clone, Copy, Drop)]
@@ -68,7 +68,7 @@ impl Verify for Unverified {
 pub fn note_timely<K: Keeper>(
     alloc: Global,
     keeper: &mut K,
-    receipts: &mut Vec<Receipt>,
+    receipts: &mut Vec<K::Receipt>,
     now: Instant,
     first: Expiry,
 ) -> Result<(), StepError>
