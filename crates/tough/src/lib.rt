@@ -39,9 +39,9 @@ pub use tough_http::{
 };
 pub use tough_net::{
     AnswerClass, Cause, DigestCheck, FileStream, FilesystemTransport, HttpError, IntoVec,
-    IntoVecFuture, LastRequest, MaxSize, MemoryStream, MemoryTransport, RequestError, RequestFault, RetryAction, RetryCore, RetryEvent,
-    RetrySettings, Transport, TransportError, TransportErrorKind, TransportStream, fetch_max_size,
-    fetch_sha256,
+    IntoVecFuture, LastRequest, MaxSize, MemoryStream, MemoryTransport, RequestError, RequestFault,
+    RetryAction, RetryCore, RetryEvent, RetrySettings, Transport, TransportError,
+    TransportErrorKind, TransportStream, fetch_max_size, fetch_sha256,
 };
 pub use url::{ParseError, Url};
 pub use waiting::{drive_on, open_on};

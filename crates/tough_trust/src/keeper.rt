@@ -34,8 +34,8 @@ pub trait Keeper: Drop {
 
     /// A step that succeeded has made its checks on what it was given.
     ghost checks: { (verifies : Verifies) (old : Self) (act : ActDoc) (result : Result Self.Receipt
-        Refused) (new : Self) → keeps verifies old act result new → CheckedIfOk verifies act result
-}; }
+        Refused) (new : Self) → keeps verifies old act result new → CheckedIfOk verifies act result };
+}
 
 impl<S: Store> Keeper for &mut Vault<S> {
     type Receipt = Receipt;
