@@ -1,3 +1,4 @@
+pub mod lemmas
 pub mod Trails
 pub mod Going
 pub mod Loads

@@ -1,22 +1,44 @@
 -- How steps follow one another.
-use Rattle.std.specs.Prelude.{◌≡◌, List, [], ◌∷◌, ◌++◌, Result}
-use Rattle.std.proofs.Common.{refl}
+use Rattle.std.specs.Prelude.{◌≡◌, List, [], ◌∷◌, ◌++◌, Result, Ok, Err}
+use Rattle.std.proofs.Common.{refl, sym, ap, ◌∙◌, inl, inr, append_assoc}
+use Rattle.std.proofs.lemmas.List.{append-nil}
 use Rattle.tough_keys.specs.Same.{Verifies}
-use Rattle.tough_vault.specs.declared.entry.Receipt.{Receipt}
 use Rattle.tough_checks.specs.declared.checks.StepError.{StepError}
 use Rattle.tough_vault.specs.Act.{Act}
-use Rattle.tough_load.specs.Loading.{Trail, Walks}
+use Rattle.tough_trust.specs.Failure.{Failure}
+use Rattle.tough_trust.specs.Steps.{Keeping, TakesStep}
+use Rattle.tough_load.specs.Loading.{with_receipt, received, Trail, Walks}
 
-module _ {K : Type 0} (keeps : Verifies → K → Act → Result Receipt StepError → K → Type 0) (verifies : Verifies) where
-  pub Walks_same : (k new : K) → new ≡ k → Walks keeps verifies k new
+module _ {K R : Type 0} (keeps : Verifies → K → Act → Result R StepError → K → Type 0) (verifies : Verifies) where
+  pub Walks_same : (k new : Keeping K R) → new ≡ k → Walks keeps verifies k new
   Walks_same k new e = ([], e)
 
-  pub Walks_step : (k new : K) (act : Act) (r : Result Receipt StepError) → keeps verifies k act r new → Walks keeps verifies k new
-  Walks_step k new act r h = ((act, r) ∷ [], (new, h, refl))
+  Walks_step : (k new : Keeping K R) (act : Act) (r : Result R StepError) → keeps verifies k.keeper act r new.keeper → new.receipts ≡ with_receipt r k.receipts → Walks keeps verifies k new
+  Walks_step k new act r h e = ((act, r) ∷ [], (new, h, e, refl))
 
-  Trail-append : (ps qs : List (Act × Result Receipt StepError)) (k mid new : K) → Trail keeps verifies k ps mid → Trail keeps verifies mid qs new → Trail keeps verifies k (ps ++ qs) new
+  same-keeping : (k new : Keeping K R) → new.keeper ≡ k.keeper → new.receipts ≡ k.receipts → new ≡ k
+  same-keeping k new e f = ap (λ x. record { keeper = x; receipts = new.receipts }) e ∙ ap (λ x. record { keeper = k.keeper; receipts = x }) f
+
+  -- the step that was taken, if one was
+  pub step-walks : (act : Act) (k new : Keeping K R) (s : Result Unit Failure) → TakesStep keeps verifies act k s new → Walks keeps verifies k new
+  step-walks act k new (Ok u) (r, put, held) = Walks_step k new act (Ok r) held put
+  step-walks act k new (Err f) (inl (Ok r, d, held), none) = absurd (cc (d))
+  step-walks act k new (Err f) (inl (Err e, d, held), none) = Walks_step k new act (Err e) held none
+  step-walks act k new (Err f) (inr (d, same), none) = Walks_same k new (same-keeping k new same none)
+
+  Trail-append : (ps qs : List (Act × Result R StepError)) (k mid new : Keeping K R) → Trail keeps verifies k ps mid → Trail keeps verifies mid qs new → Trail keeps verifies k (ps ++ qs) new
   Trail-append [] qs k mid new h l = rw h at l
-  Trail-append (p ∷ ps) qs k mid new h l = (h.0, h.1, Trail-append ps qs h.0 mid new h.2 l)
+  Trail-append (p ∷ ps) qs k mid new h l = (h.0, h.1, h.2, Trail-append ps qs h.0 mid new h.3 l)
 
-  pub Walks-trans : (k mid new : K) → Walks keeps verifies k mid → Walks keeps verifies mid new → Walks keeps verifies k new
+  pub Walks-trans : (k mid new : Keeping K R) → Walks keeps verifies k mid → Walks keeps verifies mid new → Walks keeps verifies k new
   Walks-trans k mid new h l = (h.0 ++ l.0, Trail-append h.0 l.0 k mid new h.1 l.1)
+
+  -- what is put by, with what follows
+  put-by : (r : Result R StepError) (before rest : List R) → with_receipt r before ++ rest ≡ before ++ (with_receipt r [] ++ rest)
+  put-by (Ok x) before rest = append_assoc before (x ∷ []) rest
+  put-by (Err e) before rest = refl
+
+  pub trail-receipts : (k : Keeping K R) (ps : List (Act × Result R StepError)) (new : Keeping K R) → Trail keeps verifies k ps new → new.receipts ≡ k.receipts ++ received ps
+  trail-receipts k [] new h = ap (λ (x : Keeping K R). x.receipts) h ∙ sym (append-nil k.receipts)
+  trail-receipts k (p ∷ ps) new h =
+      trail-receipts h.0 ps new h.3 ∙ (ap (λ (x : List R). x ++ received ps) h.2 ∙ put-by p.1 k.receipts (received ps))

@@ -3,7 +3,7 @@
 use Rattle.std.specs.Prelude.{◌≡◌, ◌⊎◌, ℕ, [], Some, Result, Ok, Err, Vec}
 use Rattle.std.specs.declared.alloc.Global.{Global}
 use Rattle.url.specs.Parts.{Parts, serialize}
-use Rattle.url.specs.Parser.{parse_url, Gives}
+use Rattle.url.specs.Parser.{parse_url}
 use Rattle.url.specs.declared.error.ParseError.{ParseError}
 use Rattle.futures.specs.Runs.{Runs, Within}
 use Rattle.tough_net.specs.declared.error.TransportError.{TransportError}
@@ -11,6 +11,7 @@ use Rattle.tough_net.specs.declared.collect.Collect.{Collect}
 use Rattle.tough_net.specs.Errors.{IsMemory}
 use Rattle.tough_net.specs.Items.{Item}
 use Rattle.tough_net.specs.Collecting.{Bounds, Collects, collected, bounds_of, held_by}
+use Rattle.tough_net.specs.Urls.{CannotJoin}
 use Rattle.tough_trust.specs.Requests.{RequestDoc}
 use Rattle.tough_update.specs.Answered.{AnswerDoc}
 use Rattle.tough_update.specs.Answered as got
@@ -27,7 +28,7 @@ answer_of (Err e) = got.Cut (fault.Transport e)
 
 -- the name can't be joined to the base
 abbrev pub IsUnjoined : Parts → RequestDoc → AnswerDoc → Type 0
-IsUnjoined base r a = (e : ParseError) × (a ≡ got.NotStarted (fault.JoinUrl e)) × Gives (Err e) (parse_url (Some base) r.name)
+IsUnjoined base r a = (e : ParseError) × (a ≡ got.NotStarted (fault.JoinUrl e)) × CannotJoin base r.name e
 
 module _ {T : Type 0} (refuses : T → Parts → TransportError → Type 0) (serves : T → Parts → Runs Item) (t : T) where
   -- the transport refused

@@ -6,9 +6,10 @@ use Rattle.tough_net.specs.declared.limits.Limits.{Limits}
 use Rattle.tough_update.specs.Stages.{CoreDoc, new_core}
 use Rattle.tough_update.specs.Counts.{none_yet}
 use Rattle.tough_update.specs.View.{core_doc, counts_of}
+use Rattle.tough_net.specs.Urls.{with_slash}
 use Rattle.tough_load.specs.declared.loader.RepositoryLoader.{RepositoryLoader}
 use Rattle.tough_load.specs.declared.load.Load.{Load}
-use Rattle.tough_load.specs.Base.{with_slash}
+use Rattle.tough_load.specs.Loading.{Held}
 use Rattle.tough_load.specs.Words as part
 
 -- what every loader has
@@ -51,8 +52,12 @@ module _ {T V C K : Type 0} where
   abbrev pub keeper_of : RepositoryLoader T V C K → K
   keeper_of l = l.keeper
 
+  -- what the load holds at its beginning: no step was taken
+  abbrev pub held_of : {R : Type 0} → RepositoryLoader T V C K → Held K R C
+  held_of l = record { keeping = record { keeper = keeper_of l; receipts = [] }; clock = clock_of l }
+
 -- A load at its beginning, with all that the loader was given: its update asks first, nothing is fetched and no step taken.
-pub record IsBegun {T V C K S : Type 0} (from : RepositoryLoader T V C K) (l : Load T K C V S) : Type 0 where
+pub record IsBegun {T V C K S R : Type 0} (from : RepositoryLoader T V C K) (l : Load T K C V S R) : Type 0 where
   pub core : core_doc (part.core_of l) ≡ first_core (settings_of from)
   pub counts : counts_of (part.core_of l) ≡ none_yet
   pub base : with_slash (settings_of from).metadata_base ≡ Ok (part.base_of l)

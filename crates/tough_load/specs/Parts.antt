@@ -6,7 +6,7 @@ use Rattle.tough_load.specs.declared.load.LoadParts.{LoadParts}
 use Rattle.tough_load.specs.Words.{transport_of, keeper_of, clock_of, base_of, settings_of, receipts_of}
 
 -- what the load was given, as its steps left it
-pub record IsTakenApart {T K C V S : Type 0} (l : Load T K C V S) (p : LoadParts T K C) : Type 0 where
+pub record IsTakenApart {T K C V S R : Type 0} (l : Load T K C V S R) (p : LoadParts T K C R) : Type 0 where
   pub transport : p.transport ≡ transport_of l
   pub keeper : p.keeper ≡ keeper_of l
   pub clock : p.clock ≡ clock_of l

@@ -1,10 +1,9 @@
 -- What a load that succeeds vouches for (TUF specification 1.0, section 5): answers that were allowed led its update to documents that are
--- trusted, and its keeper to what it is now.
-use Rattle.std.specs.Prelude.{◌≡◌, List, Result, Ok}
+-- trusted, and its keeper, with its receipts, and its clock to what they are now.
+use Rattle.std.specs.Prelude.{◌≡◌, ◌++◌, ◌∷◌, [], ℤ, List, Result, Ok}
 use Rattle.url.specs.Parts.{Parts}
 use Rattle.futures.specs.Runs.{Runs}
 use Rattle.tough_keys.specs.Same.{Verifies}
-use Rattle.tough_vault.specs.declared.entry.Receipt.{Receipt}
 use Rattle.tough_checks.specs.declared.checks.StepError.{StepError}
 use Rattle.tough_net.specs.declared.error.TransportError.{TransportError}
 use Rattle.tough_net.specs.Items.{Item}
@@ -12,25 +11,27 @@ use Rattle.tough_update.specs.Stages.{LoadedDoc, CoreDoc, Done, handed_out}
 use Rattle.tough_update.specs.Answered.{AnswerDoc}
 use Rattle.tough_update.specs.Runs.{Loaded}
 use Rattle.tough_vault.specs.Act.{Act}
-use Rattle.tough_load.specs.Loading.{Leads, Walks}
+use Rattle.tough_trust.specs.Steps.{Keeping}
+use Rattle.tough_load.specs.Loading.{Held, Leads, Walks}
 
-module _ {T S K : Type 0} (refuses : T → Parts → TransportError → Type 0) (serves : T → Parts → Runs Item) (keeps : Verifies → K → Act → Result Receipt StepError → K → Type 0) (yields : S → Runs Item)
-    (verifies : Verifies) (base : Parts) (t : T) (c : CoreDoc) (k : K) where
-  -- with the machine and the keeper that the load leaves
-  pub record Vouches (left : CoreDoc) (kept : K) (l : LoadedDoc) : Type 0 where
+module _ {T S K R C : Type 0} (refuses : T → Parts → TransportError → Type 0) (serves : T → Parts → Runs Item) (keeps : Verifies → K → Act → Result R StepError → K → Type 0) (may_give : C → ℤ → Type 0) (yields : S → Runs Item)
+    (verifies : Verifies) (base : Parts) (t : T) (c : CoreDoc) (k : Held K R C) where
+  -- with the machine, the keeper and the clock that the load leaves
+  pub record Vouches (left : CoreDoc) (kept : Held K R C) (l : LoadedDoc) : Type 0 where
     pub answers : List AnswerDoc
-    -- the transport or the keeper allowed each for what was asked, and so they led to the end with these documents
-    pub allowed : Leads refuses serves keeps yields verifies base t c k answers (record { setting = c.setting; stage = Done (Ok l) }) kept
+    -- the transport, the keeper or the clock allowed each for what was asked, and so they led to the end with these documents
+    pub allowed : Leads refuses serves keeps may_give yields verifies base t c k answers (record { setting = c.setting; stage = Done (Ok l) }) kept
     -- which were handed out
     pub taken : left ≡ handed_out c
     -- on these answers the update ends with documents that are trusted from the root that was handed in, and unexpired where that counts
     pub loaded : Loaded verifies c answers l
 
--- Of the steps that led a keeper from one state to the other, this one succeeded.
-pub record HasStepped {K : Type 0} (keeps : Verifies → K → Act → Result Receipt StepError → K → Type 0) (verifies : Verifies) (k : K) (act : Act) (kept : K) : Type 0 where
-  pub before : K
-  pub after : K
-  pub receipt : Receipt
+-- Of the steps that led a keeper from one state to the other this one succeeded, and its receipt stands where it was put.
+pub record HasStepped {K R : Type 0} (keeps : Verifies → K → Act → Result R StepError → K → Type 0) (verifies : Verifies) (k : Keeping K R) (act : Act) (kept : Keeping K R) : Type 0 where
+  pub before : Keeping K R
+  pub after : Keeping K R
+  pub receipt : R
   pub earlier : Walks keeps verifies k before
-  pub stepped : keeps verifies before act (Ok receipt) after
+  pub stepped : keeps verifies before.keeper act (Ok receipt) after.keeper
+  pub put : after.receipts ≡ before.receipts ++ receipt ∷ []
   pub later : Walks keeps verifies after kept

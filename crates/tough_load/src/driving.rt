@@ -2,7 +2,7 @@
 
 ghost use Rattle.std.specs.Prelude.{◌≡◌, Ok, IfOk, IfErr};
 ghost use Rattle.tough_update.specs.View.{core_doc, outcome_doc};
-ghost use Rattle.tough_load.specs.Loader.{IsBegun, first_core, settings_of, transport_of, verifier_of, keeper_of};
+ghost use Rattle.tough_load.specs.Loader.{IsBegun, first_core, settings_of, transport_of, verifier_of, held_of};
 ghost use Rattle.tough_load.specs.Advancing.{Advances, Finishes};
 ghost use Rattle.tough_load.specs.Running.{CanPoll};
 ghost use Rattle.tough_load.specs.Vouching.{Vouches};
@@ -33,15 +33,16 @@ where
     V: Verify + Drop,
     requires { CanPoll T.Stream.can_poll (part.fetch_of load.old) }
     ensures done { IfOk result
-        (λ r. Finishes T.refuses T.serves K.keeps T.Stream.yields V.verifies load.old
+        (λ r. Finishes T.refuses T.serves K.keeps C.may_give T.Stream.yields V.verifies load.old
         (outcome_doc r) load.new) }
     ensures goes { IfErr result
-        (λ e. Advances T.refuses T.serves K.keeps T.Stream.yields V.verifies load.old load.new) }
+        (λ e. Advances T.refuses T.serves K.keeps C.may_give T.Stream.yields V.verifies load.old
+        load.new) }
     ensures trusted { (from : _) → IsBegun from load.old
-        → IfOk result (λ r. IfOk (outcome_doc r) (Vouches T.refuses T.serves K.keeps T.Stream.yields
-        (V.verifies (verifier_of from)) (part.base_of load.old) (transport_of from)
-        (first_core (settings_of from)) (keeper_of from)
-        (core_doc (part.core_of load.new)) (part.keeper_of load.new))) }
+        → IfOk result (λ r. IfOk (outcome_doc r) (Vouches T.refuses T.serves K.keeps C.may_give
+        T.Stream.yields (V.verifies (verifier_of from)) (part.base_of load.old) (transport_of from)
+        (first_core (settings_of from)) (held_of from)
+        (core_doc (part.core_of load.new)) (part.held_of load.new))) }
 {
     let solo = Solo::new(rt, Doorbell::spinning())?;
     for _ in 0..u64::MAX {

@@ -13,11 +13,11 @@ ghost use Rattle.tough_load.specs.Running.{CanPoll};
 use futures::task::{Context, Poll};
 use futures::{Future, ready};
 use std::alloc::{AllocError, Global};
-use tough_net::{Collect, Transport, TransportError, fetch_whole};
+use tough_net::{Collect, JoinError, Transport, TransportError, fetch_whole, join};
 use tough_roles::Verify;
 use tough_trust::{Keeper, take_step};
 use tough_update::{Answer, Ask, Core, Fault, Limits, Loaded, Request, UpdateError};
-use tough_vault::{Clock, ExpirationEnforcement, Receipt};
+use tough_vault::{Clock, ExpirationEnforcement};
 use url::Url;
 
 // The answers that one poll hands to the machine, before it lets other tasks run.
@@ -25,7 +25,7 @@ const BUDGET: u32 = 64;
 
 /// A load that runs: the future of what an update comes to (TUF specification 5). It does what its machine asks for, and nothing else.
 #[derive(Drop)]
-pub struct Load<T: Transport, K, C, V> {
+pub struct Load<T: Transport, K: Keeper, C, V> {
     pub(crate) alloc: Global,
     pub(crate) transport: T,
     pub(crate) base: Url,
@@ -37,12 +37,12 @@ pub struct Load<T: Transport, K, C, V> {
     pub(crate) verifier: V,
     pub(crate) core: Core,
     pub(crate) fetch: Option<Collect<T::Stream>>,
-    pub(crate) receipts: Vec<Receipt>,
+    pub(crate) receipts: Vec<K::Receipt>,
 }
 
 /// What a load was given, but for its verifier, with what its steps were told.
 #[derive(Drop)]
-pub struct LoadParts<T, K, C> {
+pub struct LoadParts<T, K: Keeper, C> {
     /// The allocator.
     pub alloc: Global,
     /// What fetched the files.
@@ -60,7 +60,7 @@ pub struct LoadParts<T, K, C> {
     /// Whether what has expired is refused.
     pub enforcement: ExpirationEnforcement,
     /// What the steps that it took were told, in their order.
-    pub receipts: Vec<Receipt>,
+    pub receipts: Vec<K::Receipt>,
 }
 
 // What a fetch that has ended answers.
@@ -99,9 +99,12 @@ fn start<T: Transport>(
         (λ e. Fetches T.refuses T.serves transport.now base.now
         (request_doc request.now) (got.NotStarted e)) }
 {
-    let url = match base.join(request.name.as_str()) {
+    let url = match join(base, request.name.as_str()) {
         Ok(url) => url,
-        Err(error) => return Err(Fault::JoinUrl(error)),
+        Err(JoinError::Parse(error)) => return Err(Fault::JoinUrl(error)),
+        Err(JoinError::Memory) => {
+            return Err(Fault::Transport(TransportError::from(AllocError)));
+        }
     };
     let sha256 = match copy_digest(alloc, &request.sha256) {
         Ok(sha256) => sha256,
@@ -153,7 +156,7 @@ impl<T: Transport, K: Keeper, C: Clock + Drop, V: Verify + Drop> Load<T, K, C, V
     fn collect(&mut self, cx: &mut Context<'_>) -> Poll<()>
         requires running { CanPoll T.Stream.can_poll self.old.fetch }
         requires fetching { IsSome self.old.fetch }
-        ensures goes { Advances T.refuses T.serves K.keeps T.Stream.yields
+        ensures goes { Advances T.refuses T.serves K.keeps C.may_give T.Stream.yields
             V.verifies self.old self.new }
         ensures again { CanPoll T.Stream.can_poll self.new.fetch }
         ensures registered { OnPending result
@@ -178,10 +181,11 @@ impl<T: Transport, K: Keeper, C: Clock + Drop, V: Verify + Drop> Load<T, K, C, V
     fn advance(&mut self) -> Option<Result<Loaded, UpdateError>>
         requires idle { self.old.fetch ≡ None }
         ensures done { IfSome result
-            (λ r. Finishes T.refuses T.serves K.keeps T.Stream.yields V.verifies self.old
+            (λ r. Finishes T.refuses T.serves K.keeps C.may_give T.Stream.yields V.verifies self.old
             (outcome_doc r) self.new) }
         ensures goes { IsNone result
-            → Advances T.refuses T.serves K.keeps T.Stream.yields V.verifies self.old self.new }
+            → Advances T.refuses T.serves K.keeps C.may_give T.Stream.yields V.verifies self.old
+            self.new }
         ensures again { CanPoll T.Stream.can_poll self.new.fetch }
     {
         let answer = match self.core.ask() {
@@ -219,23 +223,24 @@ impl<T: Transport, K: Keeper, C: Clock + Drop, V: Verify + Drop> Future for Load
 
     ghost needs = { λ m s. IsSomeAnd (fetch_of m) (λ f. T.Stream.needs (collected f) s) };
 
-    ghost gives = { λ m r. MayGive T.refuses T.serves K.keeps T.Stream.yields
+    ghost gives = { λ m r. MayGive T.refuses T.serves K.keeps C.may_give T.Stream.yields
         V.verifies m (outcome_doc r) };
 
     fn poll(&mut self, cx: &mut Context<'_>) -> Poll<Self::Output>
         requires { CanPoll T.Stream.can_poll (fetch_of self.old) }
         ensures value { IfReady result
-            (λ r. MayGive T.refuses T.serves K.keeps T.Stream.yields V.verifies
+            (λ r. MayGive T.refuses T.serves K.keeps C.may_give T.Stream.yields V.verifies
             self.old (outcome_doc r)) }
         ensures same { OnPending result ((r : _)
-            → MayGive T.refuses T.serves K.keeps T.Stream.yields V.verifies self.new (outcome_doc r)
-            → MayGive T.refuses T.serves K.keeps T.Stream.yields V.verifies
-            self.old (outcome_doc r)) }
+            → MayGive T.refuses T.serves K.keeps C.may_give T.Stream.yields V.verifies self.new
+            (outcome_doc r) → MayGive T.refuses T.serves K.keeps C.may_give T.Stream.yields
+            V.verifies self.old (outcome_doc r)) }
         ensures done { IfReady result
-            (λ r. Finishes T.refuses T.serves K.keeps T.Stream.yields V.verifies self.old
+            (λ r. Finishes T.refuses T.serves K.keeps C.may_give T.Stream.yields V.verifies self.old
             (outcome_doc r) self.new) }
         ensures goes { OnPending result
-            (Advances T.refuses T.serves K.keeps T.Stream.yields V.verifies self.old self.new) }
+            (Advances T.refuses T.serves K.keeps C.may_give T.Stream.yields V.verifies self.old
+            self.new) }
         ensures again { OnPending result (CanPoll T.Stream.can_poll (fetch_of self.new)) }
         ensures registered { OnPending result
             (Covers cx.new (λ s. IsSomeAnd (fetch_of self.new)

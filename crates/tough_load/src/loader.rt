@@ -2,16 +2,17 @@
 
 ghost use Rattle.std.specs.Prelude.{◌≡◌, ◌⊎◌, true, Ok, IfOk, IfErr};
 ghost use Rattle.tough_checks.specs.Checks.{enforces};
-ghost use Rattle.tough_load.specs.Base.{with_slash, IsUnbegun};
+ghost use Rattle.tough_net.specs.Urls.{with_slash};
+ghost use Rattle.tough_load.specs.Base.{IsUnbegun};
 
 use crate::load::Load;
 use std::alloc::Global;
-use tough_net::Transport;
+use tough_net::{SlashError, Transport, with_slash};
 use tough_roles::Verify;
 use tough_trust::Keeper;
 use tough_update::{Core, Limits, UpdateError};
 use tough_vault::{Clock, ExpirationEnforcement};
-use url::{ParseError, Url};
+use url::Url;
 
 /// A part of a loader that isn't given yet.
 #[derive(Clone, Copy, Drop)]
@@ -195,20 +196,15 @@ impl<'a, T, V, C, K> RepositoryLoader<'a, T, V, C, K> {
     }
 }
 
-// The URL with a slash at its end.
-fn with_slash(alloc: Global, url: Url) -> Result<Url, UpdateError>
+// A base URL, with a slash at its end.
+fn base_url(alloc: Global, url: Url) -> Result<Url, UpdateError>
     ensures given { IfOk result (λ u. with_slash url ≡ Ok u) }
     ensures refused { IfErr result (IsUnbegun url) }
 {
-    if url.as_str().as_bytes().ends_with(b"/") {
-        return Ok(url);
-    }
-    let mut text = String::from_str(alloc, url.as_str())?;
-    text.push_str("/")?;
-    match Url::parse(alloc, text.as_str()) {
+    match with_slash(alloc, url) {
         Ok(url) => Ok(url),
-        Err(ParseError::OutOfMemory) => Err(UpdateError::Memory),
-        Err(source) => Err(UpdateError::ParseUrl { url: text, source }),
+        Err(SlashError::Parse { url, source }) => Err(UpdateError::ParseUrl { url, source }),
+        Err(SlashError::Memory) => Err(UpdateError::Memory),
     }
 }
 
@@ -231,11 +227,11 @@ impl<T: Transport, V: Verify + Drop, C: Clock + Drop, K: Keeper> RepositoryLoade
             keeper,
         } = self;
         let alloc = settings.alloc;
-        let base = match with_slash(alloc, settings.metadata_base_url) {
+        let base = match base_url(alloc, settings.metadata_base_url) {
             Ok(base) => base,
             Err(error) => return Err(error),
         };
-        let targets_base = match with_slash(alloc, settings.targets_base_url) {
+        let targets_base = match base_url(alloc, settings.targets_base_url) {
             Ok(base) => base,
             Err(error) => return Err(error),
         };

@@ -18,11 +18,11 @@ use tough_vault::Clock;
 
 /// The future of what a load comes to, and of the load as it is then.
 #[derive(Drop)]
-pub struct LoadRun<T: Transport, K, C, V> {
+pub struct LoadRun<T: Transport, K: Keeper, C, V> {
     load: Option<Load<T, K, C, V>>,
 }
 
-impl<T: Transport, K, C, V> Load<T, K, C, V> {
+impl<T: Transport, K: Keeper, C, V> Load<T, K, C, V> {
     /// Runs the load to its end, for executors that take a future by value: the load is handed back beside its outcome.
     pub fn run(self) -> LoadRun<T, K, C, V>
         ensures { IsSomeAnd (running_in result) (λ l. l ≡ self) }
@@ -41,7 +41,7 @@ impl<T: Transport, K: Keeper, C: Clock + Drop, V: Verify + Drop> Future for Load
         (λ l. IsSomeAnd (fetch_of l) (λ f. T.Stream.needs (collected f) s)) };
 
     ghost gives = { λ m both. IsSomeAnd (running_in m) (λ l. Finishes T.refuses T.serves K.keeps
-        T.Stream.yields V.verifies l (outcome_doc both.0) both.1) };
+        C.may_give T.Stream.yields V.verifies l (outcome_doc both.0) both.1) };
 
     fn poll(&mut self, cx: &mut Context<'_>) -> Poll<Self::Output> {
         let Some(load) = &mut self.load else {
