@@ -1,7 +1,7 @@
 //! One of the interleaved loads.
 
 use tough::schema::{self, DemoVerify, Root, Signed, Timestamp};
-use tough::{Error, ExpirationEnforcement, MemoryStore, Vault};
+use tough::{Error, ExpirationEnforcement, MemoryStore, UpdateError, Vault};
 
 /// A load that has verified its root.
 #[derive(Clone, Copy, Drop)]
@@ -27,8 +27,10 @@ impl<'a> Load<'a> {
     ) -> Result<u64, Error> {
         let start = jiff::Timestamp::UNIX_EPOCH;
         let safe = ExpirationEnforcement::Safe;
-        vault.advance_timestamp(self.root, timestamp, start, safe, &DemoVerify)?;
-        Ok(timestamp.signed.version.get())
+        match vault.advance_timestamp(self.root, timestamp, start, safe, &DemoVerify) {
+            Ok(_) => Ok(timestamp.signed.version.get()),
+            Err(error) => Err(Error::from(UpdateError::from(error))),
+        }
     }
 }
 
