@@ -2,7 +2,7 @@
 
 ghost use Rattle.std.specs.Prelude.{◌≡◌, Ok, IfOk};
 ghost use Rattle.tough_update.specs.View.{core_doc, outcome_doc};
-ghost use Rattle.tough_load.specs.Loader.{IsBegun, first_core, settings_of, transport_of, verifier_of, keeper_of};
+ghost use Rattle.tough_load.specs.Loader.{IsBegun, first_core, settings_of, transport_of, verifier_of, held_of};
 ghost use Rattle.tough_load.specs.Advancing.{Finishes};
 ghost use Rattle.tough_load.specs.Running.{CanPoll};
 ghost use Rattle.tough_load.specs.Vouching.{Vouches};
@@ -10,7 +10,7 @@ ghost use Rattle.tough_load.specs.Words as part;
 ghost use Rattle.tough_client.specs.Opening.{Opens, VouchesFor};
 
 use crate::Error;
-use std::alloc::AllocGlobal;
+use std::alloc::{AllocGlobal, Global};
 use std::random::RandomSource;
 use std::sync::Wait;
 use std::{io, time};
@@ -37,17 +37,63 @@ where
     V: Verify + Drop,
     requires { CanPoll T.Stream.can_poll (part.fetch_of load) }
     ensures done { IfOk result
-        (λ both. Finishes T.refuses T.serves K.keeps T.Stream.yields V.verifies load
+        (λ both. Finishes T.refuses T.serves K.keeps C.may_give T.Stream.yields V.verifies load
         (outcome_doc both.0) both.1) }
     ensures trusted { (from : _) → IsBegun from load
         → IfOk result (λ both. IfOk (outcome_doc both.0)
-        (Vouches T.refuses T.serves K.keeps T.Stream.yields
+        (Vouches T.refuses T.serves K.keeps C.may_give T.Stream.yields
         (V.verifies (verifier_of from)) (part.base_of load) (transport_of from)
-        (first_core (settings_of from)) (keeper_of from)
-        (core_doc (part.core_of both.1)) (part.keeper_of both.1))) }
+        (first_core (settings_of from)) (held_of from)
+        (core_doc (part.core_of both.1)) (part.held_of both.1))) }
 {
     loads_are_trusted::<T, V, C, K>();
     runtime.block_on(rt, load.run())
+}
+
+// The name of the file that a load last asked for, if there is memory for it.
+fn last_file<T, K, C, V>(alloc: Global, load: &Load<T, K, C, V>) -> Option<String>
+where
+    T: Transport,
+    K: Keeper,
+    C: Clock + Drop,
+    V: Verify + Drop,
+{
+    let name = load.core().last_file()?;
+    String::from_str(alloc, name).ok()
+}
+
+/// As `open_on`; beside a failure stands the name of the file that the load last asked for, if there is memory for it.
+pub(crate) fn open_named<R, T, K, C, V>(
+    rt: &R,
+    runtime: &mut LocalRuntime,
+    load: Load<T, K, C, V>,
+) -> io::Result<(Result<Repository<T, K, C>, Error>, Option<String>)>
+where
+    R: Wait + time::Clock + RandomSource + AllocGlobal,
+    T: Transport,
+    K: Keeper,
+    C: Clock + Drop,
+    V: Verify + Drop,
+    requires { CanPoll T.Stream.can_poll (part.fetch_of load) }
+    ensures done { IfOk result (λ both.
+        Opens T.refuses T.serves K.keeps C.may_give T.Stream.yields V.verifies load both.0) }
+    ensures trusted { (from : _) → IsBegun from load
+        → IfOk result (λ both. IfOk both.0
+        (VouchesFor T.refuses T.serves K.keeps C.may_give T.Stream.yields V.verifies from
+        (part.base_of load))) }
+{
+    let (outcome, load) = match drive_on(rt, runtime, load) {
+        Ok(both) => both,
+        Err(error) => return Err(error),
+    };
+    match outcome {
+        Ok(loaded) => Ok((Ok(Repository::new(load, loaded)), None)),
+        Err(error) => {
+            let file = last_file(rt.alloc(), &load);
+            drop(load);
+            Ok((Err(Error::from(error)), file))
+        }
+    }
 }
 
 /// Polls a load until it is ready, as `drive_on` does, and gives the repository that it loaded, or why it didn't: what `drive` does for
@@ -65,21 +111,14 @@ where
     V: Verify + Drop,
     requires { CanPoll T.Stream.can_poll (part.fetch_of load) }
     ensures done { IfOk result
-        (Opens T.refuses T.serves K.keeps T.Stream.yields V.verifies load) }
+        (Opens T.refuses T.serves K.keeps C.may_give T.Stream.yields V.verifies load) }
     ensures trusted { (from : _) → IsBegun from load
         → IfOk result (λ r. IfOk r
-        (VouchesFor T.refuses T.serves K.keeps T.Stream.yields V.verifies from
+        (VouchesFor T.refuses T.serves K.keeps C.may_give T.Stream.yields V.verifies from
         (part.base_of load))) }
 {
-    let (outcome, load) = match drive_on(rt, runtime, load) {
-        Ok(both) => both,
-        Err(error) => return Err(error),
-    };
-    match outcome {
-        Ok(loaded) => Ok(Ok(Repository::new(load, loaded))),
-        Err(error) => {
-            drop(load);
-            Ok(Err(Error::from(error)))
-        }
+    match open_named(rt, runtime, load) {
+        Ok((opened, _)) => Ok(opened),
+        Err(error) => Err(error),
     }
 }

@@ -14,5 +14,6 @@ returns-in_default c =
       done = unended c.replace.result c.in_default.not-Done ∙ ap (λ s. ended (stage_doc s)) c.replace.ensures.value;
       taken = λ h. cc;
       counts = refl;
+      file = refl;
       not_yet = λ h. ap (λ s. let d : CoreDoc = record { setting = setting; stage = stage_doc s } in d) (c.replace-in_default.ensures.after ∙ c.replace.ensures.value);
     }
