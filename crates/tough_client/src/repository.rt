@@ -130,7 +130,7 @@ impl<T, K: Keeper, C> Repository<T, K, C> {
     }
 
     /// The receipts of the steps of the load, and of those that noted the time since, in order.
-    pub fn receipts(&self) -> &[Receipt]
+    pub fn receipts(&self) -> &[K::Receipt]
         ensures { result.now ≡ receipts_of self.now }
     {
         self.receipts.as_slice()
