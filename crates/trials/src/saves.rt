@@ -8,8 +8,8 @@ use serde_json::Value;
 use std::alloc::{AllocError, Global};
 use tough::files::{Call, Request};
 use tough::{
-    Clock, Error, Files, Keeper, MemoryFiles, MemoryTransport, Prefix, Repository, TargetName,
-    Transport, Vault, finish,
+    Clock, Error, Files, Keeper, MemoryFiles, MemoryTransport, Prefix, Receipt, Repository,
+    TargetName, Transport, Vault, finish,
 };
 use trials_calls::case::{flag, list, number, text};
 use trials_calls::shelf::Shelf;
@@ -188,7 +188,7 @@ fn read<T: Transport, K: Keeper, C: Clock + Drop>(
 }
 
 // The receipts of the load, and of the reading of a target.
-fn receipts<T: Transport, K: Keeper, C: Clock + Drop>(
+fn receipts<T: Transport, K: Keeper<Receipt = Receipt>, C: Clock + Drop>(
     rt: &HostRuntime,
     case: &Value,
     repository: &mut Repository<T, K, C>,
@@ -205,7 +205,7 @@ fn receipts<T: Transport, K: Keeper, C: Clock + Drop>(
 }
 
 // Does with the repository what the case asks for, and tells what that came to.
-fn act<T: Transport, K: Keeper, C: Clock + Drop>(
+fn act<T: Transport, K: Keeper<Receipt = Receipt>, C: Clock + Drop>(
     rt: &HostRuntime,
     case: &Value,
     repository: &mut Repository<T, K, C>,
@@ -223,7 +223,7 @@ fn act<T: Transport, K: Keeper, C: Clock + Drop>(
 }
 
 // Does with the repository what the case asks for, and tells what that came to, and which calls the files were given.
-fn tell<T: Transport, K: Keeper, C: Clock + Drop>(
+fn tell<T: Transport, K: Keeper<Receipt = Receipt>, C: Clock + Drop>(
     rt: &HostRuntime,
     case: &Value,
     repository: &mut Repository<T, K, C>,
@@ -240,7 +240,7 @@ fn tell<T: Transport, K: Keeper, C: Clock + Drop>(
 }
 
 // The same over new files.
-fn tell_anew<T: Transport, K: Keeper, C: Clock + Drop>(
+fn tell_anew<T: Transport, K: Keeper<Receipt = Receipt>, C: Clock + Drop>(
     rt: &HostRuntime,
     case: &Value,
     repository: &mut Repository<T, K, C>,
@@ -264,7 +264,11 @@ fn served(alloc: Global, case: &Value) -> Result<MemoryTransport> {
 }
 
 // Loads the repository of the case by this keeper, saves a target of it or caches it, and tells what that came to.
-fn play_by<K: Keeper>(rt: &HostRuntime, case: &Value, keeper: K) -> Result<String> {
+fn play_by<K: Keeper<Receipt = Receipt>>(
+    rt: &HostRuntime,
+    case: &Value,
+    keeper: K,
+) -> Result<String> {
     let transport = served(rt.alloc(), case)?;
     let urls = ["http://h/metadata/", "http://h/targets"];
     let mut repository = open(rt, case, case, urls, transport, keeper)??;
