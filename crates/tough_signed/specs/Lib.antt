@@ -1,0 +1,5 @@
+pub mod Holders
+pub mod Refusals
+pub mod Signing
+pub mod Roles
+pub mod Standing
