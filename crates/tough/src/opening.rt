@@ -4,8 +4,7 @@ ghost use Rattle.std.specs.Prelude.{⊤, IfOk};
 ghost use Rattle.tough_client.specs.Repositories.{documents_of};
 ghost use Rattle.tough.specs.Program.{IsVouchedFor};
 
-use crate::Error;
-use crate::waiting::open_named;
+use crate::{Error, open_on};
 use std::alloc::{AllocError, AllocGlobal, Global};
 use std::fs::File;
 use std::random::RandomSource;
@@ -50,28 +49,6 @@ pub(crate) fn refused(alloc: Global, error: Error) -> Fault {
     match told {
         Ok(text) => Fault::Refused(text),
         Err(_) => Fault::Memory,
-    }
-}
-
-// What was refused, and the file that it was read from, unless it says that itself.
-fn named(alloc: Global, text: String, file: &str) -> Fault {
-    if text.contains(file) {
-        return Fault::Refused(text);
-    }
-    match format!(in alloc; "{text} ({file})") {
-        Ok(text) => Fault::Refused(text),
-        Err(_) => Fault::Memory,
-    }
-}
-
-// A refusal by a load that last asked for this file.
-fn refused_in(alloc: Global, error: Error, file: Option<String>) -> Fault {
-    let Some(file) = file else {
-        return refused(alloc, error);
-    };
-    match refused(alloc, error) {
-        Fault::Refused(text) => named(alloc, text, file.as_str()),
-        fault => fault,
     }
 }
 
@@ -130,9 +107,9 @@ where
         Ok(load) => load,
         Err(error) => return Err(refused(rt.alloc(), Error::from(error))),
     };
-    match open_named(rt, runtime, load) {
-        Ok((Ok(repository), _)) => Ok(repository),
-        Ok((Err(error), file)) => Err(refused_in(rt.alloc(), error, file)),
+    match open_on(rt, runtime, load) {
+        Ok(Ok(repository)) => Ok(repository),
+        Ok(Err(error)) => Err(refused(rt.alloc(), error)),
         Err(error) => Err(not_run(rt.alloc(), error)),
     }
 }

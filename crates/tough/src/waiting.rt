@@ -10,7 +10,7 @@ ghost use Rattle.tough_load.specs.Words as part;
 ghost use Rattle.tough_client.specs.Opening.{Opens, VouchesFor};
 
 use crate::Error;
-use std::alloc::{AllocGlobal, Global};
+use std::alloc::AllocGlobal;
 use std::random::RandomSource;
 use std::sync::Wait;
 use std::{io, time};
@@ -50,52 +50,6 @@ where
     runtime.block_on(rt, load.run())
 }
 
-// The name of the file that a load last asked for, if there is memory for it.
-fn last_file<T, K, C, V>(alloc: Global, load: &Load<T, K, C, V>) -> Option<String>
-where
-    T: Transport,
-    K: Keeper,
-    C: Clock + Drop,
-    V: Verify + Drop,
-{
-    let name = load.core().last_file()?;
-    String::from_str(alloc, name).ok()
-}
-
-/// As `open_on`; beside a failure stands the name of the file that the load last asked for, if there is memory for it.
-pub(crate) fn open_named<R, T, K, C, V>(
-    rt: &R,
-    runtime: &mut LocalRuntime,
-    load: Load<T, K, C, V>,
-) -> io::Result<(Result<Repository<T, K, C>, Error>, Option<String>)>
-where
-    R: Wait + time::Clock + RandomSource + AllocGlobal,
-    T: Transport,
-    K: Keeper,
-    C: Clock + Drop,
-    V: Verify + Drop,
-    requires { CanPoll T.Stream.can_poll (part.fetch_of load) }
-    ensures done { IfOk result (λ both.
-        Opens T.refuses T.serves K.keeps C.may_give T.Stream.yields V.verifies load both.0) }
-    ensures trusted { (from : _) → IsBegun from load
-        → IfOk result (λ both. IfOk both.0
-        (VouchesFor T.refuses T.serves K.keeps C.may_give T.Stream.yields V.verifies from
-        (part.base_of load))) }
-{
-    let (outcome, load) = match drive_on(rt, runtime, load) {
-        Ok(both) => both,
-        Err(error) => return Err(error),
-    };
-    match outcome {
-        Ok(loaded) => Ok((Ok(Repository::new(load, loaded)), None)),
-        Err(error) => {
-            let file = last_file(rt.alloc(), &load);
-            drop(load);
-            Ok((Err(Error::from(error)), file))
-        }
-    }
-}
-
 /// Polls a load until it is ready, as `drive_on` does, and gives the repository that it loaded, or why it didn't: what `drive` does for
 /// transports that never wait.
 pub fn open_on<R, T, K, C, V>(
@@ -117,8 +71,15 @@ where
         (VouchesFor T.refuses T.serves K.keeps C.may_give T.Stream.yields V.verifies from
         (part.base_of load))) }
 {
-    match open_named(rt, runtime, load) {
-        Ok((opened, _)) => Ok(opened),
-        Err(error) => Err(error),
+    let (outcome, load) = match drive_on(rt, runtime, load) {
+        Ok(both) => both,
+        Err(error) => return Err(error),
+    };
+    match outcome {
+        Ok(loaded) => Ok(Ok(Repository::new(load, loaded))),
+        Err(error) => {
+            drop(load);
+            Ok(Err(Error::from(error)))
+        }
     }
 }
