@@ -1,5 +1,5 @@
 -- How a saving follows from where it stands.
-use Rattle.std.specs.Prelude.{◌≡◌, ℕ, Bool, List, Option, Some, None, IsSomeAnd, Result, Ok, Err}
+use Rattle.std.specs.Prelude.{◌≡◌, ℤ, ℕ, Bool, List, Option, Some, None, IsSomeAnd, Result, Ok, Err}
 use Rattle.std.proofs.Common.{refl, inl, inr}
 use Rattle.url.specs.Parts.{Parts}
 use Rattle.futures.specs.declared.task.Poll.{Poll}
@@ -15,8 +15,7 @@ use Rattle.tough_net.specs.declared.max_size.MaxSize.{MaxSize}
 use Rattle.tough_net.specs.Items.{Item}
 use Rattle.tough_vault.specs.Act.{Act}
 use Rattle.tough_checks.specs.declared.checks.StepError.{StepError}
-use Rattle.tough_vault.specs.declared.entry.Receipt.{Receipt}
-use Rattle.tough_trust.specs.Timely.{Keeping}
+use Rattle.tough_trust.specs.Steps.{Keeping}
 use Rattle.tough_error.specs.declared.error.Error.{Error}
 use Rattle.tough_save.specs.declared.saving.Saving.{Saving}
 use Rattle.tough_client.specs.declared.repository.Repository.{Repository}
@@ -24,23 +23,23 @@ use Rattle.tough_client.specs.declared.save.Prefix.{Prefix}
 use Rattle.tough_client.specs.Repositories.{keeping_of}
 use Rattle.tough_client.specs.Saving.{Finishes, Continues, Starts, SavesTarget, GoesOnSaving}
 
-module _ {T K C S : Type 0} (refuses : T → Parts → TransportError → Type 0) (serves : T → Parts → Runs Item) (yields : S → Runs Item) (can_poll : S → Type 0)
-    (keeps : Verifies → K → Act → Result Receipt StepError → K → Type 0) (tells : Bool)
-    (r : Repository T K C) (name : Named) (outdir : List ℕ) (p : Prefix) (old mid : List Told) (next : Keeping K) (s : Saving (DigestCheck (MaxSize S))) where
+module _ {T K C S R : Type 0} (refuses : T → Parts → TransportError → Type 0) (serves : T → Parts → Runs Item) (yields : S → Runs Item) (can_poll : S → Type 0)
+    (keeps : Verifies → K → Act → Result R StepError → K → Type 0) (may_give : C → ℤ → Type 0) (tells : Bool)
+    (r : Repository T K C R) (name : Named) (outdir : List ℕ) (p : Prefix) (old mid : List Told) (next : Keeping K R) (s : Saving (DigestCheck (MaxSize S))) where
   -- it started, and finished
-  pub saves : Starts refuses serves yields can_poll keeps tells r name outdir p old mid next (Ok s) → (new : List Told) (result : Result (Unit {0}) Error) → Finishes yields tells name s mid new result
-      → SavesTarget refuses serves yields can_poll keeps tells r name outdir p old new next result
+  pub saves : Starts refuses serves yields can_poll keeps may_give tells r name outdir p old mid next (Ok s) → (new : List Told) (result : Result (Unit {0}) Error) → Finishes yields tells name s mid new result
+      → SavesTarget refuses serves yields can_poll keeps may_give tells r name outdir p old new next result
   saves started new (Ok u) h = record { saving = s; mid = mid; started = started; finished = h }
   saves started new (Err e) h = inr (record { saving = s; mid = mid; started = started; finished = h })
 
-module _ {T K C S : Type 0} (refuses : T → Parts → TransportError → Type 0) (serves : T → Parts → Runs Item) (yields : S → Runs Item) (can_poll : S → Type 0)
-    (keeps : Verifies → K → Act → Result Receipt StepError → K → Type 0) (tells : Bool)
-    (o : Option (Saving (DigestCheck (MaxSize S)))) (r : Repository T K C) (name : Named) (outdir : List ℕ) (p : Prefix) (old : List Told) where
+module _ {T K C S R : Type 0} (refuses : T → Parts → TransportError → Type 0) (serves : T → Parts → Runs Item) (yields : S → Runs Item) (can_poll : S → Type 0)
+    (keeps : Verifies → K → Act → Result R StepError → K → Type 0) (may_give : C → ℤ → Type 0) (tells : Bool)
+    (o : Option (Saving (DigestCheck (MaxSize S)))) (r : Repository T K C R) (name : Named) (outdir : List ℕ) (p : Prefix) (old : List Told) where
   -- what a saving may come to from here
   abbrev May : Result (Unit {0}) Error → Type 0
-  May result = (calls : List Told) × (k : Keeping K) × GoesOnSaving refuses serves yields can_poll keeps tells o r name outdir p old calls k result
+  May result = (calls : List Told) × (k : Keeping K R) × GoesOnSaving refuses serves yields can_poll keeps may_give tells o r name outdir p old calls k result
 
-  may : (calls : List Told) (k : Keeping K) (x : Result (Unit {0}) Error) → GoesOnSaving refuses serves yields can_poll keeps tells o r name outdir p old calls k x → May x
+  may : (calls : List Told) (k : Keeping K R) (x : Result (Unit {0}) Error) → GoesOnSaving refuses serves yields can_poll keeps may_give tells o r name outdir p old calls k x → May x
   may calls k x h = (calls, k, h)
 
   module _ (s : Saving (DigestCheck (MaxSize S))) (is : o ≡ Some s) where
@@ -49,27 +48,27 @@ module _ {T K C S : Type 0} (refuses : T → Parts → TransportError → Type 0
     some_value new Pending h = h
 
     some_later : (o' : Option (Saving (DigestCheck (MaxSize S)))) (done : List Told) → IsSomeAnd o' (Continues yields tells name s old done) → (x : Result (Unit {0}) Error)
-        → ((calls : List Told) × (k : Keeping K) × GoesOnSaving refuses serves yields can_poll keeps tells o' r name outdir p done calls k x) → May x
+        → ((calls : List Told) × (k : Keeping K R) × GoesOnSaving refuses serves yields can_poll keeps may_give tells o' r name outdir p done calls k x) → May x
     some_later None done w x h = absurd w
     some_later (Some later) done w x h = may h.0 h.1 x (rw is (w x h.0 h.2.0, h.2.1))
 
     pub some_same : (o' : Option (Saving (DigestCheck (MaxSize S)))) (done : List Told) (result : Poll (Result (Unit {0}) Error)) → OnPending result (IsSomeAnd o' (Continues yields tells name s old done))
-        → OnPending result ((x : Result (Unit {0}) Error) → ((calls : List Told) × (k : Keeping K) × GoesOnSaving refuses serves yields can_poll keeps tells o' r name outdir p done calls k x) → May x)
+        → OnPending result ((x : Result (Unit {0}) Error) → ((calls : List Told) × (k : Keeping K R) × GoesOnSaving refuses serves yields can_poll keeps may_give tells o' r name outdir p done calls k x) → May x)
     some_same o' done (Ready x) h = h
     some_same o' done Pending h = some_later o' done h
 
   -- it couldn't start
-  pub none_failed : (new : List Told) (next : Keeping K) (e : Error) → o ≡ None → Starts refuses serves yields can_poll keeps tells r name outdir p old new next (Err e)
-      → GoesOnSaving refuses serves yields can_poll keeps tells o r name outdir p old new next (Err e)
+  pub none_failed : (new : List Told) (next : Keeping K R) (e : Error) → o ≡ None → Starts refuses serves yields can_poll keeps may_give tells r name outdir p old new next (Err e)
+      → GoesOnSaving refuses serves yields can_poll keeps may_give tells o r name outdir p old new next (Err e)
   none_failed new next e is h = rw is (inl h)
 
-  module _ (s : Saving (DigestCheck (MaxSize S))) (mid : List Told) (next : Keeping K) (is : o ≡ None) (started : Starts refuses serves yields can_poll keeps tells r name outdir p old mid next (Ok s)) where
+  module _ (s : Saving (DigestCheck (MaxSize S))) (mid : List Told) (next : Keeping K R) (is : o ≡ None) (started : Starts refuses serves yields can_poll keeps may_give tells r name outdir p old mid next (Ok s)) where
     whole : (new : List Told) (result : Result (Unit {0}) Error) → Finishes yields tells name s mid new result
-        → GoesOnSaving refuses serves yields can_poll keeps tells o r name outdir p old new next result
-    whole new result h = rw is (saves refuses serves yields can_poll keeps tells r name outdir p old mid next s started new result h)
+        → GoesOnSaving refuses serves yields can_poll keeps may_give tells o r name outdir p old new next result
+    whole new result h = rw is (saves refuses serves yields can_poll keeps may_give tells r name outdir p old mid next s started new result h)
 
     pub none_saves : (new : List Told) (result : Poll (Result (Unit {0}) Error)) → IfReady result (Finishes yields tells name s mid new)
-        → IfReady result (GoesOnSaving refuses serves yields can_poll keeps tells o r name outdir p old new next)
+        → IfReady result (GoesOnSaving refuses serves yields can_poll keeps may_give tells o r name outdir p old new next)
     none_saves new (Ready x) h = whole new x h
     none_saves new Pending h = h
 
@@ -77,14 +76,14 @@ module _ {T K C S : Type 0} (refuses : T → Parts → TransportError → Type 0
     none_value new (Ready x) h = may new next x (whole new x h)
     none_value new Pending h = h
 
-    none_later : (o' : Option (Saving (DigestCheck (MaxSize S)))) (r' : Repository T K C) (outdir' : List ℕ) (p' : Prefix) (done : List Told)
+    none_later : (o' : Option (Saving (DigestCheck (MaxSize S)))) (r' : Repository T K C R) (outdir' : List ℕ) (p' : Prefix) (done : List Told)
         → IsSomeAnd o' (Continues yields tells name s mid done) → (x : Result (Unit {0}) Error)
-        → ((calls : List Told) × (k : Keeping K) × GoesOnSaving refuses serves yields can_poll keeps tells o' r' name outdir' p' done calls k x) → May x
+        → ((calls : List Told) × (k : Keeping K R) × GoesOnSaving refuses serves yields can_poll keeps may_give tells o' r' name outdir' p' done calls k x) → May x
     none_later None r' outdir' p' done w x h = absurd w
     none_later (Some later) r' outdir' p' done w x h = may h.0 next x (whole h.0 x (w x h.0 h.2.0))
 
-    pub none_same : (o' : Option (Saving (DigestCheck (MaxSize S)))) (r' : Repository T K C) (outdir' : List ℕ) (p' : Prefix) (done : List Told) (result : Poll (Result (Unit {0}) Error))
+    pub none_same : (o' : Option (Saving (DigestCheck (MaxSize S)))) (r' : Repository T K C R) (outdir' : List ℕ) (p' : Prefix) (done : List Told) (result : Poll (Result (Unit {0}) Error))
         → OnPending result (IsSomeAnd o' (Continues yields tells name s mid done))
-        → OnPending result ((x : Result (Unit {0}) Error) → ((calls : List Told) × (k : Keeping K) × GoesOnSaving refuses serves yields can_poll keeps tells o' r' name outdir' p' done calls k x) → May x)
+        → OnPending result ((x : Result (Unit {0}) Error) → ((calls : List Told) × (k : Keeping K R) × GoesOnSaving refuses serves yields can_poll keeps may_give tells o' r' name outdir' p' done calls k x) → May x)
     none_same o' r' outdir' p' done (Ready x) h = h
     none_same o' r' outdir' p' done Pending h = none_later o' r' outdir' p' done h

@@ -1,9 +1,9 @@
 -- How a repository is cached: turn by turn, and the calls by which that is done.
-use Rattle.std.specs.Prelude.{◌≡◌, ◌⊎◌, ℕ, Bool, List, [], ◌∷◌, ◌++◌, Option, Some, None, Result, Ok, Err, Vec, length, ◌≤◌, string_bytes, if◌then◌else◌}
+use Rattle.std.specs.Prelude.{◌≡◌, ℤ, ◌⊎◌, ℕ, Bool, List, [], ◌∷◌, ◌++◌, Option, Some, None, Result, Ok, Err, Vec, length, ◌≤◌, string_bytes, if◌then◌else◌}
 use Rattle.std.specs.declared.alloc.Global.{Global}
 use Rattle.std.specs.Path.{path_join}
 use Rattle.url.specs.Parts.{Parts}
-use Rattle.url.specs.Parser.{parse_url, Gives}
+use Rattle.url.specs.Parser.{parse_url}
 use Rattle.url.specs.declared.error.ParseError.{ParseError}
 use Rattle.futures.specs.Runs.{Runs}
 use Rattle.tough_files.specs.Calls.{Told}
@@ -17,11 +17,11 @@ use Rattle.tough_net.specs.Collecting.{Collects, collected, bounds_of, held_by}
 use Rattle.tough_net.specs.Errors.{IsMemory}
 use Rattle.tough_net.specs.Items.{Item}
 use Rattle.tough_net.specs.Limiting.{limited}
+use Rattle.tough_net.specs.Urls.{CannotJoin}
 use Rattle.tough_vault.specs.Act.{Act}
 use Rattle.tough_checks.specs.declared.checks.StepError.{StepError}
-use Rattle.tough_vault.specs.declared.entry.Receipt.{Receipt}
 use Rattle.tough_trust.specs.Requests.{RequestDoc}
-use Rattle.tough_trust.specs.Timely.{Keeping}
+use Rattle.tough_trust.specs.Steps.{Keeping}
 use Rattle.tough_update.specs.Stages.{LoadedDoc}
 use Rattle.tough_error.specs.declared.error.Error.{Error}
 use Rattle.tough_error.specs.declared.error.Error.TheVariants as error
@@ -74,11 +74,11 @@ Needs needs (work.File path f) n = needs (collected f) n
 
 -- ---- a file of metadata
 
-module _ {T K C : Type 0} (refuses : T → Parts → TransportError → Type 0) (r : Repository T K C) where
+module _ {T K C R : Type 0} (refuses : T → Parts → TransportError → Type 0) (r : Repository T K C R) where
   -- why a fetch doesn't start: no memory, a name that can't be joined, or a refusal of the transport
   abbrev pub IsUnstarted : RequestDoc → Error → Type 0
   IsUnstarted q e = (e ≡ error.Memory)
-      ⊎ (((why : ParseError) × Gives (Err why) (parse_url (Some (metadata_base_of r)) q.name) × TellsUnjoined q.name why e)
+      ⊎ (((why : ParseError) × CannotJoin (metadata_base_of r) q.name why × TellsUnjoined q.name why e)
       ⊎ ((url : Parts) × (parse_url (Some (metadata_base_of r)) q.name ≡ Ok url)
       × ((why : TransportError) × (refuses (transport_of r) url why ⊎ IsMemory why) × TellsFault why e)))
 
@@ -90,7 +90,7 @@ module _ {T K C : Type 0} (refuses : T → Parts → TransportError → Type 0) 
   abbrev pub IsUnbegun : Served → Error → Type 0
   IsUnbegun s e = IsUnlisted (documents_of r) (limits_of r) s e ⊎ ((q : RequestDoc) × IsAsked s q × IsUnstarted q e)
 
-module _ {T K C S : Type 0} (serves : T → Parts → Runs Item) (yields : S → Runs Item) (r : Repository T K C) (dir : List ℕ) where
+module _ {T K C S R : Type 0} (serves : T → Parts → Runs Item) (yields : S → Runs Item) (r : Repository T K C R) (dir : List ℕ) where
   -- a fetch from below the base URL of the metadata has begun, for a path in the folder
   abbrev pub IsBegun : RequestDoc → Work S → Type 0
   IsBegun q (work.Target name s) = ⊥
@@ -102,7 +102,7 @@ module _ {T K C S : Type 0} (serves : T → Parts → Runs Item) (yields : S →
     pub started : IsStarted serves yields (transport_of r) (metadata_base_of r) q fetch
     pub fetched : IsFetched tells yields (path_join dir q.name) fetch old new result
 
-module _ {T K C S : Type 0} (refuses : T → Parts → TransportError → Type 0) (serves : T → Parts → Runs Item) (yields : S → Runs Item) (r : Repository T K C) (dir : List ℕ) (s : Served) where
+module _ {T K C S R : Type 0} (refuses : T → Parts → TransportError → Type 0) (serves : T → Parts → Runs Item) (yields : S → Runs Item) (r : Repository T K C R) (dir : List ℕ) (s : Served) where
   abbrev pub BeginsFile : Result (Option (Work S)) Error → Type 0
   BeginsFile (Ok (Some w)) = (q : RequestDoc) × IsAsked refuses r s q × IsBegun serves yields r dir q w
   BeginsFile (Ok None) = ⊥
@@ -119,37 +119,37 @@ module _ {T K C S : Type 0} (refuses : T → Parts → TransportError → Type 0
 abbrev pub prefix_of : LoadedDoc → Prefix
 prefix_of l = if is_consistent l then prefix.Digest else prefix.None
 
-module _ {T K C S : Type 0} (refuses : T → Parts → TransportError → Type 0) (serves : T → Parts → Runs Item) (yields : S → Runs Item) (can_poll : S → Type 0)
-    (keeps : Verifies → K → Act → Result Receipt StepError → K → Type 0) (tells : Bool) where
-  module _ (r : Repository T K C) (dir : List ℕ) where
+module _ {T K C S R : Type 0} (refuses : T → Parts → TransportError → Type 0) (serves : T → Parts → Runs Item) (yields : S → Runs Item) (can_poll : S → Type 0)
+    (keeps : Verifies → K → Act → Result R StepError → K → Type 0) (may_give : C → ℤ → Type 0) (tells : Bool) where
+  module _ (r : Repository T K C R) (dir : List ℕ) where
     -- the target of this name is saved
-    abbrev pub SavesNamed : Named → List Told → List Told → Keeping K → Result (Unit {0}) Error → Type 0
-    SavesNamed name old new next result = SavesTarget refuses serves yields can_poll keeps tells r name dir (prefix_of (documents_of r)) old new next result
+    abbrev pub SavesNamed : Named → List Told → List Told → Keeping K R → Result (Unit {0}) Error → Type 0
+    SavesNamed name old new next result = SavesTarget refuses serves yields can_poll keeps may_give tells r name dir (prefix_of (documents_of r)) old new next result
 
     -- nothing is done for a text that is no name
-    abbrev pub IsNoName : NameError → List Told → List Told → Keeping K → Error → Type 0
+    abbrev pub IsNoName : NameError → List Told → List Told → Keeping K R → Error → Type 0
     IsNoName why old new next e = Stays tells old new × (next ≡ keeping_of r) × (e ≡ name_error why)
 
-    abbrev pub SavesIf : Result Named NameError → List Told → List Told → Keeping K → Result (Unit {0}) Error → Type 0
+    abbrev pub SavesIf : Result Named NameError → List Told → List Told → Keeping K R → Result (Unit {0}) Error → Type 0
     SavesIf (Ok name) old new next result = SavesNamed name old new next result
     SavesIf (Err why) old new next result = IsFailed (IsNoName why old new next) result
 
     -- the target that the text names is saved
-    abbrev pub SavesText : List ℕ → List Told → List Told → Keeping K → Result (Unit {0}) Error → Type 0
+    abbrev pub SavesText : List ℕ → List Told → List Told → Keeping K R → Result (Unit {0}) Error → Type 0
     SavesText text old new next result = (name : Result Named NameError) × GivesName text name × SavesIf name old new next result
 
-    abbrev pub BeginsTarget : Named → List Told → List Told → Keeping K → Result (Option (Work S)) Error → Type 0
-    BeginsTarget name old mid next (Ok (Some (work.Target n s))) = (n ≡ name) × Starts refuses serves yields can_poll keeps tells r name dir (prefix_of (documents_of r)) old mid next (Ok s)
+    abbrev pub BeginsTarget : Named → List Told → List Told → Keeping K R → Result (Option (Work S)) Error → Type 0
+    BeginsTarget name old mid next (Ok (Some (work.Target n s))) = (n ≡ name) × Starts refuses serves yields can_poll keeps may_give tells r name dir (prefix_of (documents_of r)) old mid next (Ok s)
     BeginsTarget name old mid next (Ok (Some (work.File path f))) = ⊥
     BeginsTarget name old mid next (Ok None) = ⊥
-    BeginsTarget name old mid next (Err e) = Starts refuses serves yields can_poll keeps tells r name dir (prefix_of (documents_of r)) old mid next (Err e)
+    BeginsTarget name old mid next (Err e) = Starts refuses serves yields can_poll keeps may_give tells r name dir (prefix_of (documents_of r)) old mid next (Err e)
 
-    abbrev pub BeginsIf : Result Named NameError → List Told → List Told → Keeping K → Result (Option (Work S)) Error → Type 0
+    abbrev pub BeginsIf : Result Named NameError → List Told → List Told → Keeping K R → Result (Option (Work S)) Error → Type 0
     BeginsIf (Ok name) old mid next begun = BeginsTarget name old mid next begun
     BeginsIf (Err why) old mid next (Ok o) = ⊥
     BeginsIf (Err why) old mid next (Err e) = IsNoName why old mid next e
 
-    abbrev pub BeginsText : List ℕ → List Told → List Told → Keeping K → Result (Option (Work S)) Error → Type 0
+    abbrev pub BeginsText : List ℕ → List Told → List Told → Keeping K R → Result (Option (Work S)) Error → Type 0
     BeginsText text old mid next begun = (name : Result Named NameError) × GivesName text name × BeginsIf name old mid next begun
 
     -- a document is written at once
@@ -159,34 +159,34 @@ module _ {T K C S : Type 0} (refuses : T → Parts → TransportError → Type 0
     BeginsRole place old mid (Err e) = WritesRole tells (documents_of r) dir place old mid (Err e)
 
   -- What is done at a turn.
-  abbrev pub Does : Repository T K C → Folders → Turn → List Told → List Told → Keeping K → Result (Unit {0}) Error → Type 0
+  abbrev pub Does : Repository T K C R → Folders → Turn → List Told → List Told → Keeping K R → Result (Unit {0}) Error → Type 0
   Does r dirs (turn.Named text) old new next result = SavesText r dirs.targets.now (string_bytes text) old new next result
   Does r dirs (turn.Target name) old new next result = SavesNamed r dirs.targets.now name old new next result
   Does r dirs (turn.File s) old new next result = CopiesFile refuses serves yields r dirs.metadata.now s tells old new result × (next ≡ keeping_of r)
   Does r dirs (turn.Role place) old new next result = WritesRole tells (documents_of r) dirs.metadata.now place old new result × (next ≡ keeping_of r)
 
   -- A turn has started: it is done, or waits for what is under way now.
-  abbrev pub Begins : Repository T K C → Folders → Turn → List Told → List Told → Keeping K → Result (Option (Work S)) Error → Type 0
+  abbrev pub Begins : Repository T K C R → Folders → Turn → List Told → List Told → Keeping K R → Result (Option (Work S)) Error → Type 0
   Begins r dirs (turn.Named text) old mid next begun = BeginsText r dirs.targets.now (string_bytes text) old mid next begun
   Begins r dirs (turn.Target name) old mid next begun = BeginsTarget r dirs.targets.now name old mid next begun
   Begins r dirs (turn.File s) old mid next begun = BeginsFile refuses serves yields r dirs.metadata.now s begun × (mid ≡ old) × (next ≡ keeping_of r)
   Begins r dirs (turn.Role place) old mid next begun = BeginsRole r dirs.metadata.now place old mid begun × (next ≡ keeping_of r)
 
   -- Turn by turn, up to the first error. Between turns only the keeper of the repository, its clock and its receipts change.
-  abbrev pub Caches : List Turn → Repository T K C → Folders → List Told → List Told → Keeping K → Result (Unit {0}) Error → Type 0
+  abbrev pub Caches : List Turn → Repository T K C R → Folders → List Told → List Told → Keeping K R → Result (Unit {0}) Error → Type 0
   Caches [] r dirs old new next result = Stays tells old new × (next ≡ keeping_of r) × IsDone result
   Caches (t ∷ ts) r dirs old new next result = (Does r dirs t old new next result × HasFailed result)
-      ⊎ ((u : Unit {0}) × (mid : List Told) × (later : Repository T K C) × Does r dirs t old mid (keeping_of later) (Ok u) × IsKept r later × Caches ts later dirs mid new next result)
+      ⊎ ((u : Unit {0}) × (mid : List Told) × (later : Repository T K C R) × Does r dirs t old mid (keeping_of later) (Ok u) × IsKept r later × Caches ts later dirs mid new next result)
 
   -- the same from where a cache stands, with what is under way
-  abbrev pub GoesOnCaching : Option (Work S) → List Turn → Repository T K C → Folders → List Told → List Told → Keeping K → Result (Unit {0}) Error → Type 0
+  abbrev pub GoesOnCaching : Option (Work S) → List Turn → Repository T K C R → Folders → List Told → List Told → Keeping K R → Result (Unit {0}) Error → Type 0
   GoesOnCaching None ts r dirs old new next result = Caches ts r dirs old new next result
   GoesOnCaching (Some w) ts r dirs old new next result = (Ends tells yields w old new result × HasFailed result × (next ≡ keeping_of r))
       ⊎ ((u : Unit {0}) × (mid : List Told) × Ends tells yields w old mid (Ok u) × Caches ts r dirs mid new next result)
 
   -- a cache has come to where another stands: whatever ends that one ends it
-  abbrev pub Continues : Caching S → Repository T K C → Folders → List Told → List Told → Repository T K C → Caching S → Type 0
-  Continues c r dirs old mid later c' = (result : Result (Unit {0}) Error) (new : List Told) (next : Keeping K)
+  abbrev pub Continues : Caching S → Repository T K C R → Folders → List Told → List Told → Repository T K C R → Caching S → Type 0
+  Continues c r dirs old mid later c' = (result : Result (Unit {0}) Error) (new : List Told) (next : Keeping K R)
       → GoesOnCaching c'.work (left_in c'.plan) later dirs mid new next result → GoesOnCaching c.work (left_in c.plan) r dirs old new next result
 
 -- ---- the whole
@@ -221,25 +221,25 @@ module _ {S : Type 0} (tells : Bool) where
   abbrev pub BeginsAll : LoadedDoc → Folders → Option (List (List ℕ)) → Bool → List Told → List Told → Result (Caching S) Error → Type 0
   BeginsAll l dirs subset chain old new begun = HasBegun (AreMade tells dirs old new) (PlansAll l subset chain) begun
 
-module _ {T K C S : Type 0} (refuses : T → Parts → TransportError → Type 0) (serves : T → Parts → Runs Item) (yields : S → Runs Item) (can_poll : S → Type 0)
-    (keeps : Verifies → K → Act → Result Receipt StepError → K → Type 0) (tells : Bool) where
+module _ {T K C S R : Type 0} (refuses : T → Parts → TransportError → Type 0) (serves : T → Parts → Runs Item) (yields : S → Runs Item) (can_poll : S → Type 0)
+    (keeps : Verifies → K → Act → Result R StepError → K → Type 0) (may_give : C → ℤ → Type 0) (tells : Bool) where
   module _ (makes : List Told → List Told → Result (Unit {0}) Error → Type 0) (plans : List Turn → Type 0) where
     -- Folders are made, and then comes what is planned, turn by turn.
-    abbrev pub CachesPlan : Repository T K C → Folders → List Told → List Told → Keeping K → Result (Unit {0}) Error → Type 0
+    abbrev pub CachesPlan : Repository T K C R → Folders → List Told → List Told → Keeping K R → Result (Unit {0}) Error → Type 0
     CachesPlan r dirs old new next result = (IsFailed (CannotBegin (makes old new)) result × (next ≡ keeping_of r))
         ⊎ ((u : Unit {0}) × (mid : List Told) × (turns : List Turn) × makes old mid (Ok u) × plans turns
-        × Caches refuses serves yields can_poll keeps tells turns r dirs mid new next result)
+        × Caches refuses serves yields can_poll keeps may_give tells turns r dirs mid new next result)
 
     -- the same from where it stands: at its start, or once it has begun
-    abbrev pub GoesOnPlan : Option (Caching S) → Repository T K C → Folders → List Told → List Told → Keeping K → Result (Unit {0}) Error → Type 0
+    abbrev pub GoesOnPlan : Option (Caching S) → Repository T K C R → Folders → List Told → List Told → Keeping K R → Result (Unit {0}) Error → Type 0
     GoesOnPlan None r dirs old new next result = CachesPlan r dirs old new next result
-    GoesOnPlan (Some c) r dirs old new next result = GoesOnCaching refuses serves yields can_poll keeps tells c.work (left_in c.plan) r dirs old new next result
+    GoesOnPlan (Some c) r dirs old new next result = GoesOnCaching refuses serves yields can_poll keeps may_give tells c.work (left_in c.plan) r dirs old new next result
 
   -- The calls by which the metadata is cached, in their order, and what comes of them.
-  abbrev pub GoesOnMetadata : Option (Caching S) → Repository T K C → Folders → Bool → List Told → List Told → Keeping K → Result (Unit {0}) Error → Type 0
+  abbrev pub GoesOnMetadata : Option (Caching S) → Repository T K C R → Folders → Bool → List Told → List Told → Keeping K R → Result (Unit {0}) Error → Type 0
   GoesOnMetadata o r dirs chain old new next result =
       GoesOnPlan (IsMade tells dirs.metadata.now) (λ turns. turns ≡ all_metadata chain (documents_of r)) o r dirs old new next result
 
   -- The same of a whole repository.
-  abbrev pub GoesOnAll : Option (Caching S) → Repository T K C → Folders → Option (List (List ℕ)) → Bool → List Told → List Told → Keeping K → Result (Unit {0}) Error → Type 0
+  abbrev pub GoesOnAll : Option (Caching S) → Repository T K C R → Folders → Option (List (List ℕ)) → Bool → List Told → List Told → Keeping K R → Result (Unit {0}) Error → Type 0
   GoesOnAll o r dirs subset chain old new next result = GoesOnPlan (AreMade tells dirs) (PlansAll (documents_of r) subset chain) o r dirs old new next result

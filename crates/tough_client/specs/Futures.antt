@@ -14,77 +14,77 @@ use Rattle.tough_client.specs.declared.repository.Repository.{Repository}
 use Rattle.tough_client.specs.declared.save.Prefix.{Prefix}
 use Rattle.tough_client.specs.declared.save.SaveTarget.{SaveTarget}
 
-module _ {T K C : Type 0} where
+module _ {T K C R : Type 0} where
   -- the repository that is read from
-  abbrev pub repository_in : ReadTarget T K C → MutBor (Repository T K C)
+  abbrev pub repository_in : ReadTarget T K C R → MutBor (Repository T K C R)
   repository_in f = f.repository
 
   -- the name of the target that is read
-  abbrev pub name_in : ReadTarget T K C → Named
+  abbrev pub name_in : ReadTarget T K C R → Named
   name_in f = f.name.now
 
-module _ {T K C F S : Type 0} where
+module _ {T K C F S R : Type 0} where
   -- the repository that a target is saved from
-  abbrev pub saved_from : SaveTarget T K C F S → MutBor (Repository T K C)
+  abbrev pub saved_from : SaveTarget T K C F S R → MutBor (Repository T K C R)
   saved_from f = f.repository
 
   -- the files that it is saved in
-  abbrev pub files_in : SaveTarget T K C F S → MutBor F
+  abbrev pub files_in : SaveTarget T K C F S R → MutBor F
   files_in f = f.files
 
   -- its name
-  abbrev pub saved_name_in : SaveTarget T K C F S → Named
+  abbrev pub saved_name_in : SaveTarget T K C F S R → Named
   saved_name_in f = f.name.now
 
   -- the output folder
-  abbrev pub outdir_in : SaveTarget T K C F S → List ℕ
+  abbrev pub outdir_in : SaveTarget T K C F S R → List ℕ
   outdir_in f = f.outdir.now
 
   -- whether the digest stands before the name
-  abbrev pub prefix_in : SaveTarget T K C F S → Prefix
+  abbrev pub prefix_in : SaveTarget T K C F S R → Prefix
   prefix_in f = f.prefix
 
   -- the saving that it has come to, once it began
-  abbrev pub saving_in : SaveTarget T K C F S → Option (Saving (DigestCheck (MaxSize S)))
+  abbrev pub saving_in : SaveTarget T K C F S R → Option (Saving (DigestCheck (MaxSize S)))
   saving_in f = f.saving
 
-module _ {T K C F N S : Type 0} where
+module _ {T K C F N S R : Type 0} where
   -- the repository that is cached, and the files that it is cached in
-  abbrev pub cached_from : Cache T K C F N S → MutBor (Repository T K C)
+  abbrev pub cached_from : Cache T K C F N S R → MutBor (Repository T K C R)
   cached_from f = f.repository
 
-  abbrev pub cached_in : Cache T K C F N S → MutBor F
+  abbrev pub cached_in : Cache T K C F N S R → MutBor F
   cached_in f = f.files
 
   -- the folders
-  abbrev pub folders_in : Cache T K C F N S → Folders
+  abbrev pub folders_in : Cache T K C F N S R → Folders
   folders_in f = f.folders
 
   -- the texts of the subset, where one is given
-  abbrev pub subset_in : (N → List ℕ) → Cache T K C F N S → Option (List (List ℕ))
+  abbrev pub subset_in : (N → List ℕ) → Cache T K C F N S R → Option (List (List ℕ))
   subset_in text f = option_map (λ names. map text names.now) f.subset
 
   -- whether the root chain is asked for
-  abbrev pub chain_in : Cache T K C F N S → Bool
+  abbrev pub chain_in : Cache T K C F N S R → Bool
   chain_in f = f.root_chain
 
   -- the cache that it has come to, once it began
-  abbrev pub caching_in : Cache T K C F N S → Option (Caching S)
+  abbrev pub caching_in : Cache T K C F N S R → Option (Caching S)
   caching_in f = f.caching
 
-module _ {T K C F S : Type 0} where
+module _ {T K C F S R : Type 0} where
   -- the same where its metadata alone is cached
-  abbrev pub metadata_from : CacheMetadata T K C F S → MutBor (Repository T K C)
+  abbrev pub metadata_from : CacheMetadata T K C F S R → MutBor (Repository T K C R)
   metadata_from f = f.repository
 
-  abbrev pub metadata_in : CacheMetadata T K C F S → MutBor F
+  abbrev pub metadata_in : CacheMetadata T K C F S R → MutBor F
   metadata_in f = f.files
 
-  abbrev pub metadata_folders_in : CacheMetadata T K C F S → Folders
+  abbrev pub metadata_folders_in : CacheMetadata T K C F S R → Folders
   metadata_folders_in f = f.folders
 
-  abbrev pub metadata_chain_in : CacheMetadata T K C F S → Bool
+  abbrev pub metadata_chain_in : CacheMetadata T K C F S R → Bool
   metadata_chain_in f = f.root_chain
 
-  abbrev pub metadata_caching_in : CacheMetadata T K C F S → Option (Caching S)
+  abbrev pub metadata_caching_in : CacheMetadata T K C F S R → Option (Caching S)
   metadata_caching_in f = f.caching

@@ -1,9 +1,8 @@
 -- What a load gives that is driven to its end: a repository, or why there is none (TUF specification 1.0, section 5).
-use Rattle.std.specs.Prelude.{◌≡◌, Result, Ok, Err, Some}
+use Rattle.std.specs.Prelude.{◌≡◌, ℤ, Result, Ok, Err, Some}
 use Rattle.url.specs.Parts.{Parts}
 use Rattle.futures.specs.Runs.{Runs}
 use Rattle.tough_keys.specs.Same.{Verifies}
-use Rattle.tough_vault.specs.declared.entry.Receipt.{Receipt}
 use Rattle.tough_checks.specs.declared.checks.StepError.{StepError}
 use Rattle.tough_vault.specs.Act.{Act}
 use Rattle.tough_net.specs.declared.error.TransportError.{TransportError}
@@ -19,33 +18,33 @@ use Rattle.tough_load.specs.Vouching.{Vouches}
 use Rattle.tough_error.specs.declared.error.Error.{Error}
 use Rattle.tough_client.specs.declared.repository.Repository.{Repository}
 use Rattle.tough_trust.specs.Wide.{failure_in}
-use Rattle.tough_client.specs.Repositories.{IsMadeOf, loaded_of, documents_of, keeper_of}
+use Rattle.tough_client.specs.Repositories.{IsMadeOf, loaded_of, documents_of, held_of}
 
-module _ {T K C V S : Type 0} where
+module _ {T K C V S R : Type 0} where
   -- a repository of these documents, with every part of a load
-  pub record IsOpened (l : Load T K C V S) (documents : LoadedDoc) (r : Repository T K C) : Type 0 where
+  pub record IsOpened (l : Load T K C V S R) (documents : LoadedDoc) (r : Repository T K C R) : Type 0 where
     pub made : IsMadeOf l (loaded_of r) r
     pub holds : documents_of r ≡ documents
 
   -- what is answered of a load that ended so, with this outcome: the repository of its documents, or the error that tells its failure
-  abbrev pub Tells : Load T K C V S → Result LoadedDoc Failure → Result (Repository T K C) Error → Type 0
+  abbrev pub Tells : Load T K C V S R → Result LoadedDoc Failure → Result (Repository T K C R) Error → Type 0
   Tells l (Ok documents) (Ok r) = IsOpened l documents r
   Tells l (Err failure) (Err e) = failure_in e ≡ Some failure
   Tells _ _ _ = ⊥
 
-module _ {T K C V S : Type 0} (refuses : T → Parts → TransportError → Type 0) (serves : T → Parts → Runs Item) (keeps : Verifies → K → Act → Result Receipt StepError → K → Type 0) (yields : S → Runs Item)
+module _ {T K C V S R : Type 0} (refuses : T → Parts → TransportError → Type 0) (serves : T → Parts → Runs Item) (keeps : Verifies → K → Act → Result R StepError → K → Type 0) (may_give : C → ℤ → Type 0) (yields : S → Runs Item)
     (verifies : V → Verifies) where
   -- the load came to an outcome, and this answer tells it
-  pub record Opens (old : Load T K C V S) (answer : Result (Repository T K C) Error) : Type 0 where
+  pub record Opens (old : Load T K C V S R) (answer : Result (Repository T K C R) Error) : Type 0 where
     pub outcome : Result LoadedDoc Failure
-    pub ended : Load T K C V S
-    pub finishes : Finishes refuses serves keeps yields verifies old outcome ended
+    pub ended : Load T K C V S R
+    pub finishes : Finishes refuses serves keeps may_give yields verifies old outcome ended
     pub told : Tells ended outcome answer
 
-module _ {T V C K S : Type 0} (refuses : T → Parts → TransportError → Type 0) (serves : T → Parts → Runs Item) (keeps : Verifies → K → Act → Result Receipt StepError → K → Type 0) (yields : S → Runs Item)
+module _ {T V C K S R : Type 0} (refuses : T → Parts → TransportError → Type 0) (serves : T → Parts → Runs Item) (keeps : Verifies → K → Act → Result R StepError → K → Type 0) (may_give : C → ℤ → Type 0) (yields : S → Runs Item)
     (verifies : V → Verifies) where
   -- the load that this loader began, over files below this URL, vouches for the documents of the repository
-  abbrev pub VouchesFor : RepositoryLoader T V C K → Parts → Repository T K C → Type 0
+  abbrev pub VouchesFor : RepositoryLoader T V C K → Parts → Repository T K C R → Type 0
   VouchesFor from base r =
       (left : CoreDoc)
-      × Vouches refuses serves keeps yields (verifies (verifier_of from)) base (transport_of from) (first_core (settings_of from)) (loader.keeper_of from) left (keeper_of r) (documents_of r)
+      × Vouches refuses serves keeps may_give yields (verifies (verifier_of from)) base (transport_of from) (first_core (settings_of from)) (loader.held_of from) left (held_of r) (documents_of r)

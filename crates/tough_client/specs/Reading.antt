@@ -18,9 +18,9 @@ use Rattle.tough_schema.specs.Target.{TargetDoc}
 use Rattle.tough_schema.specs.Whole.{top_doc}
 use Rattle.tough_vault.specs.Act.{Act}
 use Rattle.tough_checks.specs.declared.checks.StepError.{StepError}
-use Rattle.tough_vault.specs.declared.entry.Receipt.{Receipt}
 use Rattle.tough_trust.specs.Failure.{Failure}
-use Rattle.tough_trust.specs.Timely.{ExpiryDoc, Keeping, NotesTimely}
+use Rattle.tough_trust.specs.Steps.{Keeping}
+use Rattle.tough_trust.specs.Timely.{ExpiryDoc, NotesTimely}
 use Rattle.tough_trust.specs.Timely.{earliest as first_expiry}
 use Rattle.tough_update.specs.Stages.{LoadedDoc}
 use Rattle.tough_error.specs.declared.error.Error.{Error}
@@ -30,7 +30,7 @@ use Rattle.tough_save.specs.declared.target.FetchError.{FetchError}
 use Rattle.tough_save.specs.declared.target.FetchError.TheVariants as fetching
 use Rattle.tough_save.specs.Targets.{HasBegun, IsUnbegun, file_name}
 use Rattle.tough_client.specs.declared.repository.Repository.{Repository}
-use Rattle.tough_client.specs.Repositories.{documents_of, transport_of, keeping_of, targets_base_of, enforced_of}
+use Rattle.tough_client.specs.Repositories.{documents_of, transport_of, keeping_of, clock_of, targets_base_of, enforced_of}
 
 -- ---- expiry
 
@@ -39,16 +39,16 @@ abbrev pub earliest : LoadedDoc → ExpiryDoc
 earliest l = first_expiry l.known.root.role.head.expires l.known.timestamp.role.head.expires
     l.known.snapshot.role.head.expires (top_doc l.targets.role).head.expires
 
-module _ {K : Type 0} (keeps : Verifies → K → Act → Result Receipt StepError → K → Type 0) where
-  -- in time, where expiry counts: a moment was noted, and is before the earliest expiry
-  abbrev pub InTime : Bool → LoadedDoc → Keeping K → Keeping K → Type 0
-  InTime true l k next = (now : ℤ) × NotesTimely keeps (earliest l) now k (Ok (tt {0})) next
-  InTime false l k next = next ≡ k
+module _ {K R C : Type 0} (keeps : Verifies → K → Act → Result R StepError → K → Type 0) (may_give : C → ℤ → Type 0) where
+  -- in time, where expiry counts: a moment that the clock may give was noted, and is before the earliest expiry
+  abbrev pub InTime : C → Bool → LoadedDoc → Keeping K R → Keeping K R → Type 0
+  InTime clock true l k next = (now : ℤ) × may_give clock now × NotesTimely keeps (earliest l) now k (Ok (tt {0})) next
+  InTime clock false l k next = next ≡ k
 
   -- it isn't before that, or wasn't noted, and the error tells why
-  abbrev pub NotInTime : Bool → LoadedDoc → Keeping K → Error → Keeping K → Type 0
-  NotInTime true l k e next = (now : ℤ) × (f : Failure) × (failure_in e ≡ Some f) × NotesTimely keeps (earliest l) now k (Err f) next
-  NotInTime false l k e next = ⊥
+  abbrev pub NotInTime : C → Bool → LoadedDoc → Keeping K R → Error → Keeping K R → Type 0
+  NotInTime clock true l k e next = (now : ℤ) × may_give clock now × (f : Failure) × (failure_in e ≡ Some f) × NotesTimely keeps (earliest l) now k (Err f) next
+  NotInTime clock false l k e next = ⊥
 
 -- ---- what is listed
 
@@ -101,13 +101,13 @@ module _ {T S : Type 0} (refuses : T → Parts → TransportError → Type 0) (s
   Finds l t base name (Ok (Some s)) = (target : TargetDoc) × (target_at l name ≡ Some target) × IsStreamOf l t base name target s
   Finds l t base name (Err e) = (e ≡ error.Memory) ⊎ ((target : TargetDoc) × (target_at l name ≡ Some target) × IsUnfetched l t base name target e)
 
-  module _ {K C : Type 0} (keeps : Verifies → K → Act → Result Receipt StepError → K → Type 0) where
+  module _ {K R C : Type 0} (keeps : Verifies → K → Act → Result R StepError → K → Type 0) (may_give : C → ℤ → Type 0) where
     -- it isn't in time, and the error says so
-    abbrev pub IsLate : Repository T K C → Result (Option (DigestCheck (MaxSize S))) Error → Keeping K → Type 0
+    abbrev pub IsLate : Repository T K C R → Result (Option (DigestCheck (MaxSize S))) Error → Keeping K R → Type 0
     IsLate r (Ok o) next = ⊥
-    IsLate r (Err e) next = NotInTime keeps (enforced_of r) (documents_of r) (keeping_of r) e next
+    IsLate r (Err e) next = NotInTime keeps may_give (clock_of r) (enforced_of r) (documents_of r) (keeping_of r) e next
 
     -- What reading answers, with the keeper that it leaves: in time, what is found; else that it is not.
-    abbrev pub Reads : Repository T K C → Named → Result (Option (DigestCheck (MaxSize S))) Error → Keeping K → Type 0
+    abbrev pub Reads : Repository T K C R → Named → Result (Option (DigestCheck (MaxSize S))) Error → Keeping K R → Type 0
     Reads r name result next = IsLate r result next
-        ⊎ (InTime keeps (enforced_of r) (documents_of r) (keeping_of r) next × Finds (documents_of r) (transport_of r) (targets_base_of r) name result)
+        ⊎ (InTime keeps may_give (clock_of r) (enforced_of r) (documents_of r) (keeping_of r) next × Finds (documents_of r) (transport_of r) (targets_base_of r) name result)

@@ -1,5 +1,5 @@
 -- How a target is saved (TUF specification 1.0, section 5.7).
-use Rattle.std.specs.Prelude.{◌≡◌, ◌⊎◌, ℕ, Bool, true, List, Option, Some, None, Result, Ok, Err, String, string_bytes, ⊤}
+use Rattle.std.specs.Prelude.{◌≡◌, ℤ, ◌⊎◌, ℕ, Bool, true, List, Option, Some, None, Result, Ok, Err, String, string_bytes, ⊤}
 use Rattle.std.specs.declared.alloc.Global.{Global}
 use Rattle.url.specs.Parts.{Parts}
 use Rattle.futures.specs.Runs.{Runs}
@@ -16,9 +16,10 @@ use Rattle.tough_net.specs.Limiting.{Limits, limit_of, limited}
 use Rattle.tough_schema.specs.Target.{TargetDoc}
 use Rattle.tough_vault.specs.Act.{Act}
 use Rattle.tough_checks.specs.declared.checks.StepError.{StepError}
-use Rattle.tough_vault.specs.declared.entry.Receipt.{Receipt}
-use Rattle.tough_trust.specs.Timely.{Keeping}
+use Rattle.tough_trust.specs.Steps.{Keeping}
 use Rattle.tough_update.specs.Stages.{LoadedDoc}
+use Rattle.tough_roles.specs.declared.error.Error as schema
+use Rattle.tough_roles.specs.declared.error.Error.TheVariants as schemas
 use Rattle.tough_error.specs.declared.error.Error.{Error}
 use Rattle.tough_error.specs.declared.error.Error.TheVariants as error
 use Rattle.tough_save.specs.declared.error.Step.{Step}
@@ -67,13 +68,13 @@ TellsSave name saving.Memory e = e ≡ error.Memory
 
 -- ---- what is saved where
 
--- the name of the file that a target is saved as
-abbrev pub saved_name : Prefix → Named → TargetDoc → List ℕ
-saved_name prefix.None name target = name.resolved
-saved_name prefix.Digest name target = file_name name.resolved target.hashes.sha256.bytes true
+-- the search finds no target of this name
+abbrev pub TellsNotFound : Named → schema.Error → Type 0
+TellsNotFound name (schemas.TargetNotFound n) = n ≡ name
+TellsNotFound name _ = ⊥
 
 abbrev pub TellsUnlisted : Named → Error → Type 0
-TellsUnlisted name (error.CacheTargetMissing n source) = n ≡ name
+TellsUnlisted name (error.CacheTargetMissing n source) = (n ≡ name) × TellsNotFound name source
 TellsUnlisted name error.Memory = ⊤
 TellsUnlisted name _ = ⊥
 
@@ -88,9 +89,11 @@ pub record IsUnlisted (l : LoadedDoc) (name : Named) (p : Prefix) (e : Error) : 
   pub unlisted : target_at l name ≡ None
   pub told : TellsUnlisted name e
 
--- the name of the target that is listed is this
+-- the name of the file that a target is saved as: what its own name resolves to; where the digest is asked for, after that of the target
+-- that is listed
 abbrev pub IsSavedAs : LoadedDoc → Named → Prefix → List ℕ → Type 0
-IsSavedAs l name p file = (target : TargetDoc) → target_at l name ≡ Some target → file ≡ saved_name p name target
+IsSavedAs l name prefix.None file = file ≡ name.resolved
+IsSavedAs l name prefix.Digest file = (target : TargetDoc) → target_at l name ≡ Some target → file ≡ file_name name.resolved target.hashes.sha256.bytes true
 
 -- the target has no place in the folder
 pub record IsUnplaced (l : LoadedDoc) (dir : List ℕ) (name : Named) (p : Prefix) (e : Error) : Type 0 where
@@ -147,20 +150,20 @@ module _ {S : Type 0} (yields : S → Runs Item) (tells : Bool) where
 abbrev pub CanGoOn : {S : Type 0} → (S → Type 0) → Saving (DigestCheck (MaxSize S)) → Type 0
 CanGoOn can_poll s = failure_of (stream_of s) ≡ None → can_poll (limited (checked (stream_of s)))
 
-module _ {T K C S : Type 0} (refuses : T → Parts → TransportError → Type 0) (serves : T → Parts → Runs Item) (yields : S → Runs Item) (can_poll : S → Type 0)
-    (keeps : Verifies → K → Act → Result Receipt StepError → K → Type 0) where
+module _ {T K C S R : Type 0} (refuses : T → Parts → TransportError → Type 0) (serves : T → Parts → Runs Item) (yields : S → Runs Item) (can_poll : S → Type 0)
+    (keeps : Verifies → K → Act → Result R StepError → K → Type 0) (may_give : C → ℤ → Type 0) where
   -- the stream of a target, which must be listed
-  abbrev pub Opened : Repository T K C → Named → Result (DigestCheck (MaxSize S)) Error → Keeping K → Type 0
-  Opened r name (Ok s) next = Reads refuses serves yields can_poll keeps r name (Ok (Some s)) next
-  Opened r name (Err e) next = Reads refuses serves yields can_poll keeps r name (Err e) next
-      ⊎ (Reads refuses serves yields can_poll keeps r name (Ok None) next × TellsMissing name e)
+  abbrev pub Opened : Repository T K C R → Named → Result (DigestCheck (MaxSize S)) Error → Keeping K R → Type 0
+  Opened r name (Ok s) next = Reads refuses serves yields can_poll keeps may_give r name (Ok (Some s)) next
+  Opened r name (Err e) next = Reads refuses serves yields can_poll keeps may_give r name (Err e) next
+      ⊎ (Reads refuses serves yields can_poll keeps may_give r name (Ok None) next × TellsMissing name e)
 
-module _ {T K C S : Type 0} (refuses : T → Parts → TransportError → Type 0) (serves : T → Parts → Runs Item) (yields : S → Runs Item) (can_poll : S → Type 0)
-    (keeps : Verifies → K → Act → Result Receipt StepError → K → Type 0) (tells : Bool) where
-  module _ (r : Repository T K C) (name : Named) (dir : List ℕ) (place : Place) (old new : List Told) (next : Keeping K) where
+module _ {T K C S R : Type 0} (refuses : T → Parts → TransportError → Type 0) (serves : T → Parts → Runs Item) (yields : S → Runs Item) (can_poll : S → Type 0)
+    (keeps : Verifies → K → Act → Result R StepError → K → Type 0) (may_give : C → ℤ → Type 0) (tells : Bool) where
+  module _ (r : Repository T K C R) (name : Named) (dir : List ℕ) (place : Place) (old new : List Told) (next : Keeping K R) where
     -- the target is being read, and there is a temporary file for it
     pub record IsReady (s : Saving (DigestCheck (MaxSize S))) : Type 0 where
-      pub stream : Opened refuses serves yields can_poll keeps r name (Ok (stream_of s)) next
+      pub stream : Opened refuses serves yields can_poll keeps may_give r name (Ok (stream_of s)) next
       pub temp : String Global
       pub made : tells ≡ true → MakesTemp dir (parent_of place) (path_of place) (Ok temp) old new
       pub temp_is : temp_of s ≡ string_bytes temp
@@ -169,7 +172,7 @@ module _ {T K C S : Type 0} (refuses : T → Parts → TransportError → Type 0
     -- there is no temporary file for it
     pub record IsUnmade (e : Error) : Type 0 where
       pub stream : DigestCheck (MaxSize S)
-      pub opened : Opened refuses serves yields can_poll keeps r name (Ok stream) next
+      pub opened : Opened refuses serves yields can_poll keeps may_give r name (Ok stream) next
       pub why : SaveError
       pub made : tells ≡ true → MakesTemp dir (parent_of place) (path_of place) (Err why) old new
       pub told : TellsSave name why e
@@ -177,9 +180,9 @@ module _ {T K C S : Type 0} (refuses : T → Parts → TransportError → Type 0
     -- the target is read, and then a temporary file is made
     abbrev pub Readies : Result (Saving (DigestCheck (MaxSize S))) Error → Type 0
     Readies (Ok s) = IsReady s
-    Readies (Err e) = (Opened refuses serves yields can_poll keeps r name (Err e) next × (tells ≡ true → new ≡ old)) ⊎ IsUnmade e
+    Readies (Err e) = (Opened refuses serves yields can_poll keeps may_give r name (Err e) next × (tells ≡ true → new ≡ old)) ⊎ IsUnmade e
 
-  module _ (r : Repository T K C) (name : Named) (outdir : List ℕ) (p : Prefix) (old new : List Told) (next : Keeping K) where
+  module _ (r : Repository T K C R) (name : Named) (outdir : List ℕ) (p : Prefix) (old new : List Told) (next : Keeping K R) where
     -- the folder couldn't be opened
     pub record IsUnopened (e : Error) : Type 0 where
       pub why : SaveError
@@ -209,18 +212,18 @@ module _ {T K C S : Type 0} (refuses : T → Parts → TransportError → Type 0
     Starts (Err e) = IsUnopened e ⊎ (IsNowhere e ⊎ GoesOn (Err e))
 
   -- it started, and finished
-  pub record IsWhole (r : Repository T K C) (name : Named) (outdir : List ℕ) (p : Prefix) (old new : List Told) (next : Keeping K) (result : Result (Unit {0}) Error) : Type 0 where
+  pub record IsWhole (r : Repository T K C R) (name : Named) (outdir : List ℕ) (p : Prefix) (old new : List Told) (next : Keeping K R) (result : Result (Unit {0}) Error) : Type 0 where
     pub saving : Saving (DigestCheck (MaxSize S))
     pub mid : List Told
     pub started : Starts r name outdir p old mid next (Ok saving)
     pub finished : Finishes yields tells name saving mid new result
 
   -- The calls by which a target is saved, in their order, and what comes of them.
-  abbrev pub SavesTarget : Repository T K C → Named → List ℕ → Prefix → List Told → List Told → Keeping K → Result (Unit {0}) Error → Type 0
+  abbrev pub SavesTarget : Repository T K C R → Named → List ℕ → Prefix → List Told → List Told → Keeping K R → Result (Unit {0}) Error → Type 0
   SavesTarget r name outdir p old new next (Ok u) = IsWhole r name outdir p old new next (Ok u)
   SavesTarget r name outdir p old new next (Err e) = Starts r name outdir p old new next (Err e) ⊎ IsWhole r name outdir p old new next (Err e)
 
   -- the same from where a saving stands: at its start, or with its stream
-  abbrev pub GoesOnSaving : Option (Saving (DigestCheck (MaxSize S))) → Repository T K C → Named → List ℕ → Prefix → List Told → List Told → Keeping K → Result (Unit {0}) Error → Type 0
+  abbrev pub GoesOnSaving : Option (Saving (DigestCheck (MaxSize S))) → Repository T K C R → Named → List ℕ → Prefix → List Told → List Told → Keeping K R → Result (Unit {0}) Error → Type 0
   GoesOnSaving None r name outdir p old new next result = SavesTarget r name outdir p old new next result
   GoesOnSaving (Some s) r name outdir p old new next result = Finishes yields tells name s old new result × (next ≡ keeping_of r)

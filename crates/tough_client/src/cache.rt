@@ -5,7 +5,7 @@ ghost use Rattle.futures.specs.Poll.{IfReady, OnPending};
 ghost use Rattle.futures.specs.Task.{Covers, Keeps};
 ghost use Rattle.tough_files.specs.Calls.{Told};
 ghost use Rattle.tough_trust.specs.View.{request_doc};
-ghost use Rattle.tough_trust.specs.Timely.{Keeping};
+ghost use Rattle.tough_trust.specs.Steps.{Keeping};
 ghost use Rattle.tough_client.specs.Caching.{Ends, Follows, IsPollable, Needs, prefix_of, IsBegun, IsUnstarted, BeginsFile, BeginsTarget, BeginsText, Begins, GoesOnCaching, Continues, AreMade, BeginsMetadata, PlansAll, BeginsAll, GoesOnMetadata, GoesOnAll};
 ghost use Rattle.tough_client.specs.Futures.{cached_from, cached_in, folders_in, subset_in, chain_in, caching_in, metadata_from, metadata_in, metadata_folders_in, metadata_chain_in, metadata_caching_in};
 ghost use Rattle.tough_client.specs.Plans.{left_in};
@@ -25,7 +25,7 @@ use tough_error::Error;
 use tough_files::Files;
 use tough_load::{Clock, Keeper, Request};
 use tough_names::TargetName;
-use tough_net::{Collect, Transport, TransportError, fetch_whole};
+use tough_net::{Collect, JoinError, Transport, TransportError, fetch_whole, join};
 use tough_save::{Saving, TargetStream};
 
 // What is being cached: a target, or a file that is to stand at the path.
@@ -102,14 +102,15 @@ impl<T: Transport, K: Keeper, C: Clock + Drop> Repository<T, K, C> {
         ensures refused { IfErr result (IsUnstarted T.refuses self.now (request_doc request)) }
         ensures can_poll { IfOk result (IsPollable T.Stream.can_poll) }
     {
-        let url = match self.metadata_base_url.join(request.name.as_str()) {
+        let url = match join(&self.metadata_base_url, request.name.as_str()) {
             Ok(url) => url,
-            Err(source) => {
+            Err(JoinError::Parse(source)) => {
                 return Err(Error::JoinUrl {
                     path: request.name,
                     source,
                 });
             }
+            Err(JoinError::Memory) => return Err(Error::Memory),
         };
         let Ok(path) = path_in(self.alloc, folder, request.name.as_str()) else {
             return Err(Error::Memory);
@@ -161,7 +162,7 @@ impl<T: Transport, K: Keeper, C: Clock + Drop> Repository<T, K, C> {
         folder: &str,
     ) -> Result<Option<Work<T::Stream>>, Error>
         ensures begins { BeginsTarget T.refuses T.serves T.Stream.yields T.Stream.can_poll K.keeps
-            F.tells self.old folder.now name (F.calls files.old) (F.calls files.new)
+            C.may_give F.tells self.old folder.now name (F.calls files.old) (F.calls files.new)
             (keeping_of self.new) result }
         ensures can_poll { IfOk result (λ o. IfSome o (IsPollable T.Stream.can_poll)) }
         ensures kept { IsKept self.old self.new }
@@ -181,7 +182,7 @@ impl<T: Transport, K: Keeper, C: Clock + Drop> Repository<T, K, C> {
         folder: &str,
     ) -> Result<Option<Work<T::Stream>>, Error>
         ensures begins { BeginsText T.refuses T.serves T.Stream.yields T.Stream.can_poll K.keeps
-            F.tells self.old folder.now text.now (F.calls files.old) (F.calls files.new)
+            C.may_give F.tells self.old folder.now text.now (F.calls files.old) (F.calls files.new)
             (keeping_of self.new) result }
         ensures can_poll { IfOk result (λ o. IfSome o (IsPollable T.Stream.can_poll)) }
         ensures kept { IsKept self.old self.new }
@@ -199,8 +200,8 @@ impl<T: Transport, K: Keeper, C: Clock + Drop> Repository<T, K, C> {
         turn: Turn,
         folders: Folders<'_>,
     ) -> Result<Option<Work<T::Stream>>, Error>
-        ensures begins { Begins T.refuses T.serves T.Stream.yields T.Stream.can_poll K.keeps F.tells
-            self.old folders.entry turn (F.calls files.old) (F.calls files.new)
+        ensures begins { Begins T.refuses T.serves T.Stream.yields T.Stream.can_poll K.keeps
+            C.may_give F.tells self.old folders.entry turn (F.calls files.old) (F.calls files.new)
             (keeping_of self.new) result }
         ensures can_poll { IfOk result (λ o. IfSome o (IsPollable T.Stream.can_poll)) }
         ensures kept { IsKept self.old self.new }
@@ -229,17 +230,18 @@ impl<T: Transport, K: Keeper, C: Clock + Drop> Repository<T, K, C> {
     ) -> Poll<Result<(), Error>>
         requires { IfSome caching.old.work (IsPollable T.Stream.can_poll) }
         ensures done { IfReady result
-            (GoesOnCaching T.refuses T.serves T.Stream.yields T.Stream.can_poll K.keeps F.tells
-            caching.old.work (left_in caching.old.plan) self.old folders.entry (F.calls files.old)
-            (F.calls files.new) (keeping_of self.new)) }
+            (GoesOnCaching T.refuses T.serves T.Stream.yields T.Stream.can_poll K.keeps C.may_give
+            F.tells caching.old.work (left_in caching.old.plan) self.old folders.entry (F.calls
+            files.old) (F.calls files.new) (keeping_of self.new)) }
         ensures continues { OnPending result
-            (Continues T.refuses T.serves T.Stream.yields T.Stream.can_poll K.keeps F.tells
-            caching.old self.old folders.entry (F.calls files.old)
+            (Continues T.refuses T.serves T.Stream.yields T.Stream.can_poll K.keeps C.may_give
+            F.tells caching.old self.old folders.entry (F.calls files.old)
             (F.calls files.new) self.new caching.new) }
         ensures again { OnPending result (IfSome caching.new.work (IsPollable T.Stream.can_poll)) }
         ensures registered { OnPending result
             (Covers cx.new (λ n. IsSomeAnd caching.new.work (λ w. Needs T.Stream.needs w n))) }
         ensures kept { Keeps cx.old cx.new }
+        ensures stays { IsKept self.old self.new }
     {
         if let Some(work) = caching.work.take() {
             return match go_on_with(work, &mut caching.work, files, cx) {
@@ -396,7 +398,7 @@ impl<T: Transport, K: Keeper, C: Clock + Drop> Repository<T, K, C> {
 
 /// The future of `Repository::cache`.
 #[derive(Drop)]
-pub struct Cache<'a, T: Transport, K, C, F, S> {
+pub struct Cache<'a, T: Transport, K: Keeper, C, F, S> {
     repository: &'a mut Repository<T, K, C>,
     files: &'a mut F,
     folders: Folders<'a>,
@@ -407,7 +409,7 @@ pub struct Cache<'a, T: Transport, K, C, F, S> {
 
 /// The future of `Repository::cache_metadata`.
 #[derive(Drop)]
-pub struct CacheMetadata<'a, T: Transport, K, C, F> {
+pub struct CacheMetadata<'a, T: Transport, K: Keeper, C, F> {
     repository: &'a mut Repository<T, K, C>,
     files: &'a mut F,
     folders: Folders<'a>,
@@ -425,42 +427,44 @@ impl<T: Transport, K: Keeper, C: Clock + Drop, F: Files, S: AsStr> Future
         (λ c. IsSomeAnd c.work (λ w. Needs T.Stream.needs w n)) };
 
     // Some calls and some keeper's steps lead to what it may give.
-    ghost gives = { λ m r. (calls : List Told) × (next : Keeping K)
-        × GoesOnAll T.refuses T.serves T.Stream.yields T.Stream.can_poll K.keeps F.tells m.caching
-        m.repository.now m.folders (option_map (λ names. map S.text names.now) m.subset)
+    ghost gives = { λ m r. (calls : List Told) × (next : Keeping K K.Receipt)
+        × GoesOnAll T.refuses T.serves T.Stream.yields T.Stream.can_poll K.keeps C.may_give F.tells
+        m.caching m.repository.now m.folders (option_map (λ names. map S.text names.now) m.subset)
         m.root_chain (F.calls m.files.now) calls next r };
 
     fn poll(&mut self, cx: &mut Context<'_>) -> Poll<Result<(), Error>>
         requires { IfSome self.old.caching (λ c. IfSome c.work (IsPollable T.Stream.can_poll)) }
         ensures value { IfReady result
-            (λ r. (calls : List Told) × (next : Keeping K)
-            × GoesOnAll T.refuses T.serves T.Stream.yields T.Stream.can_poll K.keeps F.tells
-            self.old.caching self.old.repository.now self.old.folders
+            (λ r. (calls : List Told) × (next : Keeping K K.Receipt)
+            × GoesOnAll T.refuses T.serves T.Stream.yields T.Stream.can_poll K.keeps C.may_give
+            F.tells self.old.caching self.old.repository.now self.old.folders
             (option_map (λ names. map S.text names.now) self.old.subset) self.old.root_chain
             (F.calls self.old.files.now) calls next r) }
         ensures caches { IfReady result
-            (GoesOnAll T.refuses T.serves T.Stream.yields T.Stream.can_poll K.keeps F.tells
-            self.old.caching self.old.repository.now self.old.folders
+            (GoesOnAll T.refuses T.serves T.Stream.yields T.Stream.can_poll K.keeps C.may_give
+            F.tells self.old.caching self.old.repository.now self.old.folders
             (option_map (λ names. map S.text names.now) self.old.subset) self.old.root_chain
             (F.calls self.old.files.now) (F.calls self.new.files.now)
             (keeping_of self.new.repository.now)) }
         ensures again { OnPending result
             (IfSome self.new.caching (λ c. IfSome c.work (IsPollable T.Stream.can_poll))) }
         ensures same { OnPending result ((r : _)
-            → ((calls : List Told) × (next : Keeping K)
-            × GoesOnAll T.refuses T.serves T.Stream.yields T.Stream.can_poll K.keeps F.tells
-            self.new.caching self.new.repository.now self.new.folders
+            → ((calls : List Told) × (next : Keeping K K.Receipt)
+            × GoesOnAll T.refuses T.serves T.Stream.yields T.Stream.can_poll K.keeps C.may_give
+            F.tells self.new.caching self.new.repository.now self.new.folders
             (option_map (λ names. map S.text names.now) self.new.subset) self.new.root_chain
             (F.calls self.new.files.now) calls next r)
-            → ((calls : List Told) × (next : Keeping K)
-            × GoesOnAll T.refuses T.serves T.Stream.yields T.Stream.can_poll K.keeps F.tells
-            self.old.caching self.old.repository.now self.old.folders
+            → ((calls : List Told) × (next : Keeping K K.Receipt)
+            × GoesOnAll T.refuses T.serves T.Stream.yields T.Stream.can_poll K.keeps C.may_give
+            F.tells self.old.caching self.old.repository.now self.old.folders
             (option_map (λ names. map S.text names.now) self.old.subset) self.old.root_chain
             (F.calls self.old.files.now) calls next r)) }
         ensures registered { OnPending result
             (Covers cx.new (λ n. IsSomeAnd self.new.caching
             (λ c. IsSomeAnd c.work (λ w. Needs T.Stream.needs w n)))) }
         ensures kept { Keeps cx.old cx.new }
+        ensures lent { (cached_from self.new).ghost_name ≡ (cached_from self.old).ghost_name }
+        ensures stays { IsKept (cached_from self.old).now (cached_from self.new).now }
     {
         match &mut self.caching {
             Some(caching) => self
@@ -489,37 +493,39 @@ impl<T: Transport, K: Keeper, C: Clock + Drop, F: Files> Future for CacheMetadat
         (λ c. IsSomeAnd c.work (λ w. Needs T.Stream.needs w n)) };
 
     // Some calls and some keeper's steps lead to what it may give.
-    ghost gives = { λ m r. (calls : List Told) × (next : Keeping K)
-        × GoesOnMetadata T.refuses T.serves T.Stream.yields T.Stream.can_poll K.keeps F.tells
-        m.caching m.repository.now m.folders m.root_chain (F.calls m.files.now) calls next r };
+    ghost gives = { λ m r. (calls : List Told) × (next : Keeping K K.Receipt)
+        × GoesOnMetadata T.refuses T.serves T.Stream.yields T.Stream.can_poll K.keeps C.may_give
+        F.tells m.caching m.repository.now m.folders m.root_chain (F.calls m.files.now) calls next r };
 
     fn poll(&mut self, cx: &mut Context<'_>) -> Poll<Result<(), Error>>
         requires { IfSome self.old.caching (λ c. IfSome c.work (IsPollable T.Stream.can_poll)) }
         ensures value { IfReady result
-            (λ r. (calls : List Told) × (next : Keeping K)
-            × GoesOnMetadata T.refuses T.serves T.Stream.yields T.Stream.can_poll K.keeps F.tells
-            self.old.caching self.old.repository.now self.old.folders self.old.root_chain
+            (λ r. (calls : List Told) × (next : Keeping K K.Receipt)
+            × GoesOnMetadata T.refuses T.serves T.Stream.yields T.Stream.can_poll K.keeps C.may_give
+            F.tells self.old.caching self.old.repository.now self.old.folders self.old.root_chain
             (F.calls self.old.files.now) calls next r) }
         ensures caches { IfReady result
-            (GoesOnMetadata T.refuses T.serves T.Stream.yields T.Stream.can_poll K.keeps F.tells
-            self.old.caching self.old.repository.now self.old.folders self.old.root_chain
+            (GoesOnMetadata T.refuses T.serves T.Stream.yields T.Stream.can_poll K.keeps C.may_give
+            F.tells self.old.caching self.old.repository.now self.old.folders self.old.root_chain
             (F.calls self.old.files.now) (F.calls self.new.files.now)
             (keeping_of self.new.repository.now)) }
         ensures again { OnPending result
             (IfSome self.new.caching (λ c. IfSome c.work (IsPollable T.Stream.can_poll))) }
         ensures same { OnPending result ((r : _)
-            → ((calls : List Told) × (next : Keeping K)
-            × GoesOnMetadata T.refuses T.serves T.Stream.yields T.Stream.can_poll K.keeps F.tells
-            self.new.caching self.new.repository.now self.new.folders self.new.root_chain
+            → ((calls : List Told) × (next : Keeping K K.Receipt)
+            × GoesOnMetadata T.refuses T.serves T.Stream.yields T.Stream.can_poll K.keeps C.may_give
+            F.tells self.new.caching self.new.repository.now self.new.folders self.new.root_chain
             (F.calls self.new.files.now) calls next r)
-            → ((calls : List Told) × (next : Keeping K)
-            × GoesOnMetadata T.refuses T.serves T.Stream.yields T.Stream.can_poll K.keeps F.tells
-            self.old.caching self.old.repository.now self.old.folders self.old.root_chain
+            → ((calls : List Told) × (next : Keeping K K.Receipt)
+            × GoesOnMetadata T.refuses T.serves T.Stream.yields T.Stream.can_poll K.keeps C.may_give
+            F.tells self.old.caching self.old.repository.now self.old.folders self.old.root_chain
             (F.calls self.old.files.now) calls next r)) }
         ensures registered { OnPending result
             (Covers cx.new (λ n. IsSomeAnd self.new.caching
             (λ c. IsSomeAnd c.work (λ w. Needs T.Stream.needs w n)))) }
         ensures kept { Keeps cx.old cx.new }
+        ensures lent { (metadata_from self.new).ghost_name ≡ (metadata_from self.old).ghost_name }
+        ensures stays { IsKept (metadata_from self.old).now (metadata_from self.new).now }
     {
         match &mut self.caching {
             Some(caching) => self

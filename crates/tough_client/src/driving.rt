@@ -30,10 +30,11 @@ where
     V: Verify + Drop,
     requires { CanPoll T.Stream.can_poll (fetch_of load) }
     ensures done { IfOk result
-        (Opens T.refuses T.serves K.keeps T.Stream.yields V.verifies load) }
+        (Opens T.refuses T.serves K.keeps C.may_give T.Stream.yields V.verifies load) }
     ensures trusted { (from : _) → IsBegun from load
         → IfOk result (λ r. IfOk r
-        (VouchesFor T.refuses T.serves K.keeps T.Stream.yields V.verifies from (base_of load))) }
+        (VouchesFor T.refuses T.serves K.keeps C.may_give T.Stream.yields V.verifies from (base_of
+        load))) }
 {
     let mut load = load;
     match tough_load::drive(rt, &mut load) {

@@ -5,10 +5,11 @@ ghost use Rattle.futures.specs.Poll.{IfReady, OnPending};
 ghost use Rattle.futures.specs.Task.{Covers, Keeps};
 ghost use Rattle.tough_schema.specs.Target.{target_doc};
 ghost use Rattle.tough_client.specs.Futures.{repository_in, name_in};
-ghost use Rattle.tough_trust.specs.Timely.{expiry_doc, Keeping};
+ghost use Rattle.tough_trust.specs.Steps.{Keeping};
+ghost use Rattle.tough_trust.specs.Timely.{expiry_doc};
 ghost use Rattle.tough_client.specs.Reading.{InTime, NotInTime, IsStreamOf, IsUnfetched, Reads, target_at};
 ghost use Rattle.tough_client.specs.Reading as spec;
-ghost use Rattle.tough_client.specs.Repositories.{IsKept, documents_of, transport_of, keeping_of, targets_base_of, enforced_of};
+ghost use Rattle.tough_client.specs.Repositories.{IsKept, documents_of, transport_of, keeping_of, clock_of, targets_base_of, enforced_of};
 
 use crate::failure::unfetched;
 use crate::repository::Repository;
@@ -40,10 +41,12 @@ impl<T: Transport, K: Keeper, C: Clock + Drop> Repository<T, K, C> {
     // Has the keeper note the time, which must be before any of the documents expires, where that counts.
     fn be_in_time(&mut self) -> Result<(), Error>
         ensures timely { OnOk result
-            (InTime K.keeps (enforced_of self.old) (documents_of self.old)
+            (InTime K.keeps C.may_give (clock_of self.old) (enforced_of self.old)
+            (documents_of self.old)
             (keeping_of self.old) (keeping_of self.new)) }
         ensures late { IfErr result
-            (λ e. NotInTime K.keeps (enforced_of self.old) (documents_of self.old)
+            (λ e. NotInTime K.keeps C.may_give (clock_of self.old) (enforced_of self.old)
+            (documents_of self.old)
             (keeping_of self.old) e (keeping_of self.new)) }
         ensures kept { IsKept self.old self.new }
     {
@@ -105,8 +108,8 @@ impl<T: Transport, K: Keeper, C: Clock + Drop> Repository<T, K, C> {
         &mut self,
         name: &TargetName,
     ) -> Result<Option<TargetStream<T::Stream>>, Error>
-        ensures reads { Reads T.refuses T.serves T.Stream.yields T.Stream.can_poll K.keeps self.old
-            name.now result (keeping_of self.new) }
+        ensures reads { Reads T.refuses T.serves T.Stream.yields T.Stream.can_poll K.keeps
+            C.may_give self.old name.now result (keeping_of self.new) }
         ensures kept { IsKept self.old self.new }
     {
         if let Err(error) = self.be_in_time() {
@@ -124,7 +127,7 @@ impl<T: Transport, K: Keeper, C: Clock + Drop> Repository<T, K, C> {
     /// The future of a stream of the target of this name (TUF specification 5.7), or of none where no document that the search comes to lists
     /// it. The stream gives no more bytes than are listed, and ends without an error only where they have the digest that is listed.
     ///
-    /// Where expiry counts, the keeper first notes the time, which must be before the earliest expiry of root, timestamp, snapshot and
+    /// Where expiry counts, the keeper first notes the time that the clock shows, which must be before the earliest expiry of root, timestamp, snapshot and
     /// targets (`ExpiredMetadata`, with the first of these roles that has it). `JoinUrl` is where the name of the file can't be joined to the
     /// URL of the targets, `InvalidTargetName` where it leads out of it, `Transport` where it can't be fetched.
     pub fn read_target<'a>(&'a mut self, name: &'a TargetName) -> ReadTarget<'a, T, K, C>
@@ -139,9 +142,9 @@ impl<T: Transport, K: Keeper, C: Clock + Drop> Repository<T, K, C> {
     }
 }
 
-/// The future of `Repository::read_target`.
+/// The future of `Repository::read_target`. It is ready at its first poll.
 #[derive(Drop)]
-pub struct ReadTarget<'a, T, K, C> {
+pub struct ReadTarget<'a, T, K: Keeper, C> {
     repository: &'a mut Repository<T, K, C>,
     name: &'a TargetName,
 }
@@ -149,30 +152,32 @@ pub struct ReadTarget<'a, T, K, C> {
 impl<T: Transport, K: Keeper, C: Clock + Drop> Future for ReadTarget<'_, T, K, C> {
     type Output = Result<Option<TargetStream<T::Stream>>, Error>;
 
-    ghost gives = { λ m r. (next : Keeping K)
-        × Reads T.refuses T.serves T.Stream.yields T.Stream.can_poll K.keeps
+    ghost gives = { λ m r. (next : Keeping K K.Receipt)
+        × Reads T.refuses T.serves T.Stream.yields T.Stream.can_poll K.keeps C.may_give
         m.repository.now m.name.now r next };
 
     fn poll(&mut self, _cx: &mut Context<'_>) -> Poll<Self::Output>
         ensures value { IfReady result
-            (λ r. (next : Keeping K)
-            × Reads T.refuses T.serves T.Stream.yields T.Stream.can_poll K.keeps
+            (λ r. (next : Keeping K K.Receipt)
+            × Reads T.refuses T.serves T.Stream.yields T.Stream.can_poll K.keeps C.may_give
             (repository_in self.old).now (name_in self.old) r next) }
         ensures reads { IfReady result
-            (λ r. Reads T.refuses T.serves T.Stream.yields T.Stream.can_poll K.keeps
+            (λ r. Reads T.refuses T.serves T.Stream.yields T.Stream.can_poll K.keeps C.may_give
             (repository_in self.old).now (name_in self.old) r
             (keeping_of (repository_in self.new).now)) }
         ensures again { OnPending result ⊤ }
         ensures same { OnPending result ((x : _)
-            → ((next : Keeping K)
-            × Reads T.refuses T.serves T.Stream.yields T.Stream.can_poll K.keeps
+            → ((next : Keeping K K.Receipt)
+            × Reads T.refuses T.serves T.Stream.yields T.Stream.can_poll K.keeps C.may_give
             (repository_in self.new).now (name_in self.new) x next)
-            → ((next : Keeping K)
-            × Reads T.refuses T.serves T.Stream.yields T.Stream.can_poll K.keeps
+            → ((next : Keeping K K.Receipt)
+            × Reads T.refuses T.serves T.Stream.yields T.Stream.can_poll K.keeps C.may_give
             (repository_in self.old).now (name_in self.old) x next)) }
         ensures registered { OnPending result (Covers _cx.new (λ _. ⊥)) }
         ensures kept { Keeps _cx.old _cx.new }
         ensures lent { (repository_in self.new).ghost_name ≡ (repository_in self.old).ghost_name }
+        ensures stays { IsKept (repository_in self.old).now (repository_in self.new).now }
+        ensures ready { (r : _) × (result ≡ Poll.Ready r) }
     {
         Poll::Ready(self.repository.open_target(self.name))
     }

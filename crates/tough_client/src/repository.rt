@@ -9,7 +9,7 @@ ghost use Rattle.tough_update.specs.View.{root_of, timestamp_of, snapshot_of, ta
 ghost use Rattle.tough_client.specs.Repositories.{IsMadeOf, IsLeftOf, loaded_of, receipts_of};
 
 use std::alloc::{AllocError, Global};
-use tough_load::{Clock, ExpirationEnforcement, Keeper, Limits, Load, LoadParts, Loaded, Receipt};
+use tough_load::{Clock, ExpirationEnforcement, Keeper, Limits, Load, LoadParts, Loaded};
 use tough_names::TargetName;
 use tough_net::Transport;
 use tough_parts::RepositoryParts;
@@ -19,7 +19,7 @@ use url::Url;
 
 /// A repository that was loaded (TUF specification 5): the documents that the load vouches for, and what reads and saves targets by them.
 #[derive(Drop)]
-pub struct Repository<T, K, C> {
+pub struct Repository<T, K: Keeper, C> {
     pub(crate) alloc: Global,
     pub(crate) loaded: Loaded,
     pub(crate) transport: T,
@@ -29,15 +29,14 @@ pub struct Repository<T, K, C> {
     pub(crate) targets_base_url: Url,
     pub(crate) limits: Limits,
     pub(crate) enforcement: ExpirationEnforcement,
-    pub(crate) receipts: Vec<Receipt>,
+    pub(crate) receipts: Vec<K::Receipt>,
 }
 
-impl<T, K, C> Repository<T, K, C> {
+impl<T, K: Keeper, C> Repository<T, K, C> {
     /// The repository that a load gave, which is taken apart for it: every part is handed on.
     pub fn new<V>(load: Load<T, K, C, V>, loaded: Loaded) -> Repository<T, K, C>
     where
         T: Transport,
-        K: Keeper,
         C: Clock + Drop,
         V: Verify + Drop,
         ensures { IsMadeOf load loaded result }
@@ -131,14 +130,14 @@ impl<T, K, C> Repository<T, K, C> {
     }
 
     /// What the steps of the load, and those that noted the time since, were told, in their order.
-    pub fn receipts(&self) -> &[Receipt]
+    pub fn receipts(&self) -> &[K::Receipt]
         ensures { result.now ≡ receipts_of self.now }
     {
         self.receipts.as_slice()
     }
 }
 
-impl<T: Drop, K: Drop, C: Drop> Repository<T, K, C> {
+impl<T: Drop, K: Keeper, C: Drop> Repository<T, K, C> {
     /// Takes the repository apart, for an editor: the transport, the limits and the documents.
     pub fn into_parts(self) -> RepositoryParts<T>
         ensures { IsLeftOf self result }

@@ -6,7 +6,7 @@ ghost use Rattle.futures.specs.Task.{Covers, Keeps};
 ghost use Rattle.tough_net.specs.Checking.{checked};
 ghost use Rattle.tough_net.specs.Limiting.{limited};
 ghost use Rattle.tough_save.specs.Savings.{Saves, Tells, stream_of, temp_of, target_of};
-ghost use Rattle.tough_trust.specs.Timely.{Keeping};
+ghost use Rattle.tough_trust.specs.Steps.{Keeping};
 ghost use Rattle.tough_client.specs.Repositories.{IsKept, documents_of, keeping_of};
 ghost use Rattle.tough_files.specs.Calls.{Told};
 ghost use Rattle.tough_client.specs.Futures.{saved_from, files_in, saved_name_in, outdir_in, prefix_in, saving_in};
@@ -86,7 +86,7 @@ impl<T: Transport, K: Keeper, C: Clock + Drop> Repository<T, K, C> {
     // The stream of a target that is listed.
     fn open_listed(&mut self, name: &TargetName) -> Result<TargetStream<T::Stream>, Error>
         ensures opened { Opened T.refuses T.serves T.Stream.yields T.Stream.can_poll K.keeps
-            self.old name.now result (keeping_of self.new) }
+            C.may_give self.old name.now result (keeping_of self.new) }
         ensures kept { IsKept self.old self.new }
     {
         match self.open_target(name) {
@@ -108,8 +108,8 @@ impl<T: Transport, K: Keeper, C: Clock + Drop> Repository<T, K, C> {
         place: Place,
     ) -> Result<Saving<TargetStream<T::Stream>>, Error>
         ensures readies { Readies T.refuses T.serves T.Stream.yields T.Stream.can_poll K.keeps
-            F.tells self.old name.now folder.now place (F.calls files.old) (F.calls files.new)
-            (keeping_of self.new) result }
+            C.may_give F.tells self.old name.now folder.now place (F.calls files.old) (F.calls
+            files.new) (keeping_of self.new) result }
         ensures kept { IsKept self.old self.new }
     {
         let stream = match self.open_listed(name) {
@@ -130,9 +130,9 @@ impl<T: Transport, K: Keeper, C: Clock + Drop> Repository<T, K, C> {
         outdir: &str,
         prefix: Prefix,
     ) -> Result<Saving<TargetStream<T::Stream>>, Error>
-        ensures starts { Starts T.refuses T.serves T.Stream.yields T.Stream.can_poll K.keeps F.tells
-            self.old name.now outdir.now prefix (F.calls files.old) (F.calls files.new)
-            (keeping_of self.new) result }
+        ensures starts { Starts T.refuses T.serves T.Stream.yields T.Stream.can_poll K.keeps
+            C.may_give F.tells self.old name.now outdir.now prefix (F.calls files.old) (F.calls
+            files.new) (keeping_of self.new) result }
         ensures kept { IsKept self.old self.new }
     {
         let folder = match open_folder(self.alloc, files, outdir) {
@@ -179,7 +179,7 @@ impl<T: Transport, K: Keeper, C: Clock + Drop> Repository<T, K, C> {
 
 /// The future of `Repository::save_target`.
 #[derive(Drop)]
-pub struct SaveTarget<'a, T: Transport, K, C, F> {
+pub struct SaveTarget<'a, T: Transport, K: Keeper, C, F> {
     repository: &'a mut Repository<T, K, C>,
     files: &'a mut F,
     name: &'a TargetName,
@@ -279,36 +279,39 @@ impl<T: Transport, K: Keeper, C: Clock + Drop, F: Files> Future for SaveTarget<'
         (λ s. T.Stream.needs (limited (checked (stream_of s))) n) };
 
     // Some calls and some keeper's steps lead to what it may give.
-    ghost gives = { λ m r. (calls : List Told) × (next : Keeping K)
-        × GoesOnSaving T.refuses T.serves T.Stream.yields T.Stream.can_poll K.keeps F.tells m.saving
-        m.repository.now m.name.now m.outdir.now m.prefix (F.calls m.files.now) calls next r };
+    ghost gives = { λ m r. (calls : List Told) × (next : Keeping K K.Receipt)
+        × GoesOnSaving T.refuses T.serves T.Stream.yields T.Stream.can_poll K.keeps C.may_give
+        F.tells m.saving m.repository.now m.name.now m.outdir.now m.prefix (F.calls m.files.now)
+        calls next r };
 
     fn poll(&mut self, cx: &mut Context<'_>) -> Poll<Result<(), Error>>
         requires { IfSome self.old.saving (CanGoOn T.Stream.can_poll) }
         ensures value { IfReady result
-            (λ r. (calls : List Told) × (next : Keeping K)
-            × GoesOnSaving T.refuses T.serves T.Stream.yields T.Stream.can_poll K.keeps F.tells
-            self.old.saving self.old.repository.now self.old.name.now self.old.outdir.now
+            (λ r. (calls : List Told) × (next : Keeping K K.Receipt)
+            × GoesOnSaving T.refuses T.serves T.Stream.yields T.Stream.can_poll K.keeps C.may_give
+            F.tells self.old.saving self.old.repository.now self.old.name.now self.old.outdir.now
             self.old.prefix (F.calls self.old.files.now) calls next r) }
         ensures saves { IfReady result
-            (GoesOnSaving T.refuses T.serves T.Stream.yields T.Stream.can_poll K.keeps F.tells
-            self.old.saving self.old.repository.now self.old.name.now self.old.outdir.now
+            (GoesOnSaving T.refuses T.serves T.Stream.yields T.Stream.can_poll K.keeps C.may_give
+            F.tells self.old.saving self.old.repository.now self.old.name.now self.old.outdir.now
             self.old.prefix (F.calls self.old.files.now) (F.calls self.new.files.now)
             (keeping_of self.new.repository.now)) }
         ensures again { OnPending result (IfSome self.new.saving (CanGoOn T.Stream.can_poll)) }
         ensures same { OnPending result ((r : _)
-            → ((calls : List Told) × (next : Keeping K)
-            × GoesOnSaving T.refuses T.serves T.Stream.yields T.Stream.can_poll K.keeps F.tells
-            self.new.saving self.new.repository.now self.new.name.now self.new.outdir.now
+            → ((calls : List Told) × (next : Keeping K K.Receipt)
+            × GoesOnSaving T.refuses T.serves T.Stream.yields T.Stream.can_poll K.keeps C.may_give
+            F.tells self.new.saving self.new.repository.now self.new.name.now self.new.outdir.now
             self.new.prefix (F.calls self.new.files.now) calls next r)
-            → ((calls : List Told) × (next : Keeping K)
-            × GoesOnSaving T.refuses T.serves T.Stream.yields T.Stream.can_poll K.keeps F.tells
-            self.old.saving self.old.repository.now self.old.name.now self.old.outdir.now
+            → ((calls : List Told) × (next : Keeping K K.Receipt)
+            × GoesOnSaving T.refuses T.serves T.Stream.yields T.Stream.can_poll K.keeps C.may_give
+            F.tells self.old.saving self.old.repository.now self.old.name.now self.old.outdir.now
             self.old.prefix (F.calls self.old.files.now) calls next r)) }
         ensures registered { OnPending result
             (Covers cx.new (λ n. IsSomeAnd self.new.saving
             (λ s. T.Stream.needs (limited (checked (stream_of s))) n))) }
         ensures kept { Keeps cx.old cx.new }
+        ensures lent { (saved_from self.new).ghost_name ≡ (saved_from self.old).ghost_name }
+        ensures stays { IsKept (saved_from self.old).now (saved_from self.new).now }
     {
         match self.saving.take() {
             Some(saving) => go_on(saving, &mut self.saving, self.files, self.name, cx),

@@ -8,7 +8,7 @@ pub returns-in-Some-clause-value : goal.returns-in-Some-clause-value
 returns-in-Some-clause-value g c =
     let m = c.args.self.now in
     let is : m.caching ≡ Some c.in-Some.caching = search rules in
-    goes_value g.T.Transport.refuses g.T.Transport.serves g.T.Stream.Stream.yields g.T.Stream.Stream.can_poll g.K.Keeper.keeps g.F.Files.tells
+    goes_value g.T.Transport.refuses g.T.Transport.serves g.T.Stream.Stream.yields g.T.Stream.Stream.can_poll g.K.Keeper.keeps g.C.Clock.may_give g.F.Files.tells
     (AreMade g.F.Files.tells m.folders) (PlansAll (documents_of m.repository.now) (option_map (λ names. map g.S.AsStr.text names.now) m.subset) m.root_chain)
     m.repository.now m.folders (g.F.Files.calls m.files.now) (g.F.Files.calls m.files.now) m.caching c.in-Some.caching is
     (g.F.Files.calls c.go_on_caching.new.files) (keeping_of c.go_on_caching.new.self) c.go_on_caching.result c.go_on_caching.ensures.done
@@ -17,7 +17,7 @@ pub returns-in-Some-clause-same : goal.returns-in-Some-clause-same
 returns-in-Some-clause-same g c =
     let m = c.args.self.now in
     let is : m.caching ≡ Some c.in-Some.caching = search rules in
-    continues_same g.T.Transport.refuses g.T.Transport.serves g.T.Stream.Stream.yields g.T.Stream.Stream.can_poll g.K.Keeper.keeps g.F.Files.tells
+    continues_same g.T.Transport.refuses g.T.Transport.serves g.T.Stream.Stream.yields g.T.Stream.Stream.can_poll g.K.Keeper.keeps g.C.Clock.may_give g.F.Files.tells
     (AreMade g.F.Files.tells m.folders) (PlansAll (documents_of m.repository.now) (option_map (λ names. map g.S.AsStr.text names.now) m.subset) m.root_chain)
     m.repository.now m.folders (g.F.Files.calls m.files.now) (g.F.Files.calls c.go_on_caching.new.files) m.caching c.in-Some.caching is
     (PlansAll (documents_of c.go_on_caching.new.self) (option_map (λ names. map g.S.AsStr.text names.now) m.subset) m.root_chain) c.go_on_caching.new.self c.go_on_caching.new.caching
@@ -27,7 +27,7 @@ pub returns-in-Ok-clause-same : goal.returns-in-Ok-clause-same
 returns-in-Ok-clause-same g c =
     let m = c.args.self.now in
     let is : m.caching ≡ None = search rules in
-    begun_same g.T.Transport.refuses g.T.Transport.serves g.T.Stream.Stream.yields g.T.Stream.Stream.can_poll g.K.Keeper.keeps g.F.Files.tells
+    begun_same g.T.Transport.refuses g.T.Transport.serves g.T.Stream.Stream.yields g.T.Stream.Stream.can_poll g.K.Keeper.keeps g.C.Clock.may_give g.F.Files.tells
     (AreMade g.F.Files.tells m.folders) (PlansAll (documents_of m.repository.now) (option_map (λ names. map g.S.AsStr.text names.now) m.subset) m.root_chain)
     m.repository.now m.folders (g.F.Files.calls m.files.now) (g.F.Files.calls c.begin_all.new.files) m.caching is
     c.in-Ok.caching c.in-Ok.ensures.begins (Some c.in-Ok.caching) refl c.yield_now.result
@@ -36,7 +36,7 @@ pub returns-in-Err-clause-value : goal.returns-in-Err-clause-value
 returns-in-Err-clause-value g c =
     let m = c.args.self.now in
     let is : m.caching ≡ None = search rules in
-    unbegun_value g.T.Transport.refuses g.T.Transport.serves g.T.Stream.Stream.yields g.T.Stream.Stream.can_poll g.K.Keeper.keeps g.F.Files.tells
+    unbegun_value g.T.Transport.refuses g.T.Transport.serves g.T.Stream.Stream.yields g.T.Stream.Stream.can_poll g.K.Keeper.keeps g.C.Clock.may_give g.F.Files.tells
     (AreMade g.F.Files.tells m.folders) (PlansAll (documents_of m.repository.now) (option_map (λ names. map g.S.AsStr.text names.now) m.subset) m.root_chain)
     m.repository.now m.folders (g.F.Files.calls m.files.now) (g.F.Files.calls c.begin_all.new.files) m.caching is c.in-Err.error c.in-Err.ensures.begins
 
@@ -44,6 +44,6 @@ pub returns-in-Err-clause-caches : goal.returns-in-Err-clause-caches
 returns-in-Err-clause-caches g c =
     let m = c.args.self.now in
     let is : m.caching ≡ None = search rules in
-    unbegun g.T.Transport.refuses g.T.Transport.serves g.T.Stream.Stream.yields g.T.Stream.Stream.can_poll g.K.Keeper.keeps g.F.Files.tells
+    unbegun g.T.Transport.refuses g.T.Transport.serves g.T.Stream.Stream.yields g.T.Stream.Stream.can_poll g.K.Keeper.keeps g.C.Clock.may_give g.F.Files.tells
     (AreMade g.F.Files.tells m.folders) (PlansAll (documents_of m.repository.now) (option_map (λ names. map g.S.AsStr.text names.now) m.subset) m.root_chain)
     m.repository.now m.folders (g.F.Files.calls m.files.now) (g.F.Files.calls c.begin_all.new.files) m.caching is c.in-Err.error c.in-Err.ensures.begins
