@@ -8,7 +8,7 @@ use Rattle.std.specs.Ordering.{is_eq}
 use Rattle.tough_roles.specs.declared.timestamp.Metafile.{Metafile}
 use Rattle.tough_roles.specs.Timestamp.{metafile_doc, metafiles_doc}
 use Rattle.tough_roles.specs.Timestamp.{metafile_in}
-use Rattle.tough_checks.proofs.lemmas.Looking.{looked}
+use Rattle.tough_roles.proofs.lemmas.Metafiles.{looked}
 
 module _ (es : List (String Global × Metafile)) (name : List ℕ) where
   pub entry_some : (o : Option (Bor Metafile)) → option_copied o ≡ lookup (λ k. is_eq (slice_cmp nat_cmp name (string_bytes k))) es
