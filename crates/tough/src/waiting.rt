@@ -2,7 +2,7 @@
 
 ghost use Rattle.std.specs.Prelude.{◌≡◌, Ok, IfOk};
 ghost use Rattle.tough_update.specs.View.{core_doc, outcome_doc};
-ghost use Rattle.tough_load.specs.Loader.{IsBegun, first_core, settings_of, transport_of, verifier_of, keeper_of};
+ghost use Rattle.tough_load.specs.Loader.{IsBegun, first_core, settings_of, transport_of, verifier_of, held_of};
 ghost use Rattle.tough_load.specs.Advancing.{Finishes};
 ghost use Rattle.tough_load.specs.Running.{CanPoll};
 ghost use Rattle.tough_load.specs.Vouching.{Vouches};
@@ -37,14 +37,14 @@ where
     V: Verify + Drop,
     requires { CanPoll T.Stream.can_poll (part.fetch_of load) }
     ensures done { IfOk result
-        (λ both. Finishes T.refuses T.serves K.keeps T.Stream.yields V.verifies load
+        (λ both. Finishes T.refuses T.serves K.keeps C.may_give T.Stream.yields V.verifies load
         (outcome_doc both.0) both.1) }
     ensures trusted { (from : _) → IsBegun from load
         → IfOk result (λ both. IfOk (outcome_doc both.0)
-        (Vouches T.refuses T.serves K.keeps T.Stream.yields
+        (Vouches T.refuses T.serves K.keeps C.may_give T.Stream.yields
         (V.verifies (verifier_of from)) (part.base_of load) (transport_of from)
-        (first_core (settings_of from)) (keeper_of from)
-        (core_doc (part.core_of both.1)) (part.keeper_of both.1))) }
+        (first_core (settings_of from)) (held_of from)
+        (core_doc (part.core_of both.1)) (part.held_of both.1))) }
 {
     loads_are_trusted::<T, V, C, K>();
     runtime.block_on(rt, load.run())
@@ -65,10 +65,10 @@ where
     V: Verify + Drop,
     requires { CanPoll T.Stream.can_poll (part.fetch_of load) }
     ensures done { IfOk result
-        (Opens T.refuses T.serves K.keeps T.Stream.yields V.verifies load) }
+        (Opens T.refuses T.serves K.keeps C.may_give T.Stream.yields V.verifies load) }
     ensures trusted { (from : _) → IsBegun from load
         → IfOk result (λ r. IfOk r
-        (VouchesFor T.refuses T.serves K.keeps T.Stream.yields V.verifies from
+        (VouchesFor T.refuses T.serves K.keeps C.may_give T.Stream.yields V.verifies from
         (part.base_of load))) }
 {
     let (outcome, load) = match drive_on(rt, runtime, load) {
