@@ -1,12 +1,8 @@
 -- A keeper over a store that held nothing, as far as an update has come.
-use Rattle.std.specs.Prelude.{◌≡◌, ◌⊎◌, ◌<◌, ℕ, ℤ, List, [], ◌∷◌, None, Bool, Result, Ok, Err, ⊤}
+use Rattle.std.specs.Prelude.{◌≡◌, ◌<◌, ℕ, ℤ, List, [], ◌∷◌, None, Result, Ok, Err, ⊤}
 use Rattle.tough_checks.specs.Files.{time_file, timestamp_file, snapshot_file}
 use Rattle.tough_vault.specs.Stored.{Files}
 use Rattle.tough_vault.specs.Step.{Parts}
-use Rattle.tough_vault.specs.Act.{Act, Acts}
-use Rattle.tough_vault.specs.declared.entry.Receipt.{Receipt}
-use Rattle.tough_checks.specs.declared.checks.StepError.{StepError}
-use Rattle.tough_keys.specs.Same.{Verifies}
 use Rattle.tough_trust.specs.Failure.{Failure}
 use Rattle.tough_trust.specs.Failure as failure
 use Rattle.tough_update.specs.Stages.{LoadedDoc, WantedDoc, PendingDoc, StageDoc}
