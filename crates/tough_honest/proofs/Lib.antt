@@ -1,0 +1,7 @@
+pub mod Serving
+pub mod Firsts
+pub mod Phases
+pub mod Fresh
+pub mod Whole
+pub mod Faultless
+pub mod Ending

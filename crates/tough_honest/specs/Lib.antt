@@ -1,0 +1,4 @@
+pub mod First
+pub mod Fresh
+pub mod Serves
+pub mod Loads
