@@ -17,7 +17,7 @@ use Rattle.tough_load.specs.Loading.{Held}
 use Rattle.tough_load.specs.Vouching.{Vouches}
 use Rattle.tough_load.specs.Words as load
 use Rattle.tough_client.specs.declared.repository.Repository.{Repository}
-use Rattle.tough_client.specs.Repositories.{IsMadeOf, receipts_of, clock_of, held_of}
+use Rattle.tough_client.specs.Repositories.{IsMadeOf, receipts_of, keeper_of, clock_of, held_of}
 
 -- a repository holds what the load held that it is made of
 pub made-held : {T K C V S R : Type 0} (l : Load T K C V S R) (d : Loaded) (r : Repository T K C R) → IsMadeOf l d r → held_of r ≡ load.held_of l
