@@ -1,4 +1,5 @@
 //! A store in memory that fails as a case asks.
+ghost use Rattle.std.specs.Prelude.{◌≡◌};
 ghost use Rattle.tough_vault.specs.Stored.{HasCause};
 
 use crate::case::{list, number, text};
@@ -124,7 +125,8 @@ impl Shelf {
 
     // The fault of this call, if it has one.
     fn fail(&mut self) -> Result<(), StoreError>
-        ensures { HasCause self.old.failures self.new.failures result }
+        ensures cause { HasCause self.old.failures self.new.failures result }
+        ensures removals { self.new.removals ≡ self.old.removals }
     {
         if self.left > 0 {
             if self.left < u64::MAX {
