@@ -1,0 +1,4 @@
+pub mod Edits
+pub mod Keys
+pub mod Roles
+pub mod Built
