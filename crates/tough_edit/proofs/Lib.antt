@@ -1,2 +1,4 @@
 pub mod Lists
+pub mod Told
 pub mod Opening
+pub mod Adding

@@ -3,8 +3,13 @@
 
 mod build;
 mod edits;
+mod files;
 mod keys;
 mod roles;
+mod sign;
+mod signers;
 
 pub use edits::TargetEdits;
+pub use files::build_target;
+pub use signers::{SignersKeys, signers_keys};
 pub use tough_signed::EditError;
