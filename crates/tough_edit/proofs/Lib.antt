@@ -2,3 +2,4 @@ pub mod Lists
 pub mod Told
 pub mod Opening
 pub mod Adding
+pub mod Standings
