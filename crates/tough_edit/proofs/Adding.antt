@@ -1,5 +1,5 @@
 -- Targets of files are added, one after another.
-use Rattle.std.proofs.Common.{◌≡◌, ℕ, ◌+◌, ◌<◌, List, [], ◌∷◌, ◌++◌, Bor, take, drop, length, get_or, refl, ap, sym, subst, ◌∙◌}
+use Rattle.std.proofs.Common.{◌≡◌, ℕ, ◌+◌, ◌<◌, List, [], ◌∷◌, ◌++◌, Bor, take, drop, length, get_or, refl, sym, subst}
 use Rattle.std.proofs.lemmas.List.{take_more, take-append-drop}
 use Rattle.tough_edit.specs.Edits.{EditsDoc}
 use Rattle.tough_edit.specs.Files.{IsAdded, AreAdded, SomeAdded}

@@ -1,5 +1,5 @@
 -- The target that an editor makes of a file (TUF specification 1.0, section 4.5, TARGETS).
-use Rattle.std.specs.Prelude.{◌≡◌, ⊤, ℕ, List, [], ◌∷◌, ◌++◌, Option, Some, None, Result, Ok, Err, string_bytes}
+use Rattle.std.specs.Prelude.{◌≡◌, ⊤, ℕ, List, [], ◌∷◌, ◌++◌, Option, Some, None, Ok, Err, string_bytes}
 use Rattle.std.specs.Path.{path_file_name}
 use Rattle.tough_files.specs.Contents.{Node}
 use Rattle.tough_names.specs.Named.{Named, clean}

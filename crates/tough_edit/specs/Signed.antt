@@ -1,5 +1,5 @@
 -- The document that an editor signs (TUF specification 1.0, sections 4.2 and 4.5).
-use Rattle.std.specs.Prelude.{◌≡◌, ℕ, List, ◌∷◌, map, Option, Some, None, ◌⊎◌}
+use Rattle.std.specs.Prelude.{◌≡◌, ℕ, List, ◌∷◌, map, Some, None, ◌⊎◌}
 use Rattle.std.specs.List.{Any}
 use Rattle.tough_keys.specs.Key.{KeyDoc}
 use Rattle.tough_roles.specs.RoleId.{RoleIdDoc}

@@ -1,6 +1,5 @@
-use Rattle.std.proofs.Common.{◌≡◌, take, drop, is_none}
-use Rattle.std.specs.List.{list_any}
-use Rattle.tough_edit.specs.Signers.{own_id, AreIds, keys_told}
+use Rattle.std.proofs.Common.{take}
+use Rattle.tough_edit.specs.Signers.{AreIds, keys_told}
 use Rattle.tough_edit.proofs.signers.own_ids.Given as goal
 
 abbrev pub invariant-loop-signer : goal.invariant-loop-signer
