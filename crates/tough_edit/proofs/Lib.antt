@@ -1,0 +1,5 @@
+pub mod Lists
+pub mod Told
+pub mod Opening
+pub mod Adding
+pub mod Standings
