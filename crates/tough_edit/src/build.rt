@@ -16,18 +16,10 @@ use std::collections::BTreeMap;
 use tough_keys::clone::copy;
 use tough_names::TargetName;
 use tough_roles::clone::copy_keys;
-use tough_schema::{DelegatedRole, DelegatedTargets, Delegations, Target, Targets};
+use tough_schema::{
+    DelegatedRole, DelegatedTargets, Delegations, Target, Targets, copy_listing,
+};
 use tough_signed::EditError;
-
-// The same targets under the same names.
-fn copy_listing(
-    targets: &BTreeMap<TargetName, Target>,
-) -> Result<BTreeMap<TargetName, Target>, AllocError>
-    ensures { IfOk result (λ m. listing_doc m.entries ≡ listing_doc targets.now.entries) }
-{
-    let copies = targets.clone()?;
-    Ok(copies)
-}
 
 // Lists a copy of the target, in the place of one of the name.
 fn put_copy(

@@ -13,7 +13,7 @@ use Rattle.tough_json.specs.Results.{json_of, RefusesJson}
 
 -- a part as a value, if it is one; want of memory says nothing
 abbrev pub RefusesPart : {Y : Type 0} → ReadError → Option Y → Type 0
-RefusesPart errors.Json answer = answer ≡ None
+RefusesPart (errors.Json place) answer = answer ≡ None
 RefusesPart (errors.Shape s) answer = ⊥
 RefusesPart errors.Memory answer = ⊤
 
@@ -23,7 +23,7 @@ Converts view (Err e) answer = RefusesPart e answer
 
 -- a text as JSON, where the numbers may be out of range
 abbrev pub RefusesDocument : ReadError → List ℕ → Type 0
-RefusesDocument errors.Json text = read text ≡ None
+RefusesDocument (errors.Json place) text = read text ≡ None
 RefusesDocument (errors.Shape s) text = ⊥
 RefusesDocument errors.Memory text = ⊤
 
@@ -46,7 +46,7 @@ listed (e ∷ es) = do
 
 -- the member of the name as JSON, and the object of the others; there must be one
 abbrev pub RefusesMember : List ℕ → Members → ReadError → Type 0
-RefusesMember name ms errors.Json = ⊥
+RefusesMember name ms (errors.Json place) = ⊥
 RefusesMember name ms (errors.Shape s) = get_member name ms ≡ None
 RefusesMember name ms errors.Memory = ⊤
 

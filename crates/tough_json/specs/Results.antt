@@ -10,7 +10,7 @@ use Rattle.tough_json.specs.declared.error.WriteError.TheVariants as writes
 
 -- a refusal of a value that is JSON: want of memory says nothing
 abbrev pub Refuses : {Y : Type 0} → ReadError → Option Y → Type 0
-Refuses errors.Json answer = ⊥
+Refuses (errors.Json place) answer = ⊥
 Refuses (errors.Shape s) answer = answer ≡ None
 Refuses errors.Memory answer = ⊤
 
@@ -30,7 +30,7 @@ json_of bytes = if is_utf8 bytes then read bytes else None
 
 -- The same from bytes: the value is that of the bytes, or these are no JSON.
 abbrev pub RefusesBytes : {Y : Type 0} → ReadError → List ℕ → (Data → Option Y) → Type 0
-RefusesBytes errors.Json bytes f = json_of bytes ≡ None
+RefusesBytes (errors.Json place) bytes f = json_of bytes ≡ None
 RefusesBytes (errors.Shape s) bytes f = (d : Data) × (json_of bytes ≡ Some d) × (f d ≡ None)
 RefusesBytes errors.Memory bytes f = ⊤
 
@@ -40,7 +40,7 @@ ReadsBytes view (Err e) bytes f = RefusesBytes e bytes f
 
 -- bytes as a value: they are no JSON, or want of memory
 abbrev pub RefusesJson : ReadError → List ℕ → Type 0
-RefusesJson errors.Json bytes = json_of bytes ≡ None
+RefusesJson (errors.Json place) bytes = json_of bytes ≡ None
 RefusesJson (errors.Shape s) bytes = ⊥
 RefusesJson errors.Memory bytes = ⊤
 
@@ -50,7 +50,7 @@ ReadsJson view (Err e) bytes = RefusesJson e bytes
 
 -- no value is refused as no JSON
 abbrev pub IsRefusal : ReadError → Type 0
-IsRefusal errors.Json = ⊥
+IsRefusal (errors.Json place) = ⊥
 IsRefusal (errors.Shape s) = ⊤
 IsRefusal errors.Memory = ⊤
 

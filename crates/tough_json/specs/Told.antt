@@ -18,12 +18,12 @@ place_text n = (codes "[" ++ decimal n) ++ codes "]"
 
 -- it is refused with this text, unless there is no memory
 abbrev pub Tells : List ℕ → ReadError → Type 0
-Tells text errors.Json = ⊥
+Tells text (errors.Json place) = ⊥
 Tells text (errors.Shape told) = string_bytes told ≡ text
 Tells text errors.Memory = ⊤
 
 -- the second refuses what the first does, and tells it under the name
 abbrev pub TellsUnder : List ℕ → ReadError → ReadError → Type 0
-TellsUnder name errors.Json e = e ≡ errors.Json
+TellsUnder name (errors.Json place) e = e ≡ errors.Json place
 TellsUnder name (errors.Shape told) e = Tells (under name (string_bytes told)) e
 TellsUnder name errors.Memory e = e ≡ errors.Memory

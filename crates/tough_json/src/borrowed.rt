@@ -12,7 +12,7 @@ ghost use Rattle.tough_json.specs.Borrowed.{Converts, ReadsBorrowed, ReadsDocume
 ghost use Rattle.tough_json.specs.Reading.{without};
 ghost use Rattle.tough_json.specs.Results.{Reads};
 
-use crate::error::{ReadError, member_shape};
+use crate::error::{ReadError, missing};
 use crate::number::number_in;
 use json::Reader;
 pub use json::{Scratch, Value as Borrowed};
@@ -28,7 +28,7 @@ fn number_value(text: &str) -> Result<Value, ReadError>
 {
     match number_in(text) {
         Some(number) => Ok(Value::Number(number)),
-        None => Err(ReadError::Json),
+        None => Err(ReadError::Json(0)),
     }
 }
 
@@ -125,12 +125,25 @@ fn text_in<'a>(
     let value = match Borrowed::read(alloc, &mut reader, MAX_DEPTH) {
         Ok(value) => value,
         Err(json::Error::OutOfMemory) => return Err(ReadError::Memory),
-        Err(_) => return Err(ReadError::Json),
+        Err(_) => return Err(ReadError::Json(reader.offset())),
     };
     if reader.next().is_some() {
-        return Err(ReadError::Json);
+        return Err(ReadError::Json(reader.offset()));
     }
     Ok(value)
+}
+
+/// The place of the byte from which on the bytes are no JSON, for a message: 0 where a number is out of range, or there is no memory to tell.
+pub fn place_in(alloc: Global, bytes: &[u8]) -> usize {
+    let text = match simdutf8::compat::from_utf8(bytes) {
+        Ok(text) => text,
+        Err(error) => return error.valid_up_to(),
+    };
+    let mut scratch = Scratch::new(alloc);
+    match text_in(alloc, text, &mut scratch) {
+        Err(ReadError::Json(place)) => place,
+        _ => 0,
+    }
 }
 
 /// The JSON value that the bytes are, each number of which is in range; `Json` where they are none.
@@ -142,7 +155,7 @@ pub fn borrowed<'a>(
     ensures { ReadsBorrowed result bytes.now }
 {
     let Ok(text) = simdutf8::basic::from_utf8(bytes) else {
-        return Err(ReadError::Json);
+        return Err(ReadError::Json(place_in(alloc, bytes)));
     };
     let value = match text_in(alloc, text, scratch) {
         Ok(value) => value,
@@ -151,7 +164,7 @@ pub fn borrowed<'a>(
     if is_value(&value) {
         Ok(value)
     } else {
-        Err(ReadError::Json)
+        Err(ReadError::Json(0))
     }
 }
 
@@ -221,6 +234,6 @@ pub fn take_member<'a>(
     };
     match last_of(members, name) {
         Some(value) => Ok((value, others)),
-        None => Err(member_shape(alloc, name, "(missing)")),
+        None => Err(missing(alloc, name)),
     }
 }

@@ -7,9 +7,9 @@ use std::alloc::{AllocError, AllocFailed, Global};
 /// Why a document was not read.
 #[derive(Debug, Drop, thiserror::Error)]
 pub enum ReadError {
-    /// The bytes are no JSON text.
-    #[error("the bytes are no JSON")]
-    Json,
+    /// The bytes are no JSON text: the place of the byte from which on they are none, or 0 where a number is out of range.
+    #[error("the bytes are no JSON from byte {0} on")]
+    Json(usize),
     /// The JSON is no document of the kind: the member that was wrong, by its path from the top (`signed.roles.root.keyids[0]`), and what it
     /// isn't (`(no text)`).
     #[error("not of the document's form: {0}")]
@@ -140,6 +140,13 @@ pub fn at(alloc: Global, place: usize, error: ReadError) -> ReadError
         },
         other => other,
     }
+}
+
+/// A refusal of an object without the member.
+pub fn missing(alloc: Global, name: &str) -> ReadError
+    ensures { IsRefusal result }
+{
+    member_shape(alloc, name, "(missing)")
 }
 
 /// A refusal of a member by itself: `wrong` is `(no text)` or the like.

@@ -7,7 +7,7 @@ ghost use Rattle.tough_decoded.specs.Spelled.{Spelled};
 ghost use Rattle.tough_json.specs.Reading.{required, listing, all_at, decoded};
 ghost use Rattle.tough_json.specs.Results.{Reads, Takes};
 
-use crate::error::{ReadError, at, member_shape, shape, within};
+use crate::error::{ReadError, at, member_shape, missing, shape, within};
 use crate::member::take;
 use serde_json::{Map, Value};
 use std::alloc::Global;
@@ -81,6 +81,7 @@ pub fn list<T: FromJson + Drop>(
             Ok(list) => Ok(list),
             Err(error) => Err(within(alloc, name, error)),
         },
-        _ => Err(member_shape(alloc, name, "(no list)")),
+        Some(_) => Err(member_shape(alloc, name, "(no list)")),
+        None => Err(missing(alloc, name)),
     }
 }

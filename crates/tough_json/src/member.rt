@@ -5,7 +5,7 @@ ghost use Rattle.serde_json.specs.Find.{get_member, as_object};
 ghost use Rattle.tough_json.specs.Reading.{without, required, optional, text, whole, positive, hexadecimal, decoded, instant, present, as_items, truth};
 ghost use Rattle.tough_json.specs.Results.{Reads, Takes};
 
-use crate::error::{ReadError, member_shape};
+use crate::error::{ReadError, member_shape, missing};
 use serde_json::{Map, Value};
 use std::alloc::Global;
 use std::num::NonZeroU64;
@@ -52,7 +52,8 @@ pub fn text(
 {
     match take(members, name) {
         Some(Value::String(text)) => Ok(text),
-        _ => Err(member_shape(alloc, name, "(no text)")),
+        Some(_) => Err(member_shape(alloc, name, "(no text)")),
+        None => Err(missing(alloc, name)),
     }
 }
 
@@ -65,7 +66,10 @@ pub fn positive(
     ensures { Takes non_zero_u64_get result (members_view members.new.entries)
         (required name.now positive (members_view members.old.entries)) }
 {
-    let Some(number) = take(members, name).and_then(|value| value.as_u64()) else {
+    let Some(value) = take(members, name) else {
+        return Err(missing(alloc, name));
+    };
+    let Some(number) = value.as_u64() else {
         return Err(member_shape(alloc, name, "(no number from 1 on)"));
     };
     match NonZeroU64::new(number) {
@@ -119,7 +123,8 @@ pub fn decoded<T: Decode>(
             Err(DecodeError::Memory) => Err(ReadError::Memory),
             Err(_) => Err(member_shape(alloc, name, "(cannot be decoded)")),
         },
-        _ => Err(member_shape(alloc, name, "(no text)")),
+        Some(_) => Err(member_shape(alloc, name, "(no text)")),
+        None => Err(missing(alloc, name)),
     }
 }
 
@@ -149,7 +154,8 @@ pub fn instant(
             Ok(instant) => Ok(instant),
             Err(_) => Err(member_shape(alloc, name, "(no instant)")),
         },
-        _ => Err(member_shape(alloc, name, "(no instant)")),
+        Some(_) => Err(member_shape(alloc, name, "(no instant)")),
+        None => Err(missing(alloc, name)),
     }
 }
 
@@ -164,7 +170,7 @@ pub fn value(
 {
     match take(members, name) {
         Some(value) => Ok(value),
-        None => Err(member_shape(alloc, name, "(missing)")),
+        None => Err(missing(alloc, name)),
     }
 }
 
@@ -179,7 +185,8 @@ pub fn object(
 {
     match take(members, name) {
         Some(Value::Object(inner)) => Ok(inner),
-        _ => Err(member_shape(alloc, name, "(no object)")),
+        Some(_) => Err(member_shape(alloc, name, "(no object)")),
+        None => Err(missing(alloc, name)),
     }
 }
 
@@ -194,7 +201,8 @@ pub fn list(
 {
     match take(members, name) {
         Some(Value::Array(items)) => Ok(items),
-        _ => Err(member_shape(alloc, name, "(no list)")),
+        Some(_) => Err(member_shape(alloc, name, "(no list)")),
+        None => Err(missing(alloc, name)),
     }
 }
 
@@ -205,6 +213,7 @@ pub fn truth(alloc: Global, members: &mut Map<String, Value>, name: &str) -> Res
 {
     match take(members, name) {
         Some(Value::Bool(found)) => Ok(found),
-        _ => Err(member_shape(alloc, name, "(neither true nor false)")),
+        Some(_) => Err(member_shape(alloc, name, "(neither true nor false)")),
+        None => Err(missing(alloc, name)),
     }
 }

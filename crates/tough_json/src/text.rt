@@ -7,6 +7,7 @@ ghost use Rattle.serde_json.specs.Read.{max_depth};
 ghost use Rattle.serde_json.specs.Written.{has_float, compact_text};
 ghost use Rattle.tough_json.specs.Results.{json_of, ReadsJson};
 
+use crate::borrowed::place_in;
 use crate::error::ReadError;
 use serde_json::Value;
 use std::alloc::{AllocError, Global};
@@ -18,7 +19,7 @@ pub fn value_of(alloc: Global, bytes: &[u8]) -> Result<Value, ReadError>
     match Value::from_slice(alloc, bytes) {
         Ok(value) => Ok(value),
         Err(error) if error.is_memory() => Err(ReadError::Memory),
-        Err(_) => Err(ReadError::Json),
+        Err(_) => Err(ReadError::Json(place_in(alloc, bytes))),
     }
 }
 

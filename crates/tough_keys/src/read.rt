@@ -9,7 +9,7 @@ use crate::kind::Kind;
 use serde_json::{Map, Value};
 use std::alloc::Global;
 use tough_decoded::{Decode, Decoded};
-use tough_json::error::{ReadError, member_shape, shape, within};
+use tough_json::error::{ReadError, member_shape, missing, shape, within};
 use tough_json::member::{decoded, take};
 
 fn keytype(alloc: Global, members: &mut Map<String, Value>, name: &str) -> Result<Kind, ReadError>
@@ -21,7 +21,8 @@ fn keytype(alloc: Global, members: &mut Map<String, Value>, name: &str) -> Resul
             Some(kind) => Ok(kind),
             None => Err(member_shape(alloc, name, "(no known kind of key)")),
         },
-        _ => Err(member_shape(alloc, name, "(no text)")),
+        Some(_) => Err(member_shape(alloc, name, "(no text)")),
+        None => Err(missing(alloc, name)),
     }
 }
 
@@ -42,7 +43,8 @@ fn scheme(
                 Err(member_shape(alloc, name, "(not the scheme of its kind)"))
             }
         }
-        _ => Err(member_shape(alloc, name, "(no text)")),
+        Some(_) => Err(member_shape(alloc, name, "(no text)")),
+        None => Err(missing(alloc, name)),
     }
 }
 
@@ -74,7 +76,7 @@ fn keyval<T: Decode>(
             Ok(keyval) => Ok(keyval),
             Err(error) => Err(within(alloc, name, error)),
         },
-        None => Err(member_shape(alloc, name, "(missing)")),
+        None => Err(missing(alloc, name)),
     }
 }
 

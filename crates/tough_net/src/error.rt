@@ -173,6 +173,31 @@ impl TransportError {
     }
 }
 
+/// The text of a URL for a reader: as it is, but with `***` in the place of a password (RFC 3986, section 3.2.1).
+#[derive(Clone, Copy, Drop)]
+pub struct Shown<'a>(pub &'a str);
+
+impl<'a> Shown<'a> {
+    // The scheme, the user, and all behind the password, where there is one.
+    fn parts(&self) -> Option<(&'a str, &'a str, &'a str)> {
+        let (scheme, rest) = self.0.split_once("://")?;
+        let authority = rest.split(['/', '?', '#']).next()?;
+        let (userinfo, _) = authority.rsplit_once('@')?;
+        let (user, _) = userinfo.split_once(':')?;
+        let behind = rest.strip_prefix(userinfo)?;
+        Some((scheme, user, behind))
+    }
+}
+
+impl Display for Shown<'_> {
+    fn fmt<W: fmt::Write>(&self, f: &mut Formatter<W>) -> fmt::Result {
+        match self.parts() {
+            Some((scheme, user, behind)) => write!(f, "{scheme}://{user}:***{behind}"),
+            None => f.write_str(self.0),
+        }
+    }
+}
+
 impl Display for TransportErrorKind {
     fn fmt<W: fmt::Write>(&self, f: &mut Formatter<W>) -> fmt::Result {
         f.write_str(match self {
@@ -198,10 +223,13 @@ impl Display for Cause {
                 context,
                 calculated,
                 expected,
-            } => write!(
-                f,
-                "Hash mismatch for {context}: calculated {calculated}, expected {expected}"
-            ),
+            } => {
+                let context = Shown(context.as_str());
+                write!(
+                    f,
+                    "Hash mismatch for {context}: calculated {calculated}, expected {expected}"
+                )
+            }
             Cause::Http(error) => write!(f, "{error}"),
             Cause::Text(text) => f.write_str(text.as_str()),
         }
@@ -212,7 +240,7 @@ impl Error for Cause {}
 
 impl Display for TransportError {
     fn fmt<W: fmt::Write>(&self, f: &mut Formatter<W>) -> fmt::Result {
-        let (kind, url) = (self.kind, self.url());
+        let (kind, url) = (self.kind, Shown(self.url()));
         write!(f, "Transport '{kind}' error fetching '{url}'")?;
         match &self.cause {
             Some(cause) => write!(f, ": {cause}"),

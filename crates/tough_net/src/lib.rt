@@ -21,7 +21,7 @@ mod urls;
 
 pub use collect::{Collect, fetch_whole};
 pub use digest_check::DigestCheck;
-pub use error::{Cause, TransportError, TransportErrorKind};
+pub use error::{Cause, Shown, TransportError, TransportErrorKind};
 pub use exchange::Exchange;
 pub use filesystem::{FileStream, FilesystemTransport};
 pub use http_error::{HttpError, LastRequest, RequestError, RequestFault};

@@ -13,7 +13,7 @@ use Rattle.tough_json.specs.Reading.{◌>>=◌}
 
 -- A value of JSON is read as x, or it is refused by its shape. Want of memory says nothing.
 abbrev pub RefusesValue : (Data → Type 0) → ReadError → Data → Type 0
-RefusesValue refused errors.Json d = ⊥
+RefusesValue refused (errors.Json place) d = ⊥
 RefusesValue refused (errors.Shape s) d = refused d
 RefusesValue refused errors.Memory d = ⊤
 
@@ -23,7 +23,7 @@ ReadsValue is_read refused (Err e) d = RefusesValue refused e d
 
 -- The same of bytes, which are no JSON, or the JSON of one value.
 abbrev pub RefusesText : (Data → Type 0) → ReadError → List ℕ → Type 0
-RefusesText refused errors.Json bytes = json_of bytes ≡ None
+RefusesText refused (errors.Json place) bytes = json_of bytes ≡ None
 RefusesText refused (errors.Shape s) bytes = (d : Data) × (json_of bytes ≡ Some d) × refused d
 RefusesText refused errors.Memory bytes = ⊤
 

@@ -15,7 +15,7 @@ use serde_json::{Map, Value};
 use std::alloc::Global;
 use std::collections::BTreeMap;
 use tough_decoded::{DecodeError, Decoded, Hex};
-use tough_json::error::{ReadError, WriteError, member_shape, shape, within};
+use tough_json::error::{ReadError, WriteError, member_shape, missing, shape, within};
 use tough_json::list::list;
 use tough_json::member::{positive, take, truth};
 use tough_json::table::{FromEntry, table_of};
@@ -87,7 +87,8 @@ pub fn keys(
             Ok(keys) => Ok(keys),
             Err(error) => Err(within(alloc, name, error)),
         },
-        _ => Err(member_shape(alloc, name, "(no object)")),
+        Some(_) => Err(member_shape(alloc, name, "(no object)")),
+        None => Err(missing(alloc, name)),
     }
 }
 
@@ -155,7 +156,8 @@ fn roles(
             Ok(roles) => Ok(roles),
             Err(error) => Err(within(alloc, name, error)),
         },
-        _ => Err(member_shape(alloc, name, "(no object)")),
+        Some(_) => Err(member_shape(alloc, name, "(no object)")),
+        None => Err(missing(alloc, name)),
     }
 }
 

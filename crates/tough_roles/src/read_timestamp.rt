@@ -11,7 +11,7 @@ use crate::timestamp::{Hashes, Metafile, Timestamp};
 use serde_json::{Map, Value};
 use std::alloc::Global;
 use std::collections::BTreeMap;
-use tough_json::error::{ReadError, member_shape, shape, within};
+use tough_json::error::{ReadError, member_shape, missing, shape, within};
 use tough_json::member::{hexadecimal, length, positive, present, take};
 
 /// The hashes that the value is; `Shape` where it is none.
@@ -103,7 +103,8 @@ pub(crate) fn metafiles(
             Ok(metafiles) => Ok(metafiles),
             Err(error) => Err(within(alloc, name, error)),
         },
-        _ => Err(member_shape(alloc, name, "(no object)")),
+        Some(_) => Err(member_shape(alloc, name, "(no object)")),
+        None => Err(missing(alloc, name)),
     }
 }
 

@@ -143,12 +143,12 @@ targets-first ms = first_at (head_at ms) ms refl
 -- ---- the document of JSON
 
 pub refused-member : (e : ReadError) (ms : Members) → RefusesMember (codes "targets") ms e → Refuses e (targets_at (object ms))
-refused-member errors.Json ms h = h
+refused-member (errors.Json place) ms h = h
 refused-member (errors.Shape s) ms h = targets-first ms ∙ ap (λ o. option_and_then listing_at o >>= λ l. targets_around l (without (codes "targets") ms)) h
 refused-member errors.Memory ms h = h
 
 pub refused-listing : (e : ReadError) (ms : Members) (x : Data) → get_member (codes "targets") ms ≡ Some x → Refuses e (listing_at x) → Refuses e (targets_at (object ms))
-refused-listing errors.Json ms x is h = h
+refused-listing (errors.Json place) ms x is h = h
 refused-listing (errors.Shape s) ms x is h = targets-first ms ∙ ap (λ o. option_and_then listing_at o >>= λ l. targets_around l (without (codes "targets") ms)) is ∙ ap (λ o. o >>= λ l. targets_around l (without (codes "targets") ms)) h
 refused-listing errors.Memory ms x is h = h
 
@@ -162,12 +162,12 @@ object-members value v d is h = map_ok object (of_members (json_members v.items)
 -- ---- what a document's reader answers
 
 pub refused-value : (e : ReadError) (d : Data) → Refuses e (targets_at d) → RefusesValue (λ x. targets_at x ≡ None) e d
-refused-value errors.Json d h = h
+refused-value (errors.Json place) d h = h
 refused-value (errors.Shape s) d h = h
 refused-value errors.Memory d h = h
 
 pub read-bytes : {X Y : Type 0} (view : X → Y) (r : Result X ReadError) (d : Data) (bytes : List ℕ) (f : Data → Option Y) → json_of bytes ≡ Some d → Reads view r (f d) → ReadsBytes view r bytes f
 read-bytes view (Ok x) d bytes f is h = (d, is, h)
-read-bytes view (Err errors.Json) d bytes f is h = absurd h
+read-bytes view (Err (errors.Json place)) d bytes f is h = absurd h
 read-bytes view (Err (errors.Shape s)) d bytes f is h = (d, is, h)
 read-bytes view (Err errors.Memory) d bytes f is h = tt

@@ -24,6 +24,6 @@ pub if_pattern_none : (s : List ℕ) → (IsPattern (chars s) → ⊥) → if_pa
 if_pattern_none s apart = none_at s (parts_in (chars s)) refl apart
 
 pub refuses_pattern : (e : ReadError) (s : List ℕ) → IsRefusal e → (IsPattern (chars s) → ⊥) → Refuses e (if_pattern s)
-refuses_pattern errors.Json s refusal apart = refusal
+refuses_pattern (errors.Json place) s refusal apart = refusal
 refuses_pattern (errors.Shape t) s refusal apart = if_pattern_none s apart
 refuses_pattern errors.Memory s refusal apart = tt

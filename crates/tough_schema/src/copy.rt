@@ -44,8 +44,8 @@ impl Clone for PathSet {
     }
 }
 
-// The same targets under the same names.
-fn copy_listing(
+/// Copies the targets of a document with their names. `AllocError` when out of memory.
+pub fn copy_listing(
     targets: &BTreeMap<TargetName, Target>,
 ) -> Result<BTreeMap<TargetName, Target>, AllocError>
     ensures { IfOk result (λ m. listing_doc m.entries ≡ listing_doc targets.now.entries) }
@@ -54,7 +54,7 @@ fn copy_listing(
     Ok(copies)
 }
 
-// The same document, but with these delegations.
+// Copies the document, with these delegations in the place of its own.
 fn copy_own(document: &Targets, delegations: Option<Delegations>) -> Result<Targets, AllocError>
     ensures { IfOk result (λ c. tree_doc c
         ≡ regrown (option_map delegations_tree delegations) (tree_doc document.now)) }
@@ -72,7 +72,7 @@ fn copy_own(document: &Targets, delegations: Option<Delegations>) -> Result<Targ
     })
 }
 
-// The same role, but with this document.
+// Copies the role, with this document in the place of its own.
 fn copy_entry(
     role: &DelegatedRole,
     targets: Option<Signed<DelegatedTargets>>,
@@ -133,7 +133,7 @@ fn copy_role(role: &DelegatedRole) -> Result<DelegatedRole, AllocError>
     }
 }
 
-/// The same document of a role.
+/// Copies the document of a role, with the documents below it.
 #[cycle(copy)]
 pub(crate) fn copy_held(
     document: &Signed<DelegatedTargets>,

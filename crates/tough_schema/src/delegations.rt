@@ -14,7 +14,7 @@ use tough_names::{PathHashPrefix, PathPattern};
 use tough_roles::Signed;
 use tough_roles::keyring::key_id_in;
 
-/// The names that a delegated role may list: those that a pattern matches, or those whose digest begins with a prefix
+/// The names that a delegated role may list: names that a pattern matches, or names whose digest begins with a prefix
 /// (TUF specification 1.0, section 4.5, `paths` and `path_hash_prefixes`).
 #[derive(Debug, Drop, PartialEq)]
 pub enum PathSet {
@@ -42,7 +42,7 @@ impl Delegations {
         }
     }
 
-    /// The first identifier under which a key stands that is equal to the given one.
+    /// The first identifier whose key is equal to the given one.
     pub fn key_id(&self, key: &Key) -> Option<&Decoded<Hex>>
         ensures { option_map (λ id. id.now) result ≡ id_of key.now (keys_held self.now) }
     {
@@ -51,7 +51,7 @@ impl Delegations {
 }
 
 impl Delegations {
-    /// The roles; the keys are dropped.
+    /// Gives the roles out, and drops the keys.
     pub(crate) fn into_roles(self) -> Vec<DelegatedRole>
         ensures { deepest result.items < depth_of self }
     {
@@ -61,7 +61,7 @@ impl Delegations {
 }
 
 impl Drop for Delegations {
-    /// Takes one role after another, with those below it in the place of it. Where there is no memory to keep them, they
+    /// Drops one role after another, without recursion: the roles below a role take its place. When out of memory, they
     /// are dropped before the others.
     #[cycle(fall)]
     fn drop(self) {
@@ -79,7 +79,7 @@ impl Drop for Delegations {
     }
 }
 
-/// A delegated role, and its document where it was loaded; the document is no member of the JSON.
+/// A delegated role, and its document where that was loaded. The document is no member of the JSON.
 #[derive(Debug, Drop, PartialEq)]
 #[cycle(tree)]
 pub struct DelegatedRole {

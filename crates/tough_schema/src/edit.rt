@@ -1,4 +1,4 @@
-//! Changes of what the documents of a tree list.
+//! Adding and removing the targets of a tree.
 
 ghost use Rattle.std.specs.Prelude.{◌≡◌, OnOk, OnErr, option_map, map};
 ghost use Rattle.std.specs.BTreeMap.{insert_entry, is_at};
@@ -16,8 +16,8 @@ use std::alloc::AllocError;
 use tough_names::TargetName;
 
 impl Targets {
-    /// Lists the target under the name, in the place of one that stands there. Where there is no memory, nothing is
-    /// changed.
+    /// Lists the target under the name, in the place of one that this document lists. When out of memory, it changes
+    /// nothing.
     pub fn add_target(&mut self, name: TargetName, target: Target) -> Result<(), AllocError>
         ensures added { OnOk result
             (tree_doc self.new ≡ with_listing
@@ -29,7 +29,7 @@ impl Targets {
         Ok(())
     }
 
-    /// Takes what this document lists under the name out of it, and gives it back.
+    /// Removes the target that this document lists under the name, and returns it.
     pub fn remove_target(&mut self, name: &TargetName) -> Option<Target>
         ensures removed { tree_doc self.new
             ≡ with_listing (remove_entry
@@ -40,7 +40,7 @@ impl Targets {
         self.targets.remove(name)
     }
 
-    /// Takes all targets out of this document, and out of those below it.
+    /// Removes all targets of this document and of the documents below it.
     #[cycle(clear)]
     pub fn clear_targets(&mut self)
         ensures { tree_doc self.new ≡ cleared (tree_doc self.old) }

@@ -1,4 +1,4 @@
-//! The entries of a tree in preorder.
+//! The delegated roles of a tree in preorder.
 
 ghost use Rattle.std.specs.Prelude.{◌≡◌, ◌++◌, IfOk, OnOk, map};
 ghost use Rattle.tough_schema.specs.Whole.{tree_doc, role_tree, role_branches};
@@ -56,7 +56,7 @@ fn add_role<'a>(
 }
 
 impl Targets {
-    /// The entries of the tree below this document, in preorder.
+    /// The delegated roles below this document, in preorder.
     pub fn entries(&self, alloc: Global) -> Result<Vec<&DelegatedRole>, AllocError>
         ensures { IfOk result (λ v. shown v.items ≡ entries (tree_doc self.now)) }
     {
@@ -65,7 +65,7 @@ impl Targets {
         Ok(found)
     }
 
-    /// The names of the entries of the tree below this document, in preorder.
+    /// The names of the delegated roles below this document, in preorder.
     pub fn role_names(&self, alloc: Global) -> Result<Vec<&str>, AllocError>
         ensures { IfOk result (λ v. map (λ n. n.now) v.items ≡ entry_names (tree_doc self.now)) }
     {

@@ -1,4 +1,4 @@
-//! The steps by which a tree is dropped.
+//! Dropping a tree without recursion.
 
 ghost use Rattle.std.specs.Prelude.{◌≡◌, ◌<◌, ◌≤◌, ◌++◌, ◌⊎◌, [], IfSome};
 ghost use Rattle.tough_schema.specs.Falling.{depth, deepest};
@@ -7,7 +7,7 @@ use crate::delegations::DelegatedRole;
 use crate::targets::{DelegatedTargets, Targets};
 use tough_roles::Signed;
 
-/// The roles below a role, where it has a document that delegates; all else of it is dropped.
+/// The roles below a role, if it has a document that delegates. The rest of the role is dropped.
 pub(crate) fn roles_below(role: DelegatedRole) -> Option<Vec<DelegatedRole>>
     ensures { IfSome result (λ rs. deepest rs.items < depth role) }
 {
@@ -43,7 +43,7 @@ pub(crate) fn roles_below(role: DelegatedRole) -> Option<Vec<DelegatedRole>>
     }
 }
 
-/// Both lists in one; where there is no memory for that, as they are.
+/// Both lists in one. When out of memory, both stay as they are.
 pub(crate) fn joined(
     mut first: Vec<DelegatedRole>,
     mut second: Vec<DelegatedRole>,

@@ -18,10 +18,10 @@ pub struct Measured {
     pub sha256: [u8; 32],
 }
 
-/// Why a file isn't taken as a target.
+/// Why a file can't be a target.
 #[derive(Clone, Copy, Debug, PartialEq, Eq, Drop, Error)]
 pub enum FileError {
-    /// Nothing is found at the path.
+    /// Nothing stands at the path.
     #[error("Failed to open the file")]
     FileOpen,
     /// What stands there is no file.
@@ -36,7 +36,7 @@ pub enum FileError {
 }
 
 impl FileError {
-    /// The same for documents, with the path of the file.
+    /// The error of the schema, with the path of the file.
     pub fn at(self, path: String) -> schema::Error
         ensures { result ≡ file_error self path }
     {
@@ -49,7 +49,7 @@ impl FileError {
     }
 }
 
-// What was read of a file so far.
+// The length and the digest of the bytes that were read so far.
 #[derive(Drop)]
 struct Reading {
     hasher: Sha256,
@@ -71,7 +71,7 @@ fn look<F: Files>(files: &mut F, path: &str) -> Result<(), FileError>
     }
 }
 
-// Reads on, and says how many bytes; none at the end.
+// Reads the next bytes, and returns how many; 0 at the end.
 fn feed<F: Files>(files: &mut F, path: &str, reading: &mut Reading) -> Result<usize, FilesError>
     ensures feeds { (bytes : List ℕ) → F.tells ≡ true
         → there path.now (F.contents files.old) ≡ Some (file bytes) → HasRead bytes reading.old

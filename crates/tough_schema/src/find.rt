@@ -29,7 +29,7 @@ impl DelegatedRole {
     }
 }
 
-// What the search answers in a document, its listing first.
+// Searches a document: its own targets first.
 #[cycle(find)]
 fn find_in<'a>(
     alloc: Global,
@@ -50,7 +50,7 @@ fn find_in<'a>(
     }
 }
 
-// What the search answers among roles, each with what is below it before the next.
+// Searches roles: each one with the roles below it, before the next.
 #[cycle(find)]
 fn find_among<'a>(
     alloc: Global,
@@ -71,7 +71,7 @@ fn find_among<'a>(
     Ok(Found::Passed)
 }
 
-// What the search answers at a role.
+// Searches a role.
 #[cycle(find)]
 fn find_at<'a>(
     alloc: Global,
@@ -90,7 +90,7 @@ fn find_at<'a>(
     find_below(alloc, role, name, permissive, visited)
 }
 
-// What the search answers below a role that has been visited.
+// Searches the document of a role that has been visited.
 #[cycle(find)]
 fn find_below<'a>(
     alloc: Global,
@@ -115,8 +115,9 @@ fn find_below<'a>(
 }
 
 impl Targets {
-    /// The first listing of the name, in this document and then in those of the roles that the search reaches; a search
-    /// that isn't permissive ends after a terminating role. The refusal is `TargetNotFound`.
+    /// Searches for the target of the name (section 5.6): in this document, then in preorder in the documents of the roles
+    /// whose path sets match. A search that isn't permissive ends after a terminating role. `TargetNotFound` if no
+    /// document that it reaches lists the name.
     pub fn find_target(
         &self,
         alloc: Global,

@@ -1,4 +1,4 @@
-//! The target that a file is.
+//! Targets of files.
 
 ghost use Rattle.std.specs.Prelude.{◌≡◌, true};
 ghost use Rattle.tough_files.specs.Contents.{Same};
@@ -14,7 +14,7 @@ use tough_files::Files;
 use tough_roles::Hashes;
 
 impl Target {
-    /// The target that the file at the path is, links followed: its length and its SHA-256. The refusals, in this order:
+    /// The target of the file at the path, with its length and its SHA-256. Links are followed. The errors, in this order:
     /// `FileOpen`, `TargetNotAFile`, `FileRead`.
     pub fn from_path<F: Files>(
         alloc: Global,

@@ -1,7 +1,7 @@
 use crate::delegations::Delegations;
 use tough_roles::Root;
 
-/// Who lists the keys of a role, and which of them sign it.
+/// The document that lists the keys of a role: a root, or the delegations of a targets document.
 #[derive(Debug, Drop, PartialEq)]
 pub enum KeyHolder {
     Delegations(Delegations),

@@ -1,4 +1,4 @@
-//! What the definitions promise of every value.
+//! Theorems about the definitions.
 
 ghost use Rattle.std.specs.Prelude.{◌≡◌, ◌↔◌, ℕ, List, None, Some, true, chars, option_and_then};
 ghost use Rattle.jiff_core.specs.Timestamp.{IsTimestampNanos};
@@ -16,13 +16,13 @@ ghost use Rattle.tough_schema.specs.Matching.{pattern_matches};
 ghost use Rattle.tough_schema.specs.Targets.{TargetsDoc, KeysAreOwn, AreSorted, targets_at, targets_json};
 ghost use Rattle.tough_schema.specs.Whole.{TreeDoc, TellsItsTop};
 
-/// A pattern is found to match exactly where its grammar says that it does.
+/// A pattern matches exactly where its grammar says that it does.
 pub fn patterns_match_exactly()
     ensures { (resolved p : List ℕ)
         → (pattern_matches resolved p ≡ true) ↔ Matches (chars p) (chars resolved) }
 {}
 
-/// The text of signed targets, whose keys stand under their own identifiers, is read as them.
+/// The text of signed targets is read back as these targets, if each key stands under its own identifier.
 pub fn targets_reads_back()
     ensures { (s : SignedDoc TargetsDoc) (d : Data.Data) (text : List ℕ)
         → IsTimestampNanos s.role.head.expires → KeysAreOwn s.role.delegations → AreSorted s.role
@@ -30,18 +30,18 @@ pub fn targets_reads_back()
         → option_and_then (signed_at targets_at) (json_of text) ≡ Some s }
 {}
 
-/// What a document says for itself is the top of its tree.
+/// A document without the documents below it is the top of its tree.
 pub fn trees_tell_their_top()
     ensures { TellsItsTop }
 {}
 
-/// A tree is valid where no listed name is missing.
+/// A tree is valid if the search finds each listed name.
 pub fn valid_where_none_is_missing()
     ensures { (t : TreeDoc) → IsValid t ↔ (first_missing t ≡ None) }
 {}
 
-/// The roles that a search for a name reaches are those whose path set matches, which stand below reached roles alone,
-/// and whose name no earlier reached role has.
+/// A search for a name reaches the roles whose path set matches, that stand below reached roles alone, and whose name
+/// no role has that was reached before.
 pub fn searches_reach_exactly()
     ensures { (name : Named) (t : TreeDoc) → ReachesExactly name t }
 {}

@@ -1,4 +1,4 @@
-//! Delegated roles by name, lent for writing.
+//! Delegated roles by name, for writing.
 
 ghost use Rattle.std.specs.Prelude.{◌≡◌, Some, None, IfOk, IfErr, IfSome, IfNone, option_map};
 ghost use Rattle.tough_schema.specs.Whole.{tree_doc, role_tree, role_branches, held_doc};
@@ -58,7 +58,7 @@ fn lend_at<'a>(role: &'a mut DelegatedRole, name: &str) -> Option<&'a mut Delega
 }
 
 impl Targets {
-    /// The role that `delegated_role` answers, for writing; its refusals.
+    /// The role that `delegated_role` returns, for writing. Its errors.
     pub fn delegated_role_mut(
         &mut self,
         alloc: Global,
@@ -78,7 +78,7 @@ impl Targets {
         }
     }
 
-    /// The document that `delegated_targets` answers, for writing; its refusals.
+    /// The document that `delegated_targets` returns, for writing. Its errors.
     pub fn delegated_targets_mut(
         &mut self,
         alloc: Global,

@@ -30,6 +30,7 @@ mod write_delegations;
 mod write_target;
 mod write_targets;
 
+pub use copy::copy_listing;
 pub use delegations::{DelegatedRole, Delegations, PathSet};
 pub use file_digest::FileError;
 pub use key_holder::KeyHolder;

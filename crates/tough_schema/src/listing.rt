@@ -1,4 +1,4 @@
-//! What the documents of a tree list.
+//! The targets that the documents of a tree list.
 
 ghost use Rattle.std.specs.Prelude.{◌≡◌, ◌++◌, [], None, IfOk, IfErr, OnOk, map};
 ghost use Rattle.tough_schema.specs.Target.{target_doc};
@@ -44,8 +44,8 @@ fn add_document<'a>(
 }
 
 impl Targets {
-    /// What the documents of the tree list: this one before all, then those of the entries in preorder, each in the
-    /// order of its names.
+    /// The targets of the tree: of this document, then of the delegated roles' documents in preorder, each in the order
+    /// of its names.
     pub fn targets_iter(&self, alloc: Global) -> Result<Vec<(&TargetName, &Target)>, AllocError>
         ensures { IfOk result (λ v. listed_docs v.items ≡ all_listed (tree_doc self.now)) }
     {
@@ -58,7 +58,7 @@ impl Targets {
         Ok(found)
     }
 
-    /// The same as a map, where a later listing takes the place of an earlier one.
+    /// The targets of the tree as a map, in which a later target takes the place of an earlier one with its name.
     pub fn targets_map(&self, alloc: Global) -> Result<BTreeMap<TargetName, &Target>, AllocError>
         ensures { IfOk result (λ m. map_docs m.entries
             ≡ merged_into [] (all_listed (tree_doc self.now))) }
@@ -72,8 +72,8 @@ impl Targets {
         Ok(found)
     }
 
-    /// Whether each listed name is found by the permissive search; else `TargetNotFound` with the first that isn't, in
-    /// the order of `targets_iter`.
+    /// Checks that the permissive search finds each listed name. `TargetNotFound` with the first name that it doesn't
+    /// find, in the order of `targets_iter`.
     pub fn validate(&self, alloc: Global) -> Result<(), Error>
         ensures ok { IfOk result (λ u. first_missing (tree_doc self.now) ≡ None) }
         ensures refused { IfErr result (λ e. IsInvalid (tree_doc self.now) e) }

@@ -1,4 +1,4 @@
-//! Which names a path set matches.
+//! Matching names with path sets.
 
 ghost use Rattle.std.specs.Prelude.{◌≡◌, map};
 ghost use Rattle.std.specs.List.{list_any};

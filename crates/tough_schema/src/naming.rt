@@ -8,7 +8,7 @@ use crate::targets::{DelegatedTargets, Targets};
 use tough_roles::Signed;
 
 impl Targets {
-    /// Signed targets as the document of a role of this name.
+    /// Makes these signed targets the document of the delegated role with this name.
     pub fn named(signed: Signed<Targets>, name: String) -> Signed<DelegatedTargets>
         ensures { held_doc result
             ≡ record {
@@ -30,7 +30,7 @@ impl Targets {
 }
 
 impl DelegatedTargets {
-    /// The name of a role's document, and its signed targets.
+    /// Takes a role's document apart: its name, and its signed targets.
     pub fn unnamed(document: Signed<DelegatedTargets>) -> (String, Signed<Targets>)
         ensures { held_doc document
             ≡ record {

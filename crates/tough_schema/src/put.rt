@@ -1,4 +1,4 @@
-//! Roles get other documents.
+//! Replacing the document of a role.
 
 ghost use Rattle.std.specs.Prelude.{◌≡◌, map, OnOk, OnErr, IfErr, IsTrue};
 ghost use Rattle.tough_schema.specs.Put.{with_document, is_role};
@@ -16,13 +16,13 @@ use tough_roles::{Error, Signed};
 enum Left {
     // It has no role yet.
     Holds(Signed<DelegatedTargets>),
-    // A role before its own has no document, in which its own would have to be sought.
+    // A role before its own has no document to search.
     Stopped(Signed<DelegatedTargets>),
     // It has its role.
     Placed,
 }
 
-// The role that `delegated_role` answers by the name gets the document.
+// Gives the document to the role that `delegated_role` returns.
 #[cycle(put)]
 fn put_in(document: &mut Targets, name: &str, new: Signed<DelegatedTargets>) -> Left
     ensures tree { tree_doc document.new
@@ -85,7 +85,7 @@ fn put_at(role: &mut DelegatedRole, name: &str, new: Signed<DelegatedTargets>) -
 }
 
 impl Targets {
-    /// Gives the document to the role that `delegated_role` answers by the name; its refusals, by which nothing is changed.
+    /// Replaces the document of the role that `delegated_role` returns for the name. Its errors, which change nothing.
     pub fn put_document(
         &mut self,
         alloc: Global,

@@ -3,7 +3,7 @@
 ghost use Rattle.std.specs.Prelude.{◌≡◌, map, option_map, string_bytes, IfOk};
 ghost use Rattle.serde_json.specs.View.{view, items_view, members_view};
 ghost use Rattle.tough_json.specs.Reading.{required, optional, listing, all_at, text};
-ghost use Rattle.tough_json.specs.Results.{Reads, Takes};
+ghost use Rattle.tough_json.specs.Results.{Reads, Takes, IsRefusal};
 ghost use Rattle.tough_schema.specs.Paths.{paths_doc, if_pattern, pattern, either_at, paths_at};
 ghost use Rattle.tough_schema.specs.Fresh.{HasNoDocument, AreUnloaded, DelegateUnloaded, MayDelegateUnloaded};
 ghost use Rattle.tough_schema.specs.Delegations.{delegated_role_doc, delegations_doc, delegated_role_at, delegations_at};
@@ -11,24 +11,35 @@ ghost use Rattle.tough_schema.specs.Delegations.{delegated_role_doc, delegations
 use crate::delegations::{DelegatedRole, Delegations, PathSet};
 use serde_json::{Map, Value};
 use std::alloc::Global;
-use tough_json::error::{ReadError, at, member_shape, shape, within};
+use tough_json::error::{ReadError, at, member_shape, missing, shape, within};
 use tough_json::member::{positive, present, take, text, truth};
 use tough_names::{PathHashPrefix, PathPattern, PatternError};
 use tough_roles::read_root::{keyids, keys};
 
-// A text as a pattern.
+// The refusal of a text that is no pattern, with that text.
+fn no_pattern(alloc: Global, text: &str) -> ReadError
+    ensures { IsRefusal result }
+{
+    match format!(in alloc; "(no supported pattern: {text:?})") {
+        Ok(told) => ReadError::Shape(told),
+        Err(_) => ReadError::Memory,
+    }
+}
+
+// Reads a text as a pattern.
 #[tactic(auto, using(crate::proofs::PathLemmas::if_pattern_is))]
 fn pattern_in(alloc: Global, text: String) -> Result<PathPattern, ReadError>
     ensures { Reads (λ p. p) result (if_pattern (string_bytes text)) }
 {
+    let told = text.clone()?;
     match PathPattern::new(alloc, text) {
         Ok(pattern) => Ok(pattern),
         Err(PatternError::Memory) => Err(ReadError::Memory),
-        Err(PatternError::Glob) => Err(shape(alloc, "(no pattern)")),
+        Err(PatternError::Glob) => Err(no_pattern(alloc, told.as_str())),
     }
 }
 
-// A value as a pattern.
+// Reads a value as a pattern.
 fn pattern_of(alloc: Global, value: Value) -> Result<PathPattern, ReadError>
     ensures { Reads (λ p. p) result (pattern (view value)) }
 {
@@ -82,7 +93,7 @@ fn prefixes_of(alloc: Global, values: Vec<Value>) -> Result<Vec<PathHashPrefix>,
     Ok(prefixes)
 }
 
-// What stands under the two names, exactly one of which is there.
+// The value under one of the two names, exactly one of which is there.
 fn either(
     alloc: Global,
     patterns: Option<Value>,
@@ -177,7 +188,8 @@ fn roles(
             Ok(roles) => Ok(roles),
             Err(error) => Err(within(alloc, name, error)),
         },
-        _ => Err(member_shape(alloc, name, "(no list)")),
+        Some(_) => Err(member_shape(alloc, name, "(no list)")),
+        None => Err(missing(alloc, name)),
     }
 }
 

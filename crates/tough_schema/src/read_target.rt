@@ -11,7 +11,7 @@ ghost use Rattle.tough_schema.specs.Target.{target_doc, target_at, custom_at, ob
 use crate::target::Target;
 use serde_json::{Map, Value};
 use std::alloc::Global;
-use tough_json::error::{ReadError, member_shape, shape, within};
+use tough_json::error::{ReadError, member_shape, missing, shape, within};
 use tough_json::member::take;
 use tough_roles::Hashes;
 use tough_roles::read_timestamp::hashes_of;
@@ -21,7 +21,10 @@ fn size(alloc: Global, members: &mut Map<String, Value>, name: &str) -> Result<u
     ensures { Takes (λ n. n) result (members_view members.new.entries)
         (required name.now whole (members_view members.old.entries)) }
 {
-    match take(members, name).and_then(|value| value.as_u64()) {
+    let Some(value) = take(members, name) else {
+        return Err(missing(alloc, name));
+    };
+    match value.as_u64() {
         Some(number) => Ok(number),
         None => Err(member_shape(alloc, name, "(no number from 0 on)")),
     }
@@ -37,7 +40,7 @@ fn hashes(alloc: Global, members: &mut Map<String, Value>, name: &str) -> Result
             Ok(hashes) => Ok(hashes),
             Err(error) => Err(within(alloc, name, error)),
         },
-        None => Err(member_shape(alloc, name, "(missing)")),
+        None => Err(missing(alloc, name)),
     }
 }
 
@@ -60,7 +63,7 @@ fn object_in(alloc: Global, value: Value) -> Result<Map<String, Value>, ReadErro
     }
 }
 
-// What an application says of the target, which may be absent.
+// The application's own members of the target, which may be absent.
 fn custom(alloc: Global, members: &mut Map<String, Value>) -> Result<Map<String, Value>, ReadError>
     ensures { Takes (λ m. members_view m.entries) result (members_view members.new.entries)
         (custom_at (members_view members.old.entries)) }
@@ -70,7 +73,7 @@ fn custom(alloc: Global, members: &mut Map<String, Value>) -> Result<Map<String,
     Ok(custom)
 }
 
-/// The target that the value is; `Shape` where it is none.
+/// Reads a target. `Shape` if the value is none.
 #[tactic(auto, unfolding(crate::specs::Target::target_at))]
 pub(crate) fn target_of(alloc: Global, value: Value) -> Result<Target, ReadError>
     ensures { Reads target_doc result (target_at (view value)) }

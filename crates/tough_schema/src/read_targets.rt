@@ -41,7 +41,7 @@ fn entry(alloc: Global, raw: &str, value: Value) -> Result<(TargetName, Target),
     }
 }
 
-// A member as a target under its name, of which alone a value is made.
+// A member as a target under its name; only for this member a value is made.
 fn entry_in(
     alloc: Global,
     raw: &str,
@@ -114,7 +114,7 @@ fn targets_around(
 }
 
 #[tactic(auto, unfolding(crate::specs::Targets::targets_at))]
-/// The targets that the JSON is; `Shape` where it is none. A value is made of one target at a time.
+/// Reads targets. `Shape` if the JSON is none. One target's value is made at a time.
 pub(crate) fn targets_in(alloc: Global, value: Borrowed<'_>) -> Result<Targets, ReadError>
     ensures read { (d : Data) → of_json (value_view value.entry) ≡ Some d
         → Reads targets_doc result (targets_at d) }

@@ -10,18 +10,18 @@ use crate::targets::{DelegatedTargets, Targets};
 use std::alloc::Global;
 use tough_roles::{Error, Signed};
 
-/// What seeking a name comes to.
+/// The result of a search for a role.
 #[derive(Drop)]
 pub enum Seen<'a> {
     /// The role.
     Found(&'a DelegatedRole),
     /// No role has the name, or there are no delegations.
     Missing,
-    /// A role before it has no document, in which it would have to be sought.
+    /// A role before it has no document to search.
     Undocumented,
 }
 
-// Where an entry of a name stands: among the roles at hand, or under delegations below them.
+// Where the first entry of a name stands: in this list, or in delegations below it.
 #[derive(Drop)]
 enum Place<'a> {
     Here,
@@ -39,7 +39,7 @@ fn if_found<'a>(seen: Seen<'a>) -> Option<Seen<'a>>
     }
 }
 
-/// What seeking the name comes to in a document.
+/// Searches a document for the role.
 #[cycle(seek)]
 pub fn seek_in<'a>(document: &'a Targets, name: &str) -> Seen<'a>
     ensures { seen_of result ≡ seek_in name.now (tree_doc document.now) }
@@ -63,7 +63,7 @@ fn seek_among<'a>(roles: &'a [DelegatedRole], name: &str) -> Seen<'a>
     Seen::Missing
 }
 
-/// What seeking the name comes to at a role; none where the roles after it are to be looked at.
+/// Searches a role and the roles below it. None if the search continues with the next role.
 #[cycle(seek)]
 pub fn seek_at<'a>(role: &'a DelegatedRole, name: &str) -> Option<Seen<'a>>
     ensures { option_map seen_of result ≡ step_at name.now (role_tree role.now) }
@@ -126,9 +126,9 @@ fn parent_at<'a>(role: &'a DelegatedRole, name: &str) -> Option<Place<'a>>
 }
 
 impl Targets {
-    /// The role of the name, which is sought list by list: a role of the own list, else what is found below it. The
-    /// refusals: `NoDelegations` without delegations, `NoTargets` at a role of the own list that has another name and
-    /// no document, else `RoleNotFound`.
+    /// The delegated role with the name: one of this document's own list, else one below it, in preorder. The errors:
+    /// `NoDelegations` without delegations, `NoTargets` at a role before it that has no document to search, else
+    /// `RoleNotFound`.
     pub fn delegated_role(&self, alloc: Global, name: &str) -> Result<&DelegatedRole, Error>
         ensures found { IfOk result
             (λ r. sought name.now (tree_doc self.now) ≡ found (role_tree r.now)) }
@@ -147,7 +147,7 @@ impl Targets {
         }
     }
 
-    /// The document of the role that `delegated_role` answers; its refusals, and `NoTargets` where there is none.
+    /// The document of the role that `delegated_role` returns. Its errors, and `NoTargets` if the role has no document.
     pub fn delegated_targets(
         &self,
         alloc: Global,
@@ -167,7 +167,7 @@ impl Targets {
         }
     }
 
-    /// The delegations in which the first entry of the name stands, in preorder; else `RoleNotFound`.
+    /// The delegations that list the role: the first in preorder. `RoleNotFound` if no role has the name.
     pub fn parent_of(&self, alloc: Global, name: &str) -> Result<&Delegations, Error>
         ensures found { IfOk result
             (λ g. parent name.now (tree_doc self.now) ≡ Some (delegations_tree g.now)) }

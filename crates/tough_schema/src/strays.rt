@@ -1,4 +1,4 @@
-//! The listed names of which the way to their document doesn't tell that a search finds them.
+//! The listed names that a search may not find: the roles above their document don't all match them.
 
 ghost use Rattle.std.specs.Prelude.{◌≡◌, ◌++◌, true, false, IfOk, OnOk};
 ghost use Rattle.tough_names.specs.Named.{Named};
@@ -23,7 +23,7 @@ fn all_match(above: &[&DelegatedRole], name: &TargetName) -> bool
     above.iter().all(|role| role.matches(name))
 }
 
-// Whether two path sets are one.
+// Whether two path sets are equal.
 fn same_paths(one: &PathSet, other: &PathSet) -> bool
     ensures { result ≡ true → paths_doc one.now ≡ paths_doc other.now }
 {
@@ -64,7 +64,7 @@ fn add_strays<'a>(
     Ok(())
 }
 
-// Adds those of a document, and of the documents below it. The way is open where each role above is the first of its
+// Adds those of a document, and of the documents below it. The way is open if each role above is the first with its
 // name.
 #[cycle(stray)]
 fn strays_in<'a>(
@@ -148,8 +148,8 @@ fn strays_at<'a>(
 }
 
 impl Targets {
-    /// The listed names that a search may not find, in the order of `targets_iter`: a role on the way to their document
-    /// doesn't match them, or isn't the first of its name. The search finds all others.
+    /// The listed names that a search may not find, in the order of `targets_iter`: a role above their document doesn't
+    /// match them, or isn't the first with its name. The search finds all others.
     pub(crate) fn strays(&self, alloc: Global) -> Result<Vec<&TargetName>, AllocError>
         ensures { IfOk result (λ v. names_of v.items
             ≡ strays_below no_names any_name (tree_doc self.now)) }

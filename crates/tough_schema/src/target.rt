@@ -1,7 +1,7 @@
 use serde_json::{Map, Value};
 use tough_roles::Hashes;
 
-/// What is said of a target file: its length, its digest, and what an application says of it (TUF specification 1.0,
+/// The metadata of a target file: its length, its digest, and the application's own members (TUF specification 1.0,
 /// section 4.5, TARGETS).
 #[derive(Debug, Drop, PartialEq)]
 pub struct Target {

@@ -23,7 +23,7 @@ use tough_names::{TargetName, encode_filename};
 use tough_roles::names::file_name;
 use tough_roles::{Role, RoleId, RoleType};
 
-/// Which targets there are, and who else may list some (TUF specification 1.0, section 4.5).
+/// The targets that a document lists, and the roles that it delegates to (TUF specification 1.0, section 4.5).
 #[derive(Debug, Drop, PartialEq)]
 #[cycle(tree)]
 pub struct Targets {
@@ -35,7 +35,7 @@ pub struct Targets {
     pub _extra: Map<String, Value>,
 }
 
-/// The document of a delegated role, under the role's name. Its JSON is that of the targets; it hasn't the name.
+/// The document of a delegated role, with the role's name. Its JSON is the JSON of the targets, without the name.
 #[derive(Debug, Drop, PartialEq)]
 #[cycle(tree)]
 pub struct DelegatedTargets {
@@ -71,7 +71,7 @@ impl Targets {
 }
 
 impl Targets {
-    /// The targets that the bytes are; `Json` where they are no JSON, `Shape` where that is none.
+    /// Reads targets. `Json` if the bytes are no JSON, `Shape` if the JSON is no targets document.
     pub fn read(alloc: Global, bytes: &[u8]) -> Result<Targets, ReadError>
         ensures read { ReadsBytes targets_doc result bytes.now targets_at }
         ensures fresh { IfOk result IsFresh }
@@ -85,8 +85,8 @@ impl Targets {
 }
 
 impl DelegatedTargets {
-    /// The document of a delegated role that the bytes are, under the empty name, since the JSON hasn't the name;
-    /// `Json` where they are no JSON, `Shape` where that is none.
+    /// Reads the document of a delegated role, with the empty name, since the JSON has none. `Json` if the bytes are no
+    /// JSON, `Shape` if the JSON is no targets document.
     pub fn read(alloc: Global, bytes: &[u8]) -> Result<DelegatedTargets, ReadError>
         ensures read { ReadsBytes delegated_doc result bytes.now targets_at }
         ensures fresh { IfOk result IsFreshDelegated }
@@ -220,7 +220,7 @@ impl Role for DelegatedTargets {
         )
     }
 
-    // The role that is named `targets` is the top-level one.
+    // The role with the name `targets` is the top-level one.
     fn role_id(&self) -> Result<RoleId, AllocError> {
         if self.name.as_str() == "targets" {
             return Ok(RoleId::StandardRole(RoleType::Targets));

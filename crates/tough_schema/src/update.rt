@@ -1,4 +1,4 @@
-//! The documents of roles that are taken over from an older tree.
+//! Taking the documents of roles over from an older tree.
 
 ghost use Rattle.std.specs.Prelude.{◌≡◌, ◌++◌, IfOk, OnOk, OnErr, map, option_map, string_bytes};
 ghost use Rattle.tough_schema.specs.Whole.{tree_doc, role_tree, held_doc};
@@ -11,7 +11,7 @@ use crate::targets::{DelegatedTargets, Targets};
 use std::alloc::{AllocError, Global};
 use tough_roles::Signed;
 
-// The document of the role that `delegated_role` answers, if that has one.
+// The document of the role that `delegated_role` returns, if it has one.
 fn document_of<'a>(targets: &'a Targets, name: &str) -> Option<&'a Signed<DelegatedTargets>>
     ensures { option_map (λ s. held_doc s.now) result
         ≡ document_sought name.now (tree_doc targets.now) }
@@ -127,9 +127,8 @@ fn give_below(document: &mut Targets, documents: Vec<Option<Signed<DelegatedTarg
 }
 
 impl Targets {
-    /// Gives each role that the new document lists a copy of the document of the role that `delegated_role` answers by
-    /// its name, where there is one. What comes back are the names of the others, in their order. Where there is no
-    /// memory, nothing is changed.
+    /// Gives each role that the new document lists a copy of the document that this tree has for the role's name. Returns
+    /// the names of the roles for which it has none, in their order. When out of memory, it changes nothing.
     pub fn update_targets(
         &self,
         alloc: Global,

@@ -1,4 +1,4 @@
-//! Whether a delegated role's document is signed by enough keys.
+//! Verifying the documents of delegated roles.
 
 ghost use Rattle.std.specs.Prelude.{◌≡◌, Some, None, IfOk, option_map, map};
 ghost use Rattle.tough_roles.specs.Root.{role_keys_doc};
@@ -16,7 +16,7 @@ use tough_roles::verify::verify_by;
 use tough_roles::{Error, Role, RoleKeys, Signed};
 
 impl DelegatedRole {
-    /// The identifiers that the role lists, and how many of them must sign.
+    /// The identifiers of the role's keys, and its threshold.
     pub fn keys(&self, alloc: Global) -> Result<RoleKeys, AllocError>
         ensures { IfOk result (λ k. role_keys_doc k ≡ role_keys (delegated_role_doc self.now)) }
     {
@@ -28,7 +28,7 @@ impl DelegatedRole {
     }
 }
 
-// The first role of the name.
+// The first role with the name.
 fn first_named<'a>(roles: &'a [DelegatedRole], name: &str) -> Option<&'a DelegatedRole>
     ensures { option_map (λ r. delegated_role_doc r.now) result
         ≡ role_named name.now (map delegated_role_doc roles.now) }
@@ -41,7 +41,7 @@ fn first_named<'a>(roles: &'a [DelegatedRole], name: &str) -> Option<&'a Delegat
     None
 }
 
-// The verdict on the document's signatures under the first role of the name.
+// The verdict on the document's signatures, by the first role with the name.
 fn answer<T: Role, V: Verify>(
     alloc: Global,
     delegations: &Delegations,
@@ -65,7 +65,7 @@ fn answer<T: Role, V: Verify>(
 }
 
 impl Delegations {
-    /// The first role of the name.
+    /// The first role with the name.
     pub fn first_role(&self, name: &str) -> Option<&DelegatedRole>
         ensures { option_map (λ r. delegated_role_doc r.now) result
             ≡ role_named name.now (delegations_doc self.now).roles }
@@ -73,7 +73,7 @@ impl Delegations {
         first_named(&self.roles, name)
     }
 
-    /// Whether the document's signatures reach the threshold of the first role of the name. The refusals, in this order:
+    /// Checks that the document's signatures reach the threshold of the first role with the name. The errors, in this order:
     /// `RoleNotFound`, `JsonSerialization`, `DuplicateKeyId`, `SignatureThreshold`.
     pub fn verify_role<T: Role, V: Verify>(
         &self,

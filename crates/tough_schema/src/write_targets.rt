@@ -131,8 +131,8 @@ fn listing_text(
     Ok(text)
 }
 
-/// The text of the targets' JSON, written target by target. `Refused` where a member's name, of the listing or of the
-/// document, isn't ASCII, is empty or has a control character, a quote or a backslash, and where there is no text.
+/// Writes the targets' JSON target by target. `Refused` if a member's name, in the listing or in the document, isn't
+/// ASCII, is empty or has a control character, a quote or a backslash, and if there is no text.
 pub(crate) fn targets_text(
     alloc: Global,
     targets: &Targets,

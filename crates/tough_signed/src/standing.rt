@@ -2,29 +2,17 @@
 
 ghost use Rattle.std.specs.Prelude.{◌≡◌, IfOk, IfErr, map, option_map};
 ghost use Rattle.tough_schema.specs.Delegations.{delegated_role_doc, delegations_doc};
-ghost use Rattle.tough_schema.specs.Targets.{listing_doc, targets_doc};
+ghost use Rattle.tough_schema.specs.Targets.{targets_doc};
 ghost use Rattle.tough_schema.specs.Whole.{role_tree, held_doc};
 ghost use Rattle.tough_signed.specs.Standing.{IsAlone, IsStanding, IsUnfiledAlone};
 
 use crate::error::EditError;
 use crate::signed_role::SignedRole;
 use std::alloc::{AllocError, Global};
-use std::collections::BTreeMap;
 use tough_keys::clone::copy;
-use tough_names::TargetName;
 use tough_roles::Signed;
 use tough_roles::clone::{copy_keyids, copy_keys, copy_signatures};
-use tough_schema::{DelegatedRole, DelegatedTargets, Delegations, Target, Targets};
-
-// The same targets under the same names.
-fn copy_listing(
-    targets: &BTreeMap<TargetName, Target>,
-) -> Result<BTreeMap<TargetName, Target>, AllocError>
-    ensures { IfOk result (λ m. listing_doc m.entries ≡ listing_doc targets.now.entries) }
-{
-    let copies = targets.clone()?;
-    Ok(copies)
-}
+use tough_schema::{DelegatedRole, DelegatedTargets, Delegations, Targets, copy_listing};
 
 // The role without its document.
 fn bare_role(role: &DelegatedRole) -> Result<DelegatedRole, AllocError>

@@ -172,7 +172,7 @@ fn of_paths(path: String, name: &str) -> Option<Error> {
         "TargetNameRootMissing" => Error::TargetNameRootMissing { name: path },
         "FileParseJson" => Error::FileParseJson {
             path,
-            source: ReadError::Json,
+            source: ReadError::Json(7),
         },
         _ => return None,
     })
@@ -207,7 +207,7 @@ fn of_documents(name: &str) -> Option<Error> {
     };
     Some(match name {
         "ParseTrustedMetadata" => Error::ParseTrustedMetadata {
-            source: ReadError::Json,
+            source: ReadError::Json(7),
         },
         "VerifyTrustedMetadata" => Error::VerifyTrustedMetadata { source },
         "VerifyMetadata" => Error::VerifyMetadata {

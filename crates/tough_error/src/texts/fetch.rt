@@ -5,12 +5,16 @@ ghost use Rattle.tough_error.specs.Kinds.{kind_of};
 use crate::error::Error;
 use crate::kind::ErrorKind;
 use std::fmt::{self, Formatter, Write};
+use tough_net::Shown;
 
 pub(crate) fn tell<W: Write>(error: &Error, f: &mut Formatter<W>) -> fmt::Result
     requires { kind_of error.now ≡ ErrorKind.Fetch }
 {
     match error {
-        Error::ParseUrl { url, source } => write!(f, "Failed to parse URL \"{url}\": {source}"),
+        Error::ParseUrl { url, source } => {
+            let url = Shown(url.as_str());
+            write!(f, "Failed to parse URL \"{url}\": {source}")
+        }
         Error::JoinUrl { path, source } => write!(
             f,
             "Failed to join '{path}' to the base URL: {source}"

@@ -5,6 +5,7 @@ ghost use Rattle.tough_error.specs.Kinds.{kind_of};
 use crate::error::Error;
 use crate::kind::ErrorKind;
 use std::fmt::{self, Formatter, Write};
+use tough_net::Shown;
 
 pub(crate) fn tell<W: Write>(error: &Error, f: &mut Formatter<W>) -> fmt::Result
     requires { kind_of error.now ≡ ErrorKind.File }
@@ -47,10 +48,10 @@ pub(crate) fn tell<W: Write>(error: &Error, f: &mut Formatter<W>) -> fmt::Result
             f,
             "Error creating the directory '{path}': {source}"
         ),
-        Error::CacheFileRead { url, source } => write!(
-            f,
-            "Error reading data from '{url}': {source}"
-        ),
+        Error::CacheFileRead { url, source } => {
+            let url = Shown(url.as_str());
+            write!(f, "Error reading data from '{url}': {source}")
+        }
         Error::CacheFileWrite { path, source } => write!(
             f,
             "Error writing data to '{path}': {source}"

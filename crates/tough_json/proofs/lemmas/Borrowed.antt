@@ -57,7 +57,7 @@ member_turn xs i x d found h is e = at_drop_more (λ ys. of_members (json_member
 -- ---- the whole text
 
 pub refused-bytes : (e : ReadError) (text bytes : List ℕ) → text ≡ bytes → RefusesDocument e text → RefusesJson e bytes
-refused-bytes errors.Json text bytes same r = json_of-none bytes (λ u. ap read (sym same) ∙ r)
+refused-bytes (errors.Json place) text bytes same r = json_of-none bytes (λ u. ap read (sym same) ∙ r)
 refused-bytes (errors.Shape s) text bytes same r = r
 refused-bytes errors.Memory text bytes same r = tt
 
@@ -267,12 +267,12 @@ value-later (json.member l i js) found ms k j h e =
     value_later_at (last_member k js) (bytes_eq l k) i j d.0 d.1 e (λ x is. value-later js (put l d.0 found) ms k x d.2 is)
 
 pub refused-member : (e : ReadError) (name : List ℕ) (ms : Members) → IsRefusal e → get_member name ms ≡ None → RefusesMember name ms e
-refused-member errors.Json name ms is none = is
+refused-member (errors.Json place) name ms is none = is
 refused-member (errors.Shape s) name ms is none = none
 refused-member errors.Memory name ms is none = tt
 
 pub refused-others : (e : ReadError) (name : List ℕ) (ms left : Members) → Refuses e (Some left) → RefusesMember name ms e
-refused-others errors.Json name ms left is = is
+refused-others (errors.Json place) name ms left is = is
 refused-others (errors.Shape s) name ms left is = cc
 refused-others errors.Memory name ms left is = tt
 

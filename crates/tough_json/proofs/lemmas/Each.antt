@@ -73,7 +73,7 @@ insert_entry-next es done e left v same h =
 
 -- a refusal of a part refuses the whole
 pub refuses-map : {X Y : Type 0} (part : Option X) (whole : Option Y) (e : ReadError) → (part ≡ None → whole ≡ None) → Refuses e part → Refuses e whole
-refuses-map part whole errors.Json h r = r
+refuses-map part whole (errors.Json place) h r = r
 refuses-map part whole (errors.Shape s) h r = h r
 refuses-map part whole errors.Memory h r = r
 

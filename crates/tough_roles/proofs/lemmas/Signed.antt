@@ -49,25 +49,25 @@ signed-refused f d (inr (role, ss, found, none)) = rw (found, none) refl
 -- ---- what is refused
 
 pub no-parts : (refused : Data → Type 0) (e : ReadError) (d : Data) → Refuses e (signed_parts d) → RefusesValue (IsNotSigned refused) e d
-no-parts refused errors.Json d h = h
+no-parts refused (errors.Json place) d h = h
 no-parts refused (errors.Shape s) d h = inl h
 no-parts refused errors.Memory d h = tt
 
 pub no-role : (refused : Data → Type 0) (e : ReadError) (d role : Data) (ss : List SignatureDoc) → signed_parts d ≡ Some (role, ss) → RefusesValue refused e role → RefusesValue (IsNotSigned refused) e d
-no-role refused errors.Json d role ss found h = h
+no-role refused (errors.Json place) d role ss found h = h
 no-role refused (errors.Shape s) d role ss found h = inr (role, ss, found, h)
 no-role refused errors.Memory d role ss found h = tt
 
 -- what is told under a name is refused as before
 pub value-under : (refused : Data → Type 0) (name : List ℕ) (e f : ReadError) (d : Data) → TellsUnder name e f → RefusesValue refused e d → RefusesValue refused f d
-value-under refused name errors.Json f d t r = absurd r
-value-under refused name (errors.Shape told) errors.Json d t r = t
+value-under refused name (errors.Json place) f d t r = absurd r
+value-under refused name (errors.Shape told) (errors.Json place) d t r = t
 value-under refused name (errors.Shape told) (errors.Shape text) d t r = r
 value-under refused name (errors.Shape told) errors.Memory d t r = tt
 value-under refused name errors.Memory f d t r = subst (λ z. RefusesValue refused z d) (sym t) tt
 
 pub read-text : {X : Type 0} (is : Data → X → Type 0) (refused : Data → Type 0) (r : Result X ReadError) (d : Data) (bytes : List ℕ) → json_of bytes ≡ Some d → ReadsValue is refused r d → ReadsText is refused r bytes
 read-text is refused (Ok x) d bytes e h = (d, e, h)
-read-text is refused (Err errors.Json) d bytes e h = absurd h
+read-text is refused (Err (errors.Json place)) d bytes e h = absurd h
 read-text is refused (Err (errors.Shape s)) d bytes e h = (d, e, h)
 read-text is refused (Err errors.Memory) d bytes e h = tt
