@@ -16,9 +16,7 @@ use std::collections::BTreeMap;
 use tough_keys::clone::copy;
 use tough_names::TargetName;
 use tough_roles::clone::copy_keys;
-use tough_schema::{
-    DelegatedRole, DelegatedTargets, Delegations, Target, Targets, copy_listing,
-};
+use tough_schema::{DelegatedRole, DelegatedTargets, Delegations, Target, Targets, copy_listing};
 use tough_signed::EditError;
 
 // Lists a copy of the target, in the place of one of the name.

@@ -90,8 +90,8 @@ fn feed<F: Files>(files: &mut F, path: &str, reading: &mut Reading) -> Result<us
     Ok(n)
 }
 
-// Reads the file to its end.
-fn read_all<F: Files>(files: &mut F, path: &str) -> Result<Measured, FilesError>
+/// The length and the digest of the file at the path, by reads alone. `Failed` also if the file has more bytes than a `u64` counts.
+pub fn read_all<F: Files>(files: &mut F, path: &str) -> Result<Measured, FilesError>
     ensures measured { (bytes : List ℕ) → F.tells ≡ true
         → there path.now (F.contents files.old) ≡ Some (file bytes) → MeasuresFile bytes result }
     ensures calls { F.tells ≡ true
@@ -113,7 +113,7 @@ fn read_all<F: Files>(files: &mut F, path: &str) -> Result<Measured, FilesError>
     Err(FilesError::Failed)
 }
 
-/// The length and the digest of the file at the path, links followed.
+/// The length and the digest of the file at the path, links followed. The errors, in this order: `FileOpen`, `TargetNotAFile`, `FileRead`.
 pub fn measure<F: Files>(files: &mut F, path: &str) -> Result<Measured, FileError>
     ensures measured { F.tells ≡ true → Measures (there path.now (F.contents files.old)) result }
     ensures calls { F.tells ≡ true

@@ -6,7 +6,7 @@ mod delegations;
 mod edit;
 mod entries;
 mod fall;
-mod file_digest;
+pub mod file_digest;
 mod find;
 mod from_path;
 mod held;
