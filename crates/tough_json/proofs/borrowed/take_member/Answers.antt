@@ -14,7 +14,7 @@ returns-in-Some c = λ ms h.
     (d.0, d.1, has-last js ms name (json_view c.in-Some.value) h last ∙ d.1, search rules)
 
 pub returns-in-None : goal.returns-in-None
-returns-in-None c = λ ms h. refused-member c.member_shape.result c.args.name.now ms c.member_shape.ensures (has-none (json_members c.args.members.items) ms c.args.name.now h (sym c.in-None.ensures))
+returns-in-None c = λ ms h. refused-member c.missing.result c.args.name.now ms c.missing.ensures (has-none (json_members c.args.members.items) ms c.args.name.now h (sym c.in-None.ensures))
 
 pub returns-in-Err : goal.returns-in-Err
 returns-in-Err c = λ ms h. refused-others c.in-Err.error c.args.name.now ms (without c.args.name.now ms) (c.in-Err.ensures ms (rw c.deref.ensures.value h))
