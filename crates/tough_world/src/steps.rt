@@ -1,0 +1,48 @@
+//! A step that an update asks for, put on a vault.
+
+ghost use Rattle.std.specs.Prelude.{◌≡◌};
+ghost use Rattle.tough_vault.specs.Vault.{parts_of};
+ghost use Rattle.tough_vault.specs.Act.{Acts};
+ghost use Rattle.tough_trust.specs.View.{act_of};
+
+use std::alloc::Global;
+use tough_roles::Verify;
+use tough_trust::Act;
+use tough_vault::{DocumentName, Receipt, StepError, Store, Vault};
+
+/// Takes the step on the vault.
+pub(crate) fn act_on<S: Store, V: Verify>(
+    vault: &mut Vault<S>,
+    alloc: Global,
+    act: &Act<'_>,
+    verifier: &V,
+) -> Result<Receipt, StepError>
+    ensures { Acts S.tells S.files S.count (V.verifies verifier.now) (act_of act.now)
+        (parts_of vault.old) (parts_of vault.new) result }
+{
+    match act {
+        Act::NoteTime(now) => vault.note_time(*now),
+        Act::PutRoot(root) => vault.put_root(*root),
+        Act::ClearRotated => vault.clear_rotated(),
+        Act::AdvanceTimestamp {
+            root,
+            new,
+            start,
+            enforcement,
+        } => vault.advance_timestamp(*root, *new, *start, *enforcement, verifier),
+        Act::AdvanceSnapshot {
+            root,
+            listed,
+            new,
+            start,
+            enforcement,
+        } => vault.advance_snapshot(*root, *listed, *new, *start, *enforcement, verifier),
+        Act::PutDelegated { name, targets } => vault.put_document(*name, *targets),
+        Act::PutTargets(targets) => {
+            let Ok(name) = DocumentName::targets(alloc) else {
+                return Err(StepError::Memory);
+            };
+            vault.put_document(&name, *targets)
+        }
+    }
+}
