@@ -1,2 +1,4 @@
+pub mod Steps
 pub mod Turns
 pub mod View
+pub mod Lives

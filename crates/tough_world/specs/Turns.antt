@@ -1,5 +1,5 @@
 -- Turns of a world: each gives an answer to one update, or puts its step on the one vault.
-use Rattle.std.specs.Prelude.{◌≡◌, ℕ, List, [], ◌∷◌, Option, None, Some, Result, Ok, Err, Bool, true, false, slice_get, slice_set, ⊤}
+use Rattle.std.specs.Prelude.{◌≡◌, ℕ, List, [], ◌∷◌, Option, None, Some, Result, Ok, Err, Bool, true, false, slice_get, slice_set, OnOk, ⊤}
 use Rattle.tough_keys.specs.Same.{Verifies}
 use Rattle.tough_vault.specs.declared.entry.Receipt.{Receipt}
 use Rattle.tough_checks.specs.declared.checks.StepError.{StepError}
@@ -19,6 +19,7 @@ use Rattle.tough_update.specs.Counts.{with_fetch, with_tree}
 use Rattle.tough_update.specs.Machine.{question}
 use Rattle.tough_update.specs.Promises.{Goes, fits_question}
 use Rattle.tough_update.specs.View.{core_doc, counts_of, last_file_of, answer_doc}
+use Rattle.tough_world.specs.Steps.{ReadsBack}
 use Rattle.tough_world.specs.declared.turns.Answer.{Answer}
 use Rattle.tough_world.specs.declared.turns.Answer.TheVariants as by
 use Rattle.tough_world.specs.declared.turns.Turn.{Turn}
@@ -51,9 +52,9 @@ pub record IsAnswered (verifies : Verifies) (old : Core) (a : AnswerDoc) (new : 
   pub file : IsLastFile (file_asked (core_doc old).stage) (last_file_of old) (last_file_of new)
 
 module _ {S : Type 0} (tells : Bool) (files : S → Files) (count : S → ℕ) (verifies : Verifies) where
-  -- the vault took the step, with this answer, its receipt apart
+  -- the vault took the step, with this answer, its receipt apart; what was stored is read as what was given
   abbrev pub Steps : Act → Parts S → Result Unit Failure → Parts S → Type 0
-  Steps act old a new = (r : Result Receipt StepError) × (a ≡ taken r) × Acts tells files count verifies act old new r
+  Steps act old a new = (r : Result Receipt StepError) × (a ≡ taken r) × Acts tells files count verifies act old new r × OnOk r (ReadsBack act)
 
   -- what an update that asked this is answered, and what that leaves of the vault
   abbrev pub Replies : Question → Answer → Parts S → AnswerDoc → Parts S → Type 0

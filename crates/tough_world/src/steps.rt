@@ -1,9 +1,10 @@
 //! A step that an update asks for, put on a vault.
 
-ghost use Rattle.std.specs.Prelude.{◌≡◌};
+ghost use Rattle.std.specs.Prelude.{◌≡◌, OnOk};
 ghost use Rattle.tough_vault.specs.Vault.{parts_of};
 ghost use Rattle.tough_vault.specs.Act.{Acts};
 ghost use Rattle.tough_trust.specs.View.{act_of};
+ghost use Rattle.tough_world.specs.Steps.{ReadsBack};
 
 use std::alloc::Global;
 use tough_roles::Verify;
@@ -17,8 +18,9 @@ pub(crate) fn act_on<S: Store, V: Verify>(
     act: &Act<'_>,
     verifier: &V,
 ) -> Result<Receipt, StepError>
-    ensures { Acts S.tells S.files S.count (V.verifies verifier.now) (act_of act.now)
+    ensures acts { Acts S.tells S.files S.count (V.verifies verifier.now) (act_of act.now)
         (parts_of vault.old) (parts_of vault.new) result }
+    ensures back { OnOk result (ReadsBack (act_of act.now)) }
 {
     match act {
         Act::NoteTime(now) => vault.note_time(*now),

@@ -1,0 +1,321 @@
+-- Runs and lives, as steps on one store.
+use Rattle.std.proofs.Common.{◌≡◌, ℕ, zero, suc, ℤ, List, [], ◌∷◌, ◌++◌, Option, Some, None, Result, Ok, Err, Bool, true, false, slice_get, ◌⊎◌, inl, inr, refl, sym, ap, ◌∙◌, subst, append_assoc}
+use Rattle.std.proofs.lemmas.List.{append-nil}
+use Rattle.std.specs.Prelude.{slice_set, ⊤}
+use Rattle.tough_keys.specs.Same.{Verifies}
+use Rattle.tough_roles.specs.Policy.{Policy}
+use Rattle.tough_checks.specs.Versions.{Pair, Roles}
+use Rattle.tough_checks.specs.declared.checks.StepError.{StepError}
+use Rattle.tough_checks.specs.declared.checks.StepError.TheVariants.{Refused, DatastoreOpen, DatastoreCreate, DatastoreRemove, Memory}
+use Rattle.tough_vault.specs.declared.entry.Receipt.{Receipt}
+use Rattle.tough_vault.specs.Act.{Act, NoteTime, PutRoot, ClearRotated, AdvanceTimestamp, AdvanceSnapshot, PutDocument, Acts}
+use Rattle.tough_vault.specs.Journal.{Note, Broken, Last, no_tip, replay, has_broken, has_cleared, NothingGoesBack}
+use Rattle.tough_vault.specs.Step.{Step, Parts, Takes as StepTakes}
+use Rattle.tough_vault.specs.Steps.{time_step, root_step, timestamp_step, snapshot_step, document_step}
+use Rattle.tough_vault.specs.Stored.{Files}
+use Rattle.tough_update.specs.declared.machine.Core.{Core}
+use Rattle.tough_update.specs.Answered.{AnswerDoc}
+use Rattle.tough_update.specs.Machine.{act_at, question_at, question}
+use Rattle.tough_update.specs.Questions.{Question}
+use Rattle.tough_update.specs.Questions as ask
+use Rattle.tough_update.specs.Stages.{PendingDoc, StageDoc}
+use Rattle.tough_update.specs.Stages as at
+use Rattle.tough_update.specs.View.{core_doc}
+use Rattle.tough_world.specs.declared.lives.Life.{Life}
+use Rattle.tough_world.specs.declared.turns.Answer.{Answer}
+use Rattle.tough_world.specs.declared.turns.Answer.TheVariants as by
+use Rattle.tough_world.specs.declared.turns.Turn.{Turn}
+use Rattle.tough_world.specs.declared.turns.TurnError.{TurnError}
+use Rattle.tough_world.specs.declared.turns.TurnError.TheVariants.{NotAsked, Misfit}
+use Rattle.tough_world.specs.Lives.{joined, AreFresh, BeginFresh, begun, StageUnder, AllUnder as CoresUnder, Lives, AlongRun, Along, OnePolicy, TipsAddNothing, GoesOn}
+use Rattle.tough_world.specs.Steps.{IsProper, IsUnder, Taken, all_notes, AllUnder, AllProper, Takes, Trail, AddsNothing}
+use Rattle.tough_world.specs.Turns.{WorldDoc, Replies, Turned, Runs}
+use Rattle.tough_world.proofs.Going.{Whole, nothing_yet, keeps, trail, adds-nothing, steps_go_on}
+use Rattle.tough_world.proofs.Lists.{unbroken-front, uncleared-both, replay-both, time-behind, timestamp-behind, snapshot-behind}
+use Rattle.tough_world.proofs.Standing.{Stands, targets_free, goes-stands}
+
+-- ---- updates by their numbers
+
+abbrev AllStand : List Core → Type 0
+AllStand [] = ⊤
+AllStand (c ∷ cs) = Stands (core_doc c).stage × AllStand cs
+
+stand-get : (cs : List Core) (k : ℕ) (c : Core) → AllStand cs → slice_get cs k ≡ Some c → Stands (core_doc c).stage
+stand-get [] k c h e = absurd (cc (e))
+stand-get (x ∷ cs) zero c h e = subst (λ (y : Core). Stands (core_doc y).stage) (cc (e)) h.0
+stand-get (x ∷ cs) (suc k) c h e = stand-get cs k c h.1 e
+
+stand-set : (cs : List Core) (k : ℕ) (c : Core) → AllStand cs → Stands (core_doc c).stage → AllStand (slice_set cs k c)
+stand-set [] k c h s = h
+stand-set (x ∷ cs) zero c h s = (s, h.1)
+stand-set (x ∷ cs) (suc k) c h s = (h.0, stand-set cs k c h.1 s)
+
+under-get : (P Q : Option Policy) (cs : List Core) (k : ℕ) (c : Core) → CoresUnder P Q cs → slice_get cs k ≡ Some c → StageUnder P Q (core_doc c).stage
+under-get P Q [] k c h e = absurd (cc (e))
+under-get P Q (x ∷ cs) zero c h e = subst (λ (y : Core). StageUnder P Q (core_doc y).stage) (cc (e)) h.0
+under-get P Q (x ∷ cs) (suc k) c h e = under-get P Q cs k c h.1 e
+
+stand-fresh : (st : StageDoc) → st ≡ at.Moment → Stands st
+stand-fresh st e = subst Stands (sym e) tt
+
+all-fresh : (cs : List Core) → AreFresh cs → AllStand cs
+all-fresh [] h = tt
+all-fresh (c ∷ cs) h = (stand-fresh (core_doc c).stage h.0, all-fresh cs h.1)
+
+-- ---- the steps that are asked for
+
+abbrev IsNoClearing : Act → Type 0
+IsNoClearing ClearRotated = ⊥
+IsNoClearing (NoteTime now) = ⊤
+IsNoClearing (PutRoot r) = ⊤
+IsNoClearing (AdvanceTimestamp root t start enforced) = ⊤
+IsNoClearing (AdvanceSnapshot root listed s start enforced) = ⊤
+IsNoClearing (PutDocument name text) = ⊤
+
+record Good (P Q : Option Policy) (act : Act) : Type 0 where
+  under : IsUnder P Q act
+  proper : IsProper act
+  kept : IsNoClearing act
+
+pending-good : (P Q : Option Policy) (enforced : Bool) (p : PendingDoc) → StageUnder P Q (at.Step p) → Stands (at.Step p) → Good P Q (act_at enforced p)
+pending-good P Q enforced (at.NoteTime now) u t = record { under = tt; proper = tt; kept = tt }
+pending-good P Q enforced (at.PutRoot w) u t = record { under = tt; proper = tt; kept = tt }
+pending-good P Q enforced (at.PutLast w) u t = record { under = tt; proper = tt; kept = tt }
+pending-good P Q enforced (at.Clear b) u t = absurd t
+pending-good P Q enforced (at.PutTimestamp b x) u t = record { under = u.0; proper = t; kept = tt }
+pending-good P Q enforced (at.PutSnapshot k listed) u t = record { under = u.1; proper = t; kept = tt }
+pending-good P Q enforced (at.PutTargets k d) u t = record { under = tt; proper = targets_free; kept = tt }
+pending-good P Q enforced (at.PutDelegated k roles name d) u t = record { under = tt; proper = t; kept = tt }
+
+asked-good : (P Q : Option Policy) (enforced : Bool) (st : StageDoc) (act : Act) → question_at enforced st ≡ ask.Step act → StageUnder P Q st → Stands st → Good P Q act
+asked-good P Q enforced (at.Step p) act e u t = subst (Good P Q) (cc (e)) (pending-good P Q enforced p u t)
+asked-good P Q enforced at.Moment act e u t = absurd (cc (e))
+asked-good P Q enforced (at.Fetch w r) act e u t = absurd (cc (e))
+asked-good P Q enforced (at.Done r) act e u t = absurd (cc (e))
+asked-good P Q enforced at.Taken act e u t = absurd (cc (e))
+
+-- ---- what a tip has that is behind another
+
+record Behind (a b : Last) : Type 0 where
+  time : (t : ℤ) → a.time ≡ Some t → b.time ≡ Some t
+  timestamp : (p : Pair) → a.timestamp ≡ Some p → b.timestamp ≡ Some p
+  snapshot : (r : Roles) → a.snapshot ≡ Some r → b.snapshot ≡ Some r
+
+none-behind : (b : Last) → Behind no_tip b
+none-behind b = record { time = λ t e. absurd (cc (e)); timestamp = λ p e. absurd (cc (e)); snapshot = λ r e. absurd (cc (e)) }
+
+all-behind : (a b : Last) (ns : List Note) → Behind a b → Behind (replay a ns) (replay b ns)
+all-behind a b ns h = record { time = time-behind a b ns h.time; timestamp = timestamp-behind a b ns h.timestamp; snapshot = snapshot-behind a b ns h.snapshot }
+
+notes-both : (xs ys : List Taken) → all_notes (xs ++ ys) ≡ all_notes xs ++ all_notes ys
+notes-both [] ys = refl
+notes-both (x ∷ xs) ys = ap (λ (ms : List Note). x.notes ++ ms) (notes-both xs ys) ∙ sym (append_assoc x.notes (all_notes xs) (all_notes ys))
+
+under-both : (P Q : Option Policy) (xs ys : List Taken) → AllUnder P Q xs → AllUnder P Q ys → AllUnder P Q (xs ++ ys)
+under-both P Q [] ys a b = b
+under-both P Q (x ∷ xs) ys a b = (a.0, under-both P Q xs ys a.1 b)
+
+proper-both : (xs ys : List Taken) → AllProper xs → AllProper ys → AllProper (xs ++ ys)
+proper-both [] ys a b = b
+proper-both (x ∷ xs) ys a b = (a.0, proper-both xs ys a.1 b)
+
+module _ {S : Type 0} (tells : Bool) (files : S → Files) (count : S → ℕ) (verifies : Verifies) (P Q : Option Policy) where
+  trail-both : (xs ys : List Taken) (old mid new : S) → Trail tells files count verifies old xs mid → Trail tells files count verifies mid ys new → Trail tells files count verifies old (xs ++ ys) new
+  trail-both [] ys old mid new a b = subst (λ (s : S). Trail tells files count verifies s ys new) a b
+  trail-both (x ∷ xs) ys old mid new a b = (a.0, a.1, trail-both xs ys a.0 mid new a.2 b)
+
+  -- ---- what a step adds
+
+  record Adds (before after : Parts S) : Type 0 where
+    notes : List Note
+    added : after.notes ≡ before.notes ++ notes
+    tip : after.tip ≡ replay before.tip notes
+    uncleared : has_cleared notes ≡ false
+
+  adds-none : (before after : Parts S) → after.notes ≡ before.notes → after.tip ≡ before.tip → Adds before after
+  adds-none before after n t = record { notes = []; added = n ∙ sym (append-nil before.notes); tip = t; uncleared = refl }
+
+  takes-adds : (step : Step) (before after : Parts S) (result : Result Receipt StepError) → ((found : Option (List ℕ)) → has_cleared (step.entry found ∷ []) ≡ false) → StepTakes tells files count step before after result → Adds before after
+  takes-adds step before after (Ok r) u t = record { notes = step.entry t.done.0 ∷ []; added = t.done.1.noted.notes; tip = t.done.1.noted.tip; uncleared = u t.done.0 }
+  takes-adds step before after (Err (DatastoreCreate path)) u t = let b = t.broken tt in record { notes = Broken ∷ []; added = b.notes; tip = b.tip; uncleared = refl }
+  takes-adds step before after (Err (Refused c)) u t = let e = t.same (λ x. x) in adds-none before after e.0 e.1
+  takes-adds step before after (Err (DatastoreOpen path)) u t = let e = t.same (λ x. x) in adds-none before after e.0 e.1
+  takes-adds step before after (Err (DatastoreRemove path)) u t = let e = t.same (λ x. x) in adds-none before after e.0 e.1
+  takes-adds step before after (Err Memory) u t = let e = t.same (λ x. x) in adds-none before after e.0 e.1
+
+  acts-adds : (act : Act) (before after : Parts S) (result : Result Receipt StepError) → IsNoClearing act → Acts tells files count verifies act before after result → Adds before after
+  acts-adds (NoteTime t) before after result k h = takes-adds (time_step before.tip t) before after result (λ found. refl) h
+  acts-adds (PutRoot r) before after result k h = takes-adds (root_step r) before after result (λ found. refl) h
+  acts-adds ClearRotated before after result k h = absurd k
+  acts-adds (AdvanceTimestamp root t start enforced) before after result k h = takes-adds (timestamp_step verifies root before.tip t start enforced) before after result (λ found. refl) h
+  acts-adds (AdvanceSnapshot root listed s start enforced) before after result k h = takes-adds (snapshot_step verifies root before.tip listed s start enforced) before after result (λ found. refl) h
+  acts-adds (PutDocument name text) before after result k h = takes-adds (document_step name text) before after result (λ found. refl) h
+
+  -- ---- turns
+
+  record Stepped (old new : Parts S) : Type 0 where
+    step : Taken
+    takes : Takes tells files count verifies step old.store new.store
+    under : IsUnder P Q step.act
+    proper : IsProper step.act
+    added : new.notes ≡ old.notes ++ step.notes
+    tip : new.tip ≡ replay old.tip step.notes
+    uncleared : has_cleared step.notes ≡ false
+
+  -- nothing was put on the vault, or one step was
+  abbrev Moves : Parts S → Parts S → Type 0
+  Moves old new = (new ≡ old) ⊎ Stepped old new
+
+  replies-moves : (q : Question) (answer : Answer) (old new : Parts S) (reply : AnswerDoc) → Replies tells files count verifies q answer old reply new → ((act : Act) → q ≡ ask.Step act → Good P Q act) → Moves old new
+  replies-moves ask.Moment (by.Moment now) old new reply h g = inl h.1
+  replies-moves (ask.Fetch r) (by.Bytes v) old new reply h g = inl h.1
+  replies-moves (ask.Fetch r) (by.NotStarted f) old new reply h g = inl h.1
+  replies-moves (ask.Fetch r) (by.Cut f) old new reply h g = inl h.1
+  replies-moves (ask.Step act) by.Step old new reply h g =
+      let good = g act refl in
+      let s = h.2 in
+      let a = acts-adds act old new s.0 good.kept s.2 in
+      inr (record {
+        step = record { act = act; notes = a.notes };
+        takes = record { before = old; after = new; result = s.0; acts = s.2; back = s.3; added = a.added; from = refl; to = refl };
+        under = good.under; proper = good.proper; added = a.added; tip = a.tip; uncleared = a.uncleared;
+      })
+  replies-moves _ _ old new reply h g = absurd (h)
+
+  record Turns (old new : WorldDoc S) : Type 0 where
+    moves : Moves old.parts new.parts
+    stand : AllStand new.cores
+
+  stay-turns : (old new : WorldDoc S) → new ≡ old → AllStand old.cores → Turns old new
+  stay-turns old new e s = record { moves = inl (ap (λ (w : WorldDoc S). w.parts) e); stand = subst (λ (w : WorldDoc S). AllStand w.cores) (sym e) s }
+
+  turned-turns : (load : ℕ) (answer : Answer) (old new : WorldDoc S) (r : Result ⊤ TurnError) → Turned tells files count verifies load answer old new r → CoresUnder P Q old.cores → AllStand old.cores → Turns old new
+  turned-turns load answer old new (Ok u) t under stand =
+      let c = core_doc t.core in
+      let cu = under-get P Q old.cores load t.core under t.there in
+      let cs = stand-get old.cores load t.core stand t.there in
+      record {
+        moves = replies-moves (question c) answer old.parts new.parts t.reply t.replies (λ act e. asked-good P Q c.setting.enforced c.stage act e cu cs);
+        stand = subst AllStand (sym t.cores) (stand-set old.cores load t.next stand (goes-stands verifies P Q c (core_doc t.next) t.reply cu cs t.answered.goes));
+      }
+  turned-turns load answer old new (Err NotAsked) t under stand = stay-turns old new t.0 stand
+  turned-turns load answer old new (Err Misfit) t under stand = stay-turns old new t.0 stand
+
+  module _ (told : tells ≡ true) where
+    -- ---- runs
+
+    abbrev Fine : S → List Note → Type 0
+    Fine store ns = has_broken ns ≡ false → Whole tells files count verifies P Q told store ns
+
+    abbrev Tips : (ts : List Turn) (old new : WorldDoc S) → Runs tells files count verifies old ts new → Type 0
+    Tips = AlongRun tells files count verifies (λ w. AddsNothing tells files count verifies P Q w.parts)
+
+    abbrev Roots : (ts : List Turn) (old new : WorldDoc S) → Runs tells files count verifies old ts new → Type 0
+    Roots = AlongRun tells files count verifies (λ w. CoresUnder P Q w.cores)
+
+    record Gone (ns : List Note) (old new : WorldDoc S) (T : Type 0) : Type 0 where
+      taken : List Taken
+      trail : Trail tells files count verifies old.parts.store taken new.parts.store
+      under : AllUnder P Q taken
+      proper : AllProper taken
+      notes : new.parts.notes ≡ old.parts.notes ++ all_notes taken
+      uncleared : has_cleared (all_notes taken) ≡ false
+      tips : has_broken (ns ++ all_notes taken) ≡ false → T
+
+    tips-at : (ns : List Note) (p : Parts S) → Fine p.store ns → Behind p.tip (replay no_tip ns) → has_broken ns ≡ false → AddsNothing tells files count verifies P Q p
+    tips-at ns p fine behind b = adds-nothing tells files count verifies P Q told p (replay no_tip ns) (fine b).stored behind.time behind.timestamp behind.snapshot
+
+    mutual
+      run-goes : (ts : List Turn) (ns : List Note) (old new : WorldDoc S) (run : Runs tells files count verifies old ts new) → Roots ts old new run → AllStand old.cores → has_cleared ns ≡ false
+          → Fine old.parts.store ns → Behind old.parts.tip (replay no_tip ns) → Gone ns old new (Tips ts old new run)
+      run-goes [] ns old new run roots stand c fine behind = record {
+        taken = [];
+        trail = ap (λ (w : WorldDoc S). w.parts.store) run;
+        under = tt;
+        proper = tt;
+        notes = ap (λ (w : WorldDoc S). w.parts.notes) run ∙ sym (append-nil old.parts.notes);
+        uncleared = refl;
+        tips = λ b. tips-at ns old.parts fine behind (unbroken-front ns [] b);
+      }
+      run-goes (t ∷ ts) ns old new run roots stand c fine behind =
+          let turn = turned-turns t.load t.answer old run.0 run.1.0 run.1.1 roots.0 stand in
+          moved ts ns old run.0 new run.2 roots.1 turn.stand c fine behind turn.moves
+
+      moved : (ts : List Turn) (ns : List Note) (old mid new : WorldDoc S) (run : Runs tells files count verifies mid ts new) → Roots ts mid new run → AllStand mid.cores → has_cleared ns ≡ false
+          → Fine old.parts.store ns → Behind old.parts.tip (replay no_tip ns) → Moves old.parts mid.parts → Gone ns old new (AddsNothing tells files count verifies P Q old.parts × Tips ts mid new run)
+      moved ts ns old mid new run roots stand c fine behind (inl same) =
+          let g = run-goes ts ns mid new run roots stand c (subst (λ (p : Parts S). Fine p.store ns) (sym same) fine) (subst (λ (p : Parts S). Behind p.tip (replay no_tip ns)) (sym same) behind) in
+          record {
+            taken = g.taken;
+            trail = subst (λ (p : Parts S). Trail tells files count verifies p.store g.taken new.parts.store) same g.trail;
+            under = g.under;
+            proper = g.proper;
+            notes = subst (λ (p : Parts S). new.parts.notes ≡ p.notes ++ all_notes g.taken) same g.notes;
+            uncleared = g.uncleared;
+            tips = λ b. (tips-at ns old.parts fine behind (unbroken-front ns (all_notes g.taken) b), g.tips b);
+          }
+      moved ts ns old mid new run roots stand c fine behind (inr x) =
+          let step = x.step in
+          let more = uncleared-both ns step.notes c x.uncleared in
+          let g = run-goes ts (ns ++ step.notes) mid new run roots stand more
+              (λ b. keeps tells files count verifies P Q told ns step old.parts.store mid.parts.store x.under x.proper x.takes b more (fine (unbroken-front ns step.notes b)))
+              (subst (λ (l : Last). Behind l (replay no_tip (ns ++ step.notes))) (sym x.tip) (subst (λ (l : Last). Behind (replay old.parts.tip step.notes) l) (sym (replay-both no_tip ns step.notes)) (all-behind old.parts.tip (replay no_tip ns) step.notes behind))) in
+          let rest = all_notes g.taken in
+          record {
+            taken = step ∷ g.taken;
+            trail = (mid.parts.store, x.takes, g.trail);
+            under = (x.under, g.under);
+            proper = (x.proper, g.proper);
+            notes = g.notes ∙ (ap (λ (ms : List Note). ms ++ rest) x.added ∙ append_assoc old.parts.notes step.notes rest);
+            uncleared = uncleared-both step.notes rest x.uncleared g.uncleared;
+            tips = λ b. (tips-at ns old.parts fine behind (unbroken-front ns (step.notes ++ rest) b), g.tips (ap has_broken (append_assoc ns step.notes rest) ∙ b));
+          }
+
+    -- ---- lives
+
+    record Went (ns : List Note) (js : List (List Note)) (old new : S) (T : Type 0) : Type 0 where
+      taken : List Taken
+      trail : Trail tells files count verifies old taken new
+      under : AllUnder P Q taken
+      proper : AllProper taken
+      notes : joined js ≡ all_notes taken
+      uncleared : has_cleared (all_notes taken) ≡ false
+      tips : has_broken (ns ++ all_notes taken) ≡ false → T
+
+    lives-go : (ls : List Life) (js : List (List Note)) (ns : List Note) (old new : S) (lived : Lives tells files count verifies old ls js new) → BeginFresh ls → OnePolicy tells files count verifies P Q ls js old new lived
+        → has_cleared ns ≡ false → Fine old ns → Went ns js old new (TipsAddNothing tells files count verifies P Q ls js old new lived)
+    lives-go [] [] ns old new lived fresh roots c fine = record { taken = []; trail = lived; under = tt; proper = tt; notes = refl; uncleared = refl; tips = λ b. tt }
+    lives-go (l ∷ ls) (j ∷ js) ns old new lived fresh roots c fine =
+        let end = lived.0 in
+        let g = run-goes l.schedule.items ns (begun l old) end lived.1 roots.0 (all-fresh l.cores.items fresh.0) c fine (none-behind (replay no_tip ns)) in
+        let here = all_notes g.taken in
+        let more = uncleared-both ns here c g.uncleared in
+        let r = lives-go ls js (ns ++ here) end.parts.store new lived.3 fresh.1 roots.1 more
+            (λ b. trail tells files count verifies P Q told g.taken ns old end.parts.store g.under g.proper g.trail b more (fine (unbroken-front ns here b))) in
+        let rest = all_notes r.taken in
+        let both = notes-both g.taken r.taken in
+        record {
+          taken = g.taken ++ r.taken;
+          trail = trail-both g.taken r.taken old end.parts.store new g.trail r.trail;
+          under = under-both P Q g.taken r.taken g.under r.under;
+          proper = proper-both g.taken r.taken g.proper r.proper;
+          notes = ap (λ (ms : List Note). ms ++ joined js) (sym lived.2 ∙ g.notes) ∙ (ap (λ (ms : List Note). here ++ ms) r.notes ∙ sym both);
+          uncleared = ap has_cleared both ∙ uncleared-both here rest g.uncleared r.uncleared;
+          tips = λ b.
+              let b2 : has_broken (ns ++ (here ++ rest)) ≡ false = ap (λ (ms : List Note). has_broken (ns ++ ms)) (sym both) ∙ b in
+              let b3 : has_broken ((ns ++ here) ++ rest) ≡ false = ap has_broken (append_assoc ns here rest) ∙ b2 in
+              (g.tips (unbroken-front (ns ++ here) rest b3), r.tips b3);
+        }
+    lives-go [] (j ∷ js) ns old new lived fresh roots c fine = absurd lived
+    lives-go (l ∷ ls) [] ns old new lived fresh roots c fine = absurd lived
+
+    pub lives_go_on : (ls : List Life) (js : List (List Note)) (old new : S) (lived : Lives tells files count verifies old ls js new) → BeginFresh ls → OnePolicy tells files count verifies P Q ls js old new lived
+        → has_broken (joined js) ≡ false → GoesOn tells files count verifies P Q ls js old new lived
+    lives_go_on ls js old new lived fresh roots b =
+        let w = lives-go ls js [] old new lived fresh roots refl (λ _. nothing_yet tells files count verifies P Q told old) in
+        let b2 : has_broken (all_notes w.taken) ≡ false = ap has_broken (sym w.notes) ∙ b in
+        record {
+          uncleared = ap has_cleared w.notes ∙ w.uncleared;
+          rising = subst NothingGoesBack (sym w.notes) (steps_go_on tells files count verifies P Q told w.taken old new w.under w.proper w.trail b2 w.uncleared);
+          tips = w.tips b2;
+        }

@@ -1,0 +1,54 @@
+-- Updates by their numbers, and runs and lives one turn and one life longer.
+use Rattle.std.proofs.Common.{◌≡◌, ℕ, zero, suc, List, [], ◌∷◌, ◌++◌, Option, Some, None, Bool, Result, Ok, Err, slice_get, ◌<◌, length, arith, refl, sym, ap, ◌∙◌, subst}
+use Rattle.std.specs.Prelude.{slice_set, slice_index_or, ⊤}
+use Rattle.tough_keys.specs.Same.{Verifies}
+use Rattle.tough_vault.specs.Journal.{Note}
+use Rattle.tough_vault.specs.Step.{Parts}
+use Rattle.tough_vault.specs.Stored.{Files}
+use Rattle.tough_update.specs.declared.machine.Core.{Core}
+use Rattle.tough_update.specs.Machine.{question}
+use Rattle.tough_update.specs.View.{core_doc}
+use Rattle.tough_world.specs.declared.lives.Life.{Life}
+use Rattle.tough_world.specs.declared.turns.Answer.{Answer}
+use Rattle.tough_world.specs.declared.turns.Turn.{Turn}
+use Rattle.tough_world.specs.declared.turns.TurnError.{TurnError}
+use Rattle.tough_world.specs.declared.turns.TurnError.TheVariants.{NotAsked, Misfit}
+use Rattle.tough_world.specs.Lives.{Lives, Lived}
+use Rattle.tough_world.specs.Turns.{WorldDoc, RepliesOr, IsUnasked, IsMisfit, Turned, Runs}
+
+pub cores_same : (cs : List Core) (k : ℕ) (c : Core) → slice_get cs k ≡ Some c → slice_set cs k c ≡ cs
+cores_same [] k c h = refl
+cores_same (x ∷ cs) zero c h = cc (h)
+cores_same (x ∷ cs) (suc k) c h = ap (λ ds. x ∷ ds) (cores_same cs k c h)
+
+pub found_at : (cs : List Core) (k : ℕ) (c : Core) → k < length cs → c ≡ slice_index_or cs k c → slice_get cs k ≡ Some c
+found_at [] k c h e = absurd (omega (arith, h))
+found_at (x ∷ cs) zero c h e = ap Some (sym e)
+found_at (x ∷ cs) (suc k) c h e = let r : k < length cs = omega (arith, h) in found_at cs k c r e
+
+module _ {S : Type 0} (tells : Bool) (files : S → Files) (count : S → ℕ) (verifies : Verifies) where
+  pub runs_push : (ts : List Turn) (t : Turn) (old mid new : WorldDoc S) (r : Result ⊤ TurnError) → Runs tells files count verifies old ts mid → Turned tells files count verifies t.load t.answer mid new r
+      → Runs tells files count verifies old (ts ++ t ∷ []) new
+  runs_push [] t old mid new r h k = (new, (r, subst (λ (w : WorldDoc S). Turned tells files count verifies t.load t.answer w new r) h k), refl)
+  runs_push (x ∷ ts) t old mid new r h k = (h.0, h.1, runs_push ts t h.0 mid new r h.2 k)
+
+  world : List Core → Parts S → WorldDoc S
+  world cores parts = record { cores = cores; parts = parts }
+
+  same_world : (old : WorldDoc S) (cores : List Core) (parts : Parts S) → cores ≡ old.cores → parts ≡ old.parts → record { cores = cores; parts = parts } ≡ old
+  unfolding world
+  same_world old cores parts e h = ap (λ (c : List Core). world c parts) e ∙ ap (λ (p : Parts S). world old.cores p) h
+
+  pub refused : (old : WorldDoc S) (cores : List Core) (parts : Parts S) (load : ℕ) (answer : Answer) (c : Core) (e : TurnError) → cores ≡ old.cores → parts ≡ old.parts → slice_get old.cores load ≡ Some c
+      → RepliesOr tells files count verifies (question (core_doc c)) answer old.parts parts (Err e) → Turned tells files count verifies load answer old (record { cores = cores; parts = parts }) (Err e)
+  refused old cores parts load answer c NotAsked same kept there r = (same_world old cores parts same kept, subst (λ (o : Option Core). IsUnasked tells files count verifies o answer) (sym there) r)
+  refused old cores parts load answer c Misfit same kept there r = (same_world old cores parts same kept, subst (λ (o : Option Core). IsMisfit tells files count verifies o answer) (sym there) r)
+
+  pub lives_push : (ls : List Life) (l : Life) (js : List (List Note)) (j : List Note) (old mid new : S) → Lives tells files count verifies old ls js mid → Lived tells files count verifies mid l j new
+      → Lives tells files count verifies old (ls ++ l ∷ []) (js ++ j ∷ []) new
+  lives_push [] l [] j old mid new h k =
+      let here = subst (λ (s : S). Lived tells files count verifies s l j new) h k in
+      (here.0, here.1, here.2, sym here.3)
+  lives_push (x ∷ ls) l (y ∷ js) j old mid new h k = (h.0, h.1, h.2, lives_push ls l js j h.0.parts.store mid new h.3 k)
+  lives_push [] l (y ∷ js) j old mid new h k = absurd h
+  lives_push (x ∷ ls) l [] j old mid new h k = absurd h
