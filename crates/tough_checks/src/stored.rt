@@ -3,7 +3,7 @@
 ghost use Rattle.std.specs.Prelude.{◌≡◌, IfOk};
 ghost use Rattle.tough_roles.specs.Root.{root_doc};
 ghost use Rattle.tough_checks.specs.Checks.{timestamp_where};
-ghost use Rattle.tough_checks.specs.StoredDocuments.{accepted, content, stored_timestamp, stored_time};
+ghost use Rattle.tough_checks.specs.StoredDocuments.{IsAccepted, content, stored_timestamp, stored_time};
 ghost use Rattle.tough_checks.specs.Versions.{time_where};
 
 use jiff::Timestamp as Instant;
@@ -19,8 +19,8 @@ pub(crate) fn accepted<T: Role + Drop, V: Verify>(
     root: &Root,
     read: Result<Signed<T>, ReadError>,
 ) -> Result<Option<T>, AllocError>
-    ensures { IfOk result (λ old. old
-        ≡ accepted (V.verifies verifier.now) (root_doc root.now) T.TYPE T.json read) }
+    ensures { IfOk result
+        (IsAccepted (V.verifies verifier.now) (root_doc root.now) T.TYPE T.json read) }
 {
     let signed = match read {
         Ok(signed) => signed,
