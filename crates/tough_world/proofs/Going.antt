@@ -1,7 +1,7 @@
 -- Nothing goes back on a store that tells its files, while no write failed and nothing was cleared, and all roots give one policy.
 use Rattle.std.proofs.Common.{◌≡◌, ◌≢◌, ℕ, ℤ, ◌≤ℤ◌, List, [], ◌∷◌, ◌++◌, length, Option, None, Some, option_and_then, Result, Ok, Err, OnOk, Bool, true, false, not, nat_lt, int_lt, is_some, refl, sym, ap, ◌∙◌, subst, inl, inr, append_assoc, rules}
 use Rattle.std.proofs.lemmas.List.{append-nil}
-use Rattle.std.specs.Prelude.{◌==◌}
+use Rattle.std.specs.Prelude.{◌==◌, ⊤}
 use Rattle.tough_json.specs.CanonicalText.{canonical_of}
 use Rattle.tough_json.specs.Reading.{◌>>=◌}
 use Rattle.tough_keys.specs.Same.{Verifies}
@@ -270,7 +270,7 @@ module _ {S : Type 0} (tells : Bool) (files : S → Files) (count : S → ℕ) (
       takes ns before after ms added w b (time_step before.tip t) result (stored_time (time_text t) ≡ Some t) back
       (λ is found p. time_goes (files before.store) (files after.store) (replay no_tip ns) w.stored before.tip t found is (p.finds told) p.after) h
   acts ns before after ms added w b c (PutRoot r) result under proper back h =
-      takes ns before after ms added w b (root_step r) result Unit back
+      takes ns before after ms added w b (root_step r) result ⊤ back
       (λ is found p. other_goes (files before.store) (files after.store) (replay no_tip ns) w.stored (root_step r) (Root r.role.head.version) refl tt (distinct _ _ refl) (distinct _ _ refl) (distinct _ _ refl)) h
   acts ns before after ms added w b c ClearRotated result under proper back h = clears ns before after ms added w b result c h
   acts ns before after ms added w b c (AdvanceTimestamp root d start enforced) result under proper back h =
@@ -280,7 +280,7 @@ module _ {S : Type 0} (tells : Bool) (files : S → Files) (count : S → ℕ) (
       takes ns before after ms added w b (snapshot_step verifies root before.tip listed d start enforced) result (ReadsBack (AdvanceSnapshot root listed d start enforced)) back
       (λ is found p. snapshot_goes (files before.store) (files after.store) (replay no_tip ns) w.stored before.tip listed d root start enforced found under (λ bytes e. is bytes e (snapshot-shallow proper.0 d proper.1)) (p.finds told) p.before p.after (is_some (stored_snapshot verifies root found))) h
   acts ns before after ms added w b c (PutDocument name text) result under proper back h =
-      takes ns before after ms added w b (document_step name text) result Unit back
+      takes ns before after ms added w b (document_step name text) result ⊤ back
       (λ is found p. other_goes (files before.store) (files after.store) (replay no_tip ns) w.stored (document_step name text) (Document name) refl tt (λ e. proper.time (sym e)) (λ e. proper.timestamp (sym e)) (λ e. proper.snapshot (sym e))) h
 
   -- a step keeps it

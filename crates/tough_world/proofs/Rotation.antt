@@ -115,7 +115,7 @@ same_key a b h =
     (both (same_members a.keyval_extra b.keyval_extra) _ (from_members a.keyval_extra b.keyval_extra (ap (λ (d : KeyData). d.keyval_extra) h)) (from_members a.extra b.extra (ap (λ (d : KeyData). d.extra) h))))
 
 ahead : (o p : Option KeyDoc) (xs ys : List KeyDoc) → option_map data_of o ≡ option_map data_of p → same_keys xs ys ≡ true → same_keys (ahead_of o xs) (ahead_of p ys) ≡ true
-ahead None None xs ys e h = h
+ahead None None xs ys e h = refl
 ahead None (Some b) xs ys e h = absurd (cc (e))
 ahead (Some a) None xs ys e h = absurd (cc (e))
 ahead (Some a) (Some b) xs ys e h = both (same_doc a b) (same_keys xs ys) (same_key a b (cc (e))) h
