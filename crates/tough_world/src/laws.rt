@@ -10,9 +10,9 @@ ghost use Rattle.tough_world.specs.declared.lives.Life.{Life};
 
 use tough_vault::Store;
 
-/// Steps of any vaults on one store, whatever its files held before: where the store tells its files, no write failed, nothing was cleared,
-/// and the roots that timestamps and snapshots were given ask one policy of each, no accepted document is older than one accepted before it,
-/// and noted times don't fall.
+/// Steps of any vaults on one store, whatever its files held before. Where the store tells its files, no write failed, nothing was cleared,
+/// and the roots that came with timestamps and snapshots ask one policy of each, no accepted document is older than one accepted before
+/// it, and noted times don't fall.
 pub fn steps_go_on<S: Store>()
     ensures { (v : Verifies) (xs : List Taken) (old new : S) (P Q : Option Policy)
         → Trail S.tells S.files S.count v old xs new → AllProper xs → AllUnder P Q xs

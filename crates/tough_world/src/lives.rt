@@ -40,8 +40,8 @@ fn live<S: Store + Drop, V: Verify + Drop>(
     (store, verifier, journal)
 }
 
-/// Runs one life after another on one store, each with a new vault. It gives the store and the journals, a journal a life; where there is no
-/// memory for these it gives the store back, before the first life.
+/// Runs one life after another on one store, each with a new vault. It gives the store and the journals, one of each life. Where there is
+/// no memory for a list of these, it refuses before the first life, and gives the store back.
 pub fn run_lives<S: Store + Drop, V: Verify + Drop>(
     alloc: Global,
     store: S,
