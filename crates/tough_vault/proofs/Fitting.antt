@@ -152,8 +152,8 @@ pub when_ready : {P : Type 0} (prepared : Result Prepared StepError) (p : Prepar
 when_ready {P} prepared p h is = subst (λ (r : Result Prepared StepError). OnOk r P) is h
 
 -- a step that succeeded was prepared
-pub when_done : {P : Type 0} (Q : Type 0) (prepared : Result Prepared StepError) (result : Result Receipt StepError) → IfErr prepared (λ e. (result ≡ Err e) × Q) → OnOk prepared P → OnOk result P
-when_done Q (Ok p) (Ok r) x h = h
-when_done Q (Ok p) (Err e) x h = tt
-when_done Q (Err f) (Ok r) x h = absurd (cc (x.0))
-when_done Q (Err f) (Err e) x h = tt
+pub when_done : (P Q : Type 0) (prepared : Result Prepared StepError) (result : Result Receipt StepError) → IfErr prepared (λ e. (result ≡ Err e) × Q) → OnOk prepared P → OnOk result P
+when_done P Q (Ok p) (Ok r) x h = h
+when_done P Q (Ok p) (Err e) x h = tt
+when_done P Q (Err f) (Ok r) x h = absurd (cc (x.0))
+when_done P Q (Err f) (Err e) x h = tt

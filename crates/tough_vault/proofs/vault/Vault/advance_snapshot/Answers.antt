@@ -13,7 +13,7 @@ pub returns-clause-takes : goal.returns-clause-takes
 returns-clause-takes g c = takes _ _ _ _ _ _ _ _ _ c.prepare_snapshot-prepared.ensures.step c.conclude.ensures
 
 pub returns-clause-back : goal.returns-clause-back
-returns-clause-back g c = when_done _ c.prepare_snapshot-prepared.result c.conclude.result c.conclude.ensures.refused c.prepare_snapshot-prepared.ensures.back
+returns-clause-back g c = when_done _ _ c.prepare_snapshot-prepared.result c.conclude.result c.conclude.ensures.refused c.prepare_snapshot-prepared.ensures.back
 
 pub invariant_of-self : goal.invariant_of-self
 invariant_of-self g c =
