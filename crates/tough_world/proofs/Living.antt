@@ -27,7 +27,8 @@ use Rattle.tough_world.specs.declared.turns.Answer.TheVariants as by
 use Rattle.tough_world.specs.declared.turns.Turn.{Turn}
 use Rattle.tough_world.specs.declared.turns.TurnError.{TurnError}
 use Rattle.tough_world.specs.declared.turns.TurnError.TheVariants.{NotAsked, Misfit}
-use Rattle.tough_world.specs.Lives.{joined, AreFresh, BeginFresh, begun, StageUnder, AllUnder as CoresUnder, Lives, AlongRun, Along, OnePolicy, TipsAddNothing, GoesOn}
+use Rattle.tough_world.specs.Lives.{joined, AreFresh, BeginFresh, begun, AllUnder as CoresUnder, Lives, AlongRun, Along, OnePolicy, TipsAddNothing, GoesOn}
+use Rattle.tough_world.specs.Policies.{StageUnder}
 use Rattle.tough_world.specs.Steps.{IsProper, IsUnder, Taken, all_notes, AllUnder, AllProper, Takes, Trail, AddsNothing}
 use Rattle.tough_world.specs.Turns.{WorldDoc, Replies, Turned, Runs}
 use Rattle.tough_world.proofs.Going.{Whole, nothing_yet, keeps, trail, adds-nothing, steps_go_on}
@@ -225,51 +226,52 @@ module _ {S : Type 0} (tells : Bool) (files : S → Files) (count : S → ℕ) (
     tips-at : (ns : List Note) (p : Parts S) → Fine p.store ns → Behind p.tip (replay no_tip ns) → has_broken ns ≡ false → AddsNothing tells files count verifies P Q p
     tips-at ns p fine behind b = adds-nothing tells files count verifies P Q told p (replay no_tip ns) (fine b).stored behind.time behind.timestamp behind.snapshot
 
-    mutual
-      run-goes : (ts : List Turn) (ns : List Note) (old new : WorldDoc S) (run : Runs tells files count verifies old ts new) → Roots ts old new run → AllStand old.cores → has_cleared ns ≡ false
-          → Fine old.parts.store ns → Behind old.parts.tip (replay no_tip ns) → Gone ns old new (Tips ts old new run)
-      run-goes [] ns old new run roots stand c fine behind = record {
-        taken = [];
-        trail = ap (λ (w : WorldDoc S). w.parts.store) run;
-        under = tt;
-        proper = tt;
-        notes = ap (λ (w : WorldDoc S). w.parts.notes) run ∙ sym (append-nil old.parts.notes);
-        uncleared = refl;
-        tips = λ b. tips-at ns old.parts fine behind (unbroken-front ns [] b);
-      }
-      run-goes (t ∷ ts) ns old new run roots stand c fine behind =
-          let turn = turned-turns t.load t.answer old run.0 run.1.0 run.1.1 roots.0 stand in
-          moved ts ns old run.0 new run.2 roots.1 turn.stand c fine behind turn.moves
+    -- one turn, and the run after it
+    moved : (ts : List Turn) (ns : List Note) (old mid new : WorldDoc S) (run : Runs tells files count verifies mid ts new) → has_cleared ns ≡ false → Fine old.parts.store ns → Behind old.parts.tip (replay no_tip ns)
+        → ((ms : List Note) → has_cleared ms ≡ false → Fine mid.parts.store ms → Behind mid.parts.tip (replay no_tip ms) → Gone ms mid new (Tips ts mid new run))
+        → Moves old.parts mid.parts → Gone ns old new (AddsNothing tells files count verifies P Q old.parts × Tips ts mid new run)
+    moved ts ns old mid new run c fine behind go (inl same) =
+        let g = go ns c (subst (λ (p : Parts S). Fine p.store ns) (sym same) fine) (subst (λ (p : Parts S). Behind p.tip (replay no_tip ns)) (sym same) behind) in
+        record {
+          taken = g.taken;
+          trail = subst (λ (p : Parts S). Trail tells files count verifies p.store g.taken new.parts.store) same g.trail;
+          under = g.under;
+          proper = g.proper;
+          notes = subst (λ (p : Parts S). new.parts.notes ≡ p.notes ++ all_notes g.taken) same g.notes;
+          uncleared = g.uncleared;
+          tips = λ b. (tips-at ns old.parts fine behind (unbroken-front ns (all_notes g.taken) b), g.tips b);
+        }
+    moved ts ns old mid new run c fine behind go (inr x) =
+        let step = x.step in
+        let more = uncleared-both ns step.notes c x.uncleared in
+        let g = go (ns ++ step.notes) more
+            (λ b. keeps tells files count verifies P Q told ns step old.parts.store mid.parts.store x.under x.proper x.takes b more (fine (unbroken-front ns step.notes b)))
+            (subst (λ (l : Last). Behind l (replay no_tip (ns ++ step.notes))) (sym x.tip) (subst (λ (l : Last). Behind (replay old.parts.tip step.notes) l) (sym (replay-both no_tip ns step.notes)) (all-behind old.parts.tip (replay no_tip ns) step.notes behind))) in
+        let rest = all_notes g.taken in
+        record {
+          taken = step ∷ g.taken;
+          trail = (mid.parts.store, x.takes, g.trail);
+          under = (x.under, g.under);
+          proper = (x.proper, g.proper);
+          notes = g.notes ∙ (ap (λ (ms : List Note). ms ++ rest) x.added ∙ append_assoc old.parts.notes step.notes rest);
+          uncleared = uncleared-both step.notes rest x.uncleared g.uncleared;
+          tips = λ b. (tips-at ns old.parts fine behind (unbroken-front ns (step.notes ++ rest) b), g.tips (ap has_broken (append_assoc ns step.notes rest) ∙ b));
+        }
 
-      moved : (ts : List Turn) (ns : List Note) (old mid new : WorldDoc S) (run : Runs tells files count verifies mid ts new) → Roots ts mid new run → AllStand mid.cores → has_cleared ns ≡ false
-          → Fine old.parts.store ns → Behind old.parts.tip (replay no_tip ns) → Moves old.parts mid.parts → Gone ns old new (AddsNothing tells files count verifies P Q old.parts × Tips ts mid new run)
-      moved ts ns old mid new run roots stand c fine behind (inl same) =
-          let g = run-goes ts ns mid new run roots stand c (subst (λ (p : Parts S). Fine p.store ns) (sym same) fine) (subst (λ (p : Parts S). Behind p.tip (replay no_tip ns)) (sym same) behind) in
-          record {
-            taken = g.taken;
-            trail = subst (λ (p : Parts S). Trail tells files count verifies p.store g.taken new.parts.store) same g.trail;
-            under = g.under;
-            proper = g.proper;
-            notes = subst (λ (p : Parts S). new.parts.notes ≡ p.notes ++ all_notes g.taken) same g.notes;
-            uncleared = g.uncleared;
-            tips = λ b. (tips-at ns old.parts fine behind (unbroken-front ns (all_notes g.taken) b), g.tips b);
-          }
-      moved ts ns old mid new run roots stand c fine behind (inr x) =
-          let step = x.step in
-          let more = uncleared-both ns step.notes c x.uncleared in
-          let g = run-goes ts (ns ++ step.notes) mid new run roots stand more
-              (λ b. keeps tells files count verifies P Q told ns step old.parts.store mid.parts.store x.under x.proper x.takes b more (fine (unbroken-front ns step.notes b)))
-              (subst (λ (l : Last). Behind l (replay no_tip (ns ++ step.notes))) (sym x.tip) (subst (λ (l : Last). Behind (replay old.parts.tip step.notes) l) (sym (replay-both no_tip ns step.notes)) (all-behind old.parts.tip (replay no_tip ns) step.notes behind))) in
-          let rest = all_notes g.taken in
-          record {
-            taken = step ∷ g.taken;
-            trail = (mid.parts.store, x.takes, g.trail);
-            under = (x.under, g.under);
-            proper = (x.proper, g.proper);
-            notes = g.notes ∙ (ap (λ (ms : List Note). ms ++ rest) x.added ∙ append_assoc old.parts.notes step.notes rest);
-            uncleared = uncleared-both step.notes rest x.uncleared g.uncleared;
-            tips = λ b. (tips-at ns old.parts fine behind (unbroken-front ns (step.notes ++ rest) b), g.tips (ap has_broken (append_assoc ns step.notes rest) ∙ b));
-          }
+    run-goes : (ts : List Turn) (ns : List Note) (old new : WorldDoc S) (run : Runs tells files count verifies old ts new) → Roots ts old new run → AllStand old.cores → has_cleared ns ≡ false
+        → Fine old.parts.store ns → Behind old.parts.tip (replay no_tip ns) → Gone ns old new (Tips ts old new run)
+    run-goes [] ns old new run roots stand c fine behind = record {
+      taken = [];
+      trail = ap (λ (w : WorldDoc S). w.parts.store) run;
+      under = tt;
+      proper = tt;
+      notes = ap (λ (w : WorldDoc S). w.parts.notes) run ∙ sym (append-nil old.parts.notes);
+      uncleared = refl;
+      tips = λ b. tips-at ns old.parts fine behind (unbroken-front ns [] b);
+    }
+    run-goes (t ∷ ts) ns old new run roots stand c fine behind =
+        let turn = turned-turns t.load t.answer old run.0 run.1.0 run.1.1 roots.0 stand in
+        moved ts ns old run.0 new run.2 c fine behind (λ ms d f b. run-goes ts ms run.0 new run.2 roots.1 turn.stand d f b) turn.moves
 
     -- ---- lives
 

@@ -31,7 +31,7 @@ use Rattle.tough_update.specs.Stages.{WalkDoc, BaseDoc, KnownDoc, WantedDoc, Pen
 use Rattle.tough_update.specs.Stages as at
 use Rattle.tough_update.proofs.Turning.{Fine, and_then-fine, walking, ending, keeps-answer}
 use Rattle.tough_vault.proofs.Holding.{distinct}
-use Rattle.tough_world.specs.Lives.{HasPolicy, StageUnder}
+use Rattle.tough_world.specs.Policies.{StageUnder}
 use Rattle.tough_world.proofs.Rotation.{unrotated}
 
 abbrev pub Stands : StageDoc → Type 0
