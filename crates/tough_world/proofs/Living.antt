@@ -179,7 +179,11 @@ module _ {S : Type 0} (tells : Bool) (files : S → Files) (count : S → ℕ) (
       inr (record {
         step = record { act = act; notes = a.notes };
         takes = record { before = old; after = new; result = s.0; acts = s.2; back = s.3; added = a.added; from = refl; to = refl };
-        under = good.under; proper = good.proper; added = a.added; tip = a.tip; uncleared = a.uncleared;
+        under = good.under;
+        proper = good.proper;
+        added = a.added;
+        tip = a.tip;
+        uncleared = a.uncleared;
       })
   replies-moves _ _ old new reply h g = absurd (h)
 
@@ -245,8 +249,8 @@ module _ {S : Type 0} (tells : Bool) (files : S → Files) (count : S → ℕ) (
         let step = x.step in
         let more = uncleared-both ns step.notes c x.uncleared in
         let g = go (ns ++ step.notes) more
-            (λ b. keeps tells files count verifies P Q told ns step old.parts.store mid.parts.store x.under x.proper x.takes b more (fine (unbroken-front ns step.notes b)))
-            (subst (λ (l : Last). Behind l (replay no_tip (ns ++ step.notes))) (sym x.tip) (subst (λ (l : Last). Behind (replay old.parts.tip step.notes) l) (sym (replay-both no_tip ns step.notes)) (all-behind old.parts.tip (replay no_tip ns) step.notes behind))) in
+        (λ b. keeps tells files count verifies P Q told ns step old.parts.store mid.parts.store x.under x.proper x.takes b more (fine (unbroken-front ns step.notes b)))
+        (subst (λ (l : Last). Behind l (replay no_tip (ns ++ step.notes))) (sym x.tip) (subst (λ (l : Last). Behind (replay old.parts.tip step.notes) l) (sym (replay-both no_tip ns step.notes)) (all-behind old.parts.tip (replay no_tip ns) step.notes behind))) in
         let rest = all_notes g.taken in
         record {
           taken = step ∷ g.taken;
@@ -293,7 +297,7 @@ module _ {S : Type 0} (tells : Bool) (files : S → Files) (count : S → ℕ) (
         let here = all_notes g.taken in
         let more = uncleared-both ns here c g.uncleared in
         let r = lives-go ls js (ns ++ here) end.parts.store new lived.3 fresh.1 roots.1 more
-            (λ b. trail tells files count verifies P Q told g.taken ns old end.parts.store g.under g.proper g.trail b more (fine (unbroken-front ns here b))) in
+        (λ b. trail tells files count verifies P Q told g.taken ns old end.parts.store g.under g.proper g.trail b more (fine (unbroken-front ns here b))) in
         let rest = all_notes r.taken in
         let both = notes-both g.taken r.taken in
         record {

@@ -307,7 +307,7 @@ timestamp-below n v t d r w le =
     let put = bind_ok (with (codes "meta") (object inner.0) t.extra) _ d inner.2 in
     let out = bind_ok (head_json (codes "timestamp") t.head put.0) (λ ys. Some (object ys)) d put.2 in
     let listed : depth (object inner.0) ≤ m = mapping-named (suc (suc n)) metafile_at metafile_json (metafile-below n) c.from meta.0.0 inner.0 c.reads
-        (subst (λ (x : TimestampDoc). named metafile_json x.meta ≡ Some inner.0) (sym same) inner.1) from in
+    (subst (λ (x : TimestampDoc). named metafile_json x.meta ≡ Some inner.0) (sym same) inner.1) from in
     outside m d out.0 (some-inj out.2) (head-written m (codes "timestamp") t.head put.0 out.0 out.1 (with-below m (codes "meta") (object inner.0) t.extra put.0 put.1 listed extra))
 
 snapshot-below : (n : ℕ) (v : Data) (t : SnapshotDoc) (d : Data) → snapshot_at v ≡ Some t → snapshot_json t ≡ Some d
@@ -328,7 +328,7 @@ snapshot-below n v t d r w le =
     let put = bind_ok (with (codes "meta") (object inner.0) t.extra) _ d inner.2 in
     let out = bind_ok (head_json (codes "snapshot") t.head put.0) (λ ys. Some (object ys)) d put.2 in
     let listed : depth (object inner.0) ≤ m = mapping-named (suc (suc n)) metafile_at metafile_json (metafile-below n) c.from meta.0.0 inner.0 c.reads
-        (subst (λ (x : SnapshotDoc). named metafile_json x.meta ≡ Some inner.0) (sym same) inner.1) from in
+    (subst (λ (x : SnapshotDoc). named metafile_json x.meta ≡ Some inner.0) (sym same) inner.1) from in
     outside m d out.0 (some-inj out.2) (head-written m (codes "snapshot") t.head put.0 out.0 out.1 (with-below m (codes "meta") (object inner.0) t.extra put.0 put.1 listed extra))
 
 -- ---- signed

@@ -1,6 +1,5 @@
 -- The parts of a world.
 use Rattle.std.specs.Prelude.{List}
-use Rattle.tough_keys.specs.declared.key.Verify.{Ghosts as Signs}
 use Rattle.tough_vault.specs.declared.store.Store.{Ghosts}
 use Rattle.tough_vault.specs.declared.vault.Vault.{Vault}
 use Rattle.tough_vault.specs.Vault.{parts_of}

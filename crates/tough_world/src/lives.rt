@@ -1,6 +1,6 @@
 //! Lives: one world after another on one store, each with a new vault.
 
-ghost use Rattle.std.specs.Prelude.{◌≡◌, IfOk, IsErr};
+ghost use Rattle.std.specs.Prelude.{◌≡◌, IfOk, IfErr};
 ghost use Rattle.tough_vault.specs.Journal.{notes_of};
 ghost use Rattle.tough_world.specs.Lives.{Lives, Lived, journals_of};
 

@@ -3,8 +3,7 @@
 ghost use Rattle.std.specs.Prelude.{◌≡◌, OnErr};
 ghost use Rattle.tough_vault.specs.Vault.{parts_of};
 ghost use Rattle.tough_trust.specs.View.{act_of, step_doc};
-ghost use Rattle.tough_update.specs.Machine.{question};
-ghost use Rattle.tough_update.specs.View.{core_doc};
+ghost use Rattle.tough_update.specs.View.{question_of};
 ghost use Rattle.tough_world.specs.Turns.{Steps, RepliesOr};
 
 use crate::steps::act_on;
@@ -12,7 +11,7 @@ use jiff::Timestamp as Instant;
 use std::alloc::Global;
 use tough_roles::Verify;
 use tough_trust::{Act, Fault};
-use tough_update::{Answer as Reply, Ask, Core};
+use tough_update::{Answer as Reply, Ask};
 use tough_vault::{StepError, Store, Vault};
 
 /// What an update is answered in a turn.
@@ -64,39 +63,44 @@ fn step<S: Store, V: Verify>(
     }
 }
 
-/// What the update is answered. It asked for this before, and a step is put on the vault.
+/// What an update that asks this is answered; a step is put on the vault.
 pub(crate) fn reply<S: Store, V: Verify>(
-    core: &Core,
+    ask: &Ask<'_>,
     vault: &mut Vault<S>,
     alloc: Global,
     verifier: &V,
     answer: Answer,
 ) -> Result<Reply, TurnError>
     ensures given { RepliesOr S.tells S.files S.count (V.verifies verifier.now)
-        (question (core_doc core.now)) answer (parts_of vault.old) (parts_of vault.new) result }
+        (question_of ask.now) answer (parts_of vault.old) (parts_of vault.new) result }
     ensures same { OnErr result (vault.new ≡ vault.old) }
 {
-    match core.ask() {
-        Ask::Moment => match answer {
-            Answer::Moment(now) => Ok(Reply::Moment(now)),
-            _ => Err(TurnError::NotAsked),
+    match answer {
+        Answer::Moment(now) => match ask {
+            Ask::Moment => Ok(Reply::Moment(now)),
+            Ask::Fetch(_) | Ask::Step(_) | Ask::Ready => Err(TurnError::NotAsked),
         },
-        Ask::Fetch(request) => match answer {
-            Answer::Bytes(bytes) => {
+        Answer::Bytes(bytes) => match ask {
+            Ask::Fetch(request) => {
                 if request.fits(&bytes) {
                     Ok(Reply::Bytes(bytes))
                 } else {
                     Err(TurnError::Misfit)
                 }
             }
-            Answer::NotStarted(fault) => Ok(Reply::NotStarted(fault)),
-            Answer::Cut(fault) => Ok(Reply::Cut(fault)),
-            Answer::Moment(_) | Answer::Step => Err(TurnError::NotAsked),
+            Ask::Moment | Ask::Step(_) | Ask::Ready => Err(TurnError::NotAsked),
         },
-        Ask::Step(act) => match answer {
-            Answer::Step => Ok(Reply::Step(step(vault, alloc, &act, verifier))),
-            _ => Err(TurnError::NotAsked),
+        Answer::NotStarted(fault) => match ask {
+            Ask::Fetch(_) => Ok(Reply::NotStarted(fault)),
+            Ask::Moment | Ask::Step(_) | Ask::Ready => Err(TurnError::NotAsked),
         },
-        Ask::Ready => Err(TurnError::NotAsked),
+        Answer::Cut(fault) => match ask {
+            Ask::Fetch(_) => Ok(Reply::Cut(fault)),
+            Ask::Moment | Ask::Step(_) | Ask::Ready => Err(TurnError::NotAsked),
+        },
+        Answer::Step => match ask {
+            Ask::Step(act) => Ok(Reply::Step(step(vault, alloc, act, verifier))),
+            Ask::Moment | Ask::Fetch(_) | Ask::Ready => Err(TurnError::NotAsked),
+        },
     }
 }

@@ -69,7 +69,8 @@ impl<S: Store, V: Verify> World<S, V> {
     fn take(&mut self, load: usize, answer: Answer) -> Result<(), TurnError>
         ensures turned { Turned S.tells S.files S.count (V.verifies (verifier_of self.old)) load
             answer (world_doc self.old) (world_doc self.new) result }
-        ensures same { OnErr result (self.new ≡ self.old) }
+        ensures same { OnErr result ((cores_of self.new ≡ cores_of self.old)
+            × (vault_of self.new ≡ vault_of self.old)) }
         ensures verifier { verifier_of self.new ≡ verifier_of self.old }
     {
         let World {
@@ -81,7 +82,7 @@ impl<S: Store, V: Verify> World<S, V> {
         let Some(core) = cores.get_mut(load) else {
             return Err(TurnError::NotAsked);
         };
-        match reply(core, vault, *alloc, verifier, answer) {
+        match reply(&core.ask(), vault, *alloc, verifier, answer) {
             Ok(reply) => {
                 core.answer(*alloc, verifier, reply);
                 Ok(())
@@ -99,7 +100,8 @@ impl<S: Store, V: Verify> World<S, V> {
     pub fn turn(&mut self, load: usize, answer: Answer) -> Result<(), TurnError>
         ensures turned { Turned S.tells S.files S.count (V.verifies (verifier_of self.old)) load
             answer (world_doc self.old) (world_doc self.new) result }
-        ensures same { OnErr result (self.new ≡ self.old) }
+        ensures same { OnErr result ((cores_of self.new ≡ cores_of self.old)
+            × (vault_of self.new ≡ vault_of self.old)) }
         ensures verifier { verifier_of self.new ≡ verifier_of self.old }
         ensures legal { Legal (notes_in (vault_of self.new)) (tip_in (vault_of self.new)) }
         ensures rising { NothingGoesBack (notes_in (vault_of self.new)) }
