@@ -43,7 +43,7 @@ AllStand (c ∷ cs) = Stands (core_doc c).stage × AllStand cs
 
 stand-get : (cs : List Core) (k : ℕ) (c : Core) → AllStand cs → slice_get cs k ≡ Some c → Stands (core_doc c).stage
 stand-get [] k c h e = absurd (cc (e))
-stand-get (x ∷ cs) zero c h e = subst (λ (y : Core). Stands (core_doc y).stage) (cc (e)) h.0
+stand-get (x ∷ cs) zero c h e = let same : x ≡ c = cc (e) in subst (λ (y : Core). Stands (core_doc y).stage) same h.0
 stand-get (x ∷ cs) (suc k) c h e = stand-get cs k c h.1 e
 
 stand-set : (cs : List Core) (k : ℕ) (c : Core) → AllStand cs → Stands (core_doc c).stage → AllStand (slice_set cs k c)
@@ -53,7 +53,7 @@ stand-set (x ∷ cs) (suc k) c h s = (h.0, stand-set cs k c h.1 s)
 
 under-get : (P Q : Option Policy) (cs : List Core) (k : ℕ) (c : Core) → CoresUnder P Q cs → slice_get cs k ≡ Some c → StageUnder P Q (core_doc c).stage
 under-get P Q [] k c h e = absurd (cc (e))
-under-get P Q (x ∷ cs) zero c h e = subst (λ (y : Core). StageUnder P Q (core_doc y).stage) (cc (e)) h.0
+under-get P Q (x ∷ cs) zero c h e = let same : x ≡ c = cc (e) in subst (λ (y : Core). StageUnder P Q (core_doc y).stage) same h.0
 under-get P Q (x ∷ cs) (suc k) c h e = under-get P Q cs k c h.1 e
 
 stand-fresh : (st : StageDoc) → st ≡ at.Moment → Stands st
