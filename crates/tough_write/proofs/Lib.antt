@@ -1,1 +1,3 @@
-
+mod Telling
+mod Each
+mod Wrote

@@ -31,10 +31,11 @@ module _ {X : Type 0} where
   abbrev pub IfMemory : (Outcome X → Script) → Outcome X → Script
   IfMemory goes result old new = Starves result old new ⊎ goes result old new
 
--- a step, and then what follows on what it gave; an error of the first is that of both
-abbrev pub Then : {X Y : Type 0} → (Outcome X → Script) → (X → Outcome Y → Script) → Outcome Y → Script
-Then first next result old new = ((e : OutputError) × first (Err e) old new × (result ≡ Err e))
-    ⊎ ((x : X) × (mid : List Told) × first (Ok x) old mid × next x result mid new)
+module _ {X Y : Type 0} where
+  -- a step, and then what follows on what it gave; an error of the first is that of both
+  abbrev pub Then : (Outcome X → Script) → (X → Outcome Y → Script) → Outcome Y → Script
+  Then first next result old new = ((e : OutputError) × first (Err e) old new × (result ≡ Err e))
+      ⊎ ((x : X) × (mid : List Told) × first (Ok x) old mid × next x result mid new)
 
 -- the same for each of a list, up to the first error
 abbrev pub EachOf : {X : Type 0} → (X → Done → Script) → List X → Done → Script

@@ -6,7 +6,7 @@ use Rattle.tough_save.specs.Scripts.{Script}
 use Rattle.tough_signed.specs.declared.signed_role.SignedRole.{SignedRole}
 use Rattle.tough_signed.specs.Roles.{signed_of, buffer_of}
 use Rattle.tough_write.specs.declared.error.OutputError.TheVariants as error
-use Rattle.tough_write.specs.declared.write.NamedFile.{NamedFile, out-NamedFile}
+use Rattle.tough_write.specs.declared.write.NamedFile.{NamedFile}
 use Rattle.tough_write.specs.Steps.{Done, Does, EachOf, IfMemory, MakesFolders, Resolves, Then}
 
 -- a file to be written: its name, and its bytes
@@ -14,7 +14,7 @@ abbrev pub FileDoc : Type 0
 FileDoc = List ℕ × List ℕ
 
 abbrev pub file_doc : NamedFile → FileDoc
-file_doc f = (string_bytes (out-NamedFile f).name, (out-NamedFile f).bytes.now)
+file_doc f = (string_bytes f.name, f.bytes.now)
 
 -- an empty file is made, and then the bytes are appended to it
 abbrev pub Writes : List ℕ → List ℕ → Done → Script

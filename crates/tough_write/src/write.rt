@@ -108,7 +108,7 @@ pub fn write_roles<F: Files>(
 /// What has signed roles that are written into a folder.
 pub trait WriteSigned {
     /// The files in the order in which they are written, by whether snapshots are consistent.
-    ghost files: { Self → Bool → List FileDoc };
+    ghost written: { Self → Bool → List FileDoc };
 
     /// The files in the order in which they are written. Where snapshots are consistent, each name but that of the timestamp begins with the
     /// version (TUF specification 1.0, section 6.2).
@@ -117,7 +117,7 @@ pub trait WriteSigned {
         alloc: Global,
         consistent_snapshot: bool,
     ) -> Result<Vec<NamedFile<'_>>, AllocError>
-        ensures { IfOk result (λ v. map file_doc v.items ≡ files self.now consistent_snapshot) };
+        ensures { IfOk result (λ v. map file_doc v.items ≡ written self.now consistent_snapshot) };
 
     /// Writes the files into the folder, as `write_roles` does; its refusals.
     fn write<F: Files>(
@@ -128,7 +128,7 @@ pub trait WriteSigned {
         consistent_snapshot: bool,
     ) -> Result<(), OutputError>
         ensures { F.tells ≡ true
-            → IfMemory (WritesAll outdir.now (Self.files self.now consistent_snapshot)) result
+            → IfMemory (WritesAll outdir.now (written self.now consistent_snapshot)) result
             (F.calls files.old) (F.calls files.new) }
     {
         let roles = self.named_files(alloc, consistent_snapshot)?;
@@ -151,7 +151,7 @@ fn named_file<T: Role + Drop>(
 }
 
 impl<T: Role + Drop> WriteSigned for SignedRole<T> {
-    ghost files = { λ r consistent. role_file T.file consistent r ∷ [] };
+    ghost written = { λ r consistent. role_file T.file consistent r ∷ [] };
 
     fn named_files(
         &self,
@@ -165,7 +165,7 @@ impl<T: Role + Drop> WriteSigned for SignedRole<T> {
 }
 
 impl WriteSigned for SignedDelegatedTargets {
-    ghost files = { λ s consistent. role_files DelegatedTargets.file consistent (roles_of s) };
+    ghost written = { λ s consistent. role_files DelegatedTargets.file consistent (roles_of s) };
 
     fn named_files(
         &self,

@@ -1,0 +1,11 @@
+-- What is told of refused calls.
+use Rattle.std.specs.Prelude.{◌≢◌, ℕ, List, refl}
+use Rattle.tough_files.specs.declared.files.FilesError.{FilesError}
+use Rattle.tough_files.specs.declared.files.FilesError.TheVariants as files
+use Rattle.tough_write.specs.declared.error.OutputError.{OutputError}
+use Rattle.tough_write.specs.Errors.{OfRefusal, Tells, TellsRefusal}
+
+pub refusal_told : (make : OfRefusal) (path : List ℕ) (why : FilesError) (e : OutputError) → why ≢ files.Memory → Tells (λ p. make p why) path e → TellsRefusal make path why e
+refusal_told make path files.NotFound e other h = h
+refusal_told make path files.Failed e other h = h
+refusal_told make path files.Memory e other h = absurd (other refl)
