@@ -1,3 +1,4 @@
 mod Telling
 mod Each
 mod Wrote
+mod Choosing

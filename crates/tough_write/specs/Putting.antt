@@ -1,5 +1,5 @@
 -- The calls by which the file of a target is copied or linked into a folder.
-use Rattle.std.specs.Prelude.{◌≡◌, ◌≢◌, ◌⊎◌, ℕ, Bool, true, false, List, Option, Some, None, option_map, Result, Ok, Err, codes, string_bytes, if◌then◌else◌, ⊤}
+use Rattle.std.specs.Prelude.{◌≡◌, ◌≢◌, ◌⊎◌, ℕ, Bool, true, false, List, Option, Some, None, option_map, Result, Ok, Err, codes, String, string_bytes, ⊤}
 use Rattle.std.specs.Borrow.{Bor}
 use Rattle.std.specs.declared.alloc.Global.{Global}
 use Rattle.std.specs.Path.{path_file_name, path_join, path_parent, PathStartsWith}
@@ -142,8 +142,8 @@ abbrev pub Settled : Named → List ℕ → List ℕ → String Global → Strin
 Settled name dir path real base result = Stops (IsWithin name dir path (string_bytes real) (string_bytes base) result)
 
 -- the folder of the file is made, and lies in the output folder, links followed
-abbrev pub Settles : Named → List ℕ → Place → Done → Script
-Settles name dir p = Then (MakesFolders (parent_of p)) (λ u. Then (Resolves (parent_of p)) (λ real. Then (Resolves dir) (λ base. Settled name dir (path_of p) real base)))
+abbrev pub Settles : Named → List ℕ → List ℕ → List ℕ → Done → Script
+Settles name dir parent path = Then (MakesFolders parent) (λ u. Then (Resolves parent) (λ real. Then (Resolves dir) (λ base. Settled name dir path real base)))
 
 -- ---- what stands there
 
@@ -169,7 +169,8 @@ HasContent path sha256 result old new = (r : Result Measured FilesError) × Read
 
 -- the name of a file has its digest under consistent snapshots; else what stands there is read
 abbrev pub Agrees : Bool → List ℕ → List ℕ → Done → Script
-Agrees consistent path sha256 result old new = (if consistent then Stops (IsDone result) else HasContent path sha256 result) old new
+Agrees true path sha256 result = Stops (IsDone result)
+Agrees false path sha256 result = HasContent path sha256 result
 
 abbrev pub is_kind : Making → List ℕ → Done → Answered → Type 0
 is_kind make.Copy path result (found File) = IsDone result
@@ -201,16 +202,21 @@ abbrev pub MakesOver : Manner → List ℕ → List ℕ → List ℕ → Done �
 MakesOver m input path sha256 = Then (Agrees m.consistent path sha256) (λ u. Then (IsKind m.making path) (λ v. Replaces m.exists m.making input path))
 
 abbrev pub MakesAt : Manner → List ℕ → List ℕ → List ℕ → Bool → Done → Script
-MakesAt m input path sha256 there result old new = (if there then MakesOver m input path sha256 result else Makes m.making input path result) old new
+MakesAt m input path sha256 true result = MakesOver m input path sha256 result
+MakesAt m input path sha256 false result = Makes m.making input path result
 
 abbrev pub Lays : Manner → List ℕ → List ℕ → List ℕ → Done → Script
 Lays m input path sha256 = Then (LooksFor path) (MakesAt m input path sha256)
 
 -- ---- the whole
 
--- The file is put at its place in the output folder, as that is looked up.
+-- the file is put at its place in this folder
+abbrev pub PutsIn : Manner → List ℕ → Chosen → List ℕ → Done → Script
+PutsIn m input c dir = Then (Places m.consistent dir c) (λ p. Then (Settles c.name dir (parent_of p) (path_of p)) (λ u. Lays m input (path_of p) c.sha256))
+
+-- the path of the output folder is looked up
 abbrev pub PutsChosen : Manner → List ℕ → Chosen → Done → Script
-PutsChosen m input c = Then (Resolves m.outdir) (λ dir. Then (Places m.consistent (string_bytes dir) c) (λ p. Then (Settles c.name (string_bytes dir) p) (λ u. Lays m input (path_of p) c.sha256)))
+PutsChosen m input c = Then (Resolves m.outdir) (λ dir. PutsIn m input c (string_bytes dir))
 
 -- A file is copied or linked into a folder, as the target of that name.
 abbrev pub Puts : Manner → List ℕ → Option Named → Done → Script

@@ -84,10 +84,18 @@ module _ (m : Manner) (root : List ℕ) (enters : List ℕ → Done → Script) 
   abbrev pub WalksFolder : List ℕ → Done → Script
   WalksFolder dir = Then (Lists root dir) (λ names. EachOf (VisitsName dir) names.items)
 
+-- a folder is entered, with so many folders from it on at most
+unfoldable pub Enters : Manner → List ℕ → ℕ → List ℕ → Done → Script
+Enters m root zero path = IsTooDeep root
+Enters m root (suc n) path = WalksFolder m root (Enters m root n) path
+
 -- a folder is walked, with so many folders below it at most
-unfoldable pub Walks : Manner → List ℕ → ℕ → List ℕ → Done → Script
-Walks m root zero dir = WalksFolder m root (λ path. IsTooDeep root) dir
-Walks m root (suc n) dir = WalksFolder m root (Walks m root n) dir
+abbrev pub Walks : Manner → List ℕ → ℕ → List ℕ → Done → Script
+Walks m root left dir = WalksFolder m root (Enters m root left) dir
+
+-- what stands at the path is looked at, and is put, entered or passed over
+abbrev pub VisitsPath : Manner → List ℕ → ℕ → List ℕ → Done → Script
+VisitsPath m root left path = Then (Looks root path) (Visits m root (Enters m root left) path)
 
 -- The output folder is made, and the path of the input folder is looked up; that is walked.
 abbrev pub PutsAll : Manner → List ℕ → Done → Script

@@ -2,11 +2,11 @@
 
 ghost use Rattle.std.specs.Prelude.{◌≡◌, ℕ, List, true, option_map, string_bytes};
 ghost use Rattle.tough_names.specs.Named.{Named};
-ghost use Rattle.tough_save.specs.Places.{path_of};
+ghost use Rattle.tough_files.specs.Calls as call;
 ghost use Rattle.tough_write.specs.declared.error.OutputError.TheVariants as error;
 ghost use Rattle.tough_write.specs.declared.path_exists.PathExists.TheVariants as exist;
 ghost use Rattle.tough_write.specs.Errors.{Tells, TellsKind, TellsMismatch, TellsUnsafe};
-ghost use Rattle.tough_write.specs.Putting.{manner_of, given, is_kind, HasContent, TellsUnmeasured, Agrees, Chooses, FindsFile, IsKind, IsListed, IsNamed, IsPlaced, Lays, LooksFor, Makes, MakesOver, Measures, Puts, PutsChosen, Replaces, Settles};
+ghost use Rattle.tough_write.specs.Putting.{manner_of, given, is_kind, HasContent, TellsUnmeasured, Agrees, Chooses, FindsFile, IsKind, IsListed, IsNamed, IsPlaced, IsWithin, Lays, LooksFor, Makes, MakesOver, Measures, Puts, PutsChosen, PutsIn, Replaces, Settles};
 
 use crate::error::{OutputError, Step, refusal};
 use crate::path_exists::PathExists;
@@ -259,10 +259,11 @@ fn check_content<F: Files>(
 {
     match read_all(files, path) {
         Ok(measured) => {
-            if measured.sha256.as_slice() == sha256 {
+            let found: &[u8] = &measured.sha256;
+            if found == sha256 {
                 Ok(())
             } else {
-                Err(mismatch(alloc, path, measured.sha256.as_slice(), sha256))
+                Err(mismatch(alloc, path, found, sha256))
             }
         }
         Err(error) => Err(refusal(alloc, Step::Read, path, error)),
@@ -288,7 +289,7 @@ impl Making {
 
     // The kind must be that of what is made.
     fn fits(self, alloc: Global, kind: FileKind, path: &str) -> Result<(), OutputError>
-        ensures { is_kind self path.now result (found kind) }
+        ensures { is_kind self path.now result (call.found kind) }
     {
         match (self, kind) {
             (Making::Copy, FileKind::File) | (Making::Link, FileKind::Link) => Ok(()),
@@ -344,6 +345,24 @@ impl Making {
     }
 }
 
+// A folder must lie in the other, as both were looked up.
+fn check_within(
+    alloc: Global,
+    name: &TargetName,
+    dir: &str,
+    path: &str,
+    real: &str,
+    base: &str,
+) -> Result<(), OutputError>
+    ensures { IsWithin name.now dir.now path.now real.now base.now result }
+{
+    if Path::new(real).starts_with(base) {
+        Ok(())
+    } else {
+        Err(unsafe_path(alloc, name, dir, path))
+    }
+}
+
 impl<'b, 'a> Putting<'b, 'a> {
     // Finds which target the input is.
     fn choose<F: Files>(
@@ -389,19 +408,17 @@ impl<'b, 'a> Putting<'b, 'a> {
         files: &mut F,
         dir: &str,
         name: &TargetName,
-        place: &Place,
+        parent: &str,
+        path: &str,
     ) -> Result<(), OutputError>
         ensures { F.tells ≡ true
-            → Settles name.now dir.now place.now result (F.calls files.old) (F.calls files.new) }
+            → Settles name.now dir.now parent.now path.now result (F.calls files.old)
+            (F.calls files.new) }
     {
-        make_folders(self.alloc, files, place.parent())?;
-        let real = resolve(self.alloc, files, place.parent())?;
+        make_folders(self.alloc, files, parent)?;
+        let real = resolve(self.alloc, files, parent)?;
         let base = resolve(self.alloc, files, dir)?;
-        if Path::new(real.as_str()).starts_with(base.as_str()) {
-            Ok(())
-        } else {
-            Err(unsafe_path(self.alloc, name, dir, place.path()))
-        }
+        check_within(self.alloc, name, dir, path, real.as_str(), base.as_str())
     }
 
     // Does what is to be done where something stands there already.
@@ -469,14 +486,32 @@ impl<'b, 'a> Putting<'b, 'a> {
             → Lays (manner_of self.now) input.now path.now sha256.now result
             (F.calls files.old) (F.calls files.new) }
     {
-        if is_there(files, path)? {
+        let there = is_there(files, path)?;
+        if there {
             self.make_over(files, input, path, sha256)
         } else {
             self.making.make(self.alloc, files, input, path)
         }
     }
 
-    // Puts the file at its place.
+    // Puts the file at its place in the folder.
+    fn put_in<F: Files>(
+        &self,
+        files: &mut F,
+        input: &str,
+        chosen: &Chosen,
+        dir: &str,
+    ) -> Result<(), OutputError>
+        ensures { F.tells ≡ true
+            → PutsIn (manner_of self.now) input.now chosen.now dir.now result
+            (F.calls files.old) (F.calls files.new) }
+    {
+        let place = self.place(dir, chosen)?;
+        self.settle(files, dir, &chosen.name, place.parent(), place.path())?;
+        self.lay(files, input, place.path(), &chosen.sha256)
+    }
+
+    // Puts the file at its place in the output folder.
     fn put_chosen<F: Files>(
         &self,
         files: &mut F,
@@ -488,9 +523,7 @@ impl<'b, 'a> Putting<'b, 'a> {
             (F.calls files.old) (F.calls files.new) }
     {
         let dir = resolve(self.alloc, files, self.outdir)?;
-        let place = self.place(dir.as_str(), chosen)?;
-        self.settle(files, dir.as_str(), &chosen.name, &place)?;
-        self.lay(files, input, place.path(), &chosen.sha256)
+        self.put_in(files, input, chosen, dir.as_str())
     }
 
     // Copies or links the file, as the target of the name.

@@ -2,7 +2,7 @@
 
 ghost use Rattle.std.specs.Prelude.{◌≡◌, ℕ, None, true, string_bytes};
 ghost use Rattle.tough_write.specs.Putting.{manner_of};
-ghost use Rattle.tough_write.specs.Walking.{Lists, Looks, LooksInner, PutsAll, Takes, Walks};
+ghost use Rattle.tough_write.specs.Walking.{Lists, Looks, LooksInner, PutsAll, Takes, VisitsPath, Walks};
 
 use crate::error::{OutputError, Step, refusal};
 use crate::put::Putting;
@@ -90,7 +90,35 @@ impl<'b, 'a> Putting<'b, 'a> {
         }
     }
 
+    // Puts, walks or passes over what stands there, with at most so many folders from it on.
+    #[cycle(walk)]
+    fn visit<F: Files>(
+        &self,
+        files: &mut F,
+        root: &str,
+        path: &str,
+        left: u32,
+    ) -> Result<(), OutputError>
+        ensures { F.tells ≡ true
+            → VisitsPath (manner_of self.now) root.now left path.now result
+            (F.calls files.old) (F.calls files.new) }
+    {
+        let entry = look(self.alloc, files, root, path)?;
+        match entry {
+            Entry::File => self.take(files, path),
+            Entry::Folder => {
+                if left == 0 {
+                    Err(refusal(self.alloc, Step::Walk, root, FilesError::Failed))
+                } else {
+                    self.walk(files, root, path, left - 1)
+                }
+            }
+            Entry::Passed => Ok(()),
+        }
+    }
+
     // Walks a folder, with at most so many folders below it.
+    #[cycle(walk)]
     fn walk<F: Files>(
         &self,
         files: &mut F,
@@ -99,22 +127,13 @@ impl<'b, 'a> Putting<'b, 'a> {
         left: u32,
     ) -> Result<(), OutputError>
         ensures { F.tells ≡ true
-            → Walks (manner_of self.now) root.now left dir.now result (F.calls files.old)
-            (F.calls files.new) }
+            → Walks (manner_of self.now) root.now left dir.now result
+            (F.calls files.old) (F.calls files.new) }
     {
         let names = names_in(self.alloc, files, root, dir)?;
         for name in &names {
             let path = Path::new(dir).join(self.alloc, name.as_str())?.into_string();
-            match look(self.alloc, files, root, path.as_str())? {
-                Entry::File => self.take(files, path.as_str())?,
-                Entry::Folder => {
-                    if left == 0 {
-                        return Err(refusal(self.alloc, Step::Walk, root, FilesError::Failed));
-                    }
-                    self.walk(files, root, path.as_str(), left - 1)?;
-                }
-                Entry::Passed => {}
-            }
+            self.visit(files, root, path.as_str(), left)?;
         }
         Ok(())
     }
@@ -126,7 +145,8 @@ impl<'b, 'a> Putting<'b, 'a> {
             (F.calls files.new) }
     {
         make_folders(self.alloc, files, self.outdir)?;
-        let root = resolve(self.alloc, files, indir)?;
-        self.walk(files, root.as_str(), root.as_str(), MAX_DEPTH)
+        let folder = resolve(self.alloc, files, indir)?;
+        let root = folder.as_str();
+        self.walk(files, root, root, MAX_DEPTH)
     }
 }
