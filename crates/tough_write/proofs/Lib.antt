@@ -2,3 +2,5 @@ mod Telling
 mod Each
 mod Wrote
 mod Choosing
+mod Listings
+mod Walked

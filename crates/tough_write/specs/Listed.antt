@@ -1,13 +1,12 @@
 -- The targets whose files are copied or linked (TUF specification 1.0, sections 4.5 and 6.2).
-use Rattle.std.specs.Prelude.{ℕ, Bool, List, Option, option_map}
-use Rattle.std.specs.List.{flat_map}
+use Rattle.std.specs.Prelude.{ℕ, Bool, List, [], ◌∷◌, ◌++◌, Option, option_map}
 use Rattle.tough_names.specs.Named.{Named}
-use Rattle.tough_schema.specs.Entries.{all_listed, merged_into}
+use Rattle.tough_schema.specs.Entries.{all_listed}
 use Rattle.tough_schema.specs.Gather.{map_docs}
 use Rattle.tough_schema.specs.Search.{listed}
 use Rattle.tough_schema.specs.Target.{TargetDoc}
 use Rattle.tough_schema.specs.Tree.{Listing}
-use Rattle.tough_schema.specs.Whole.{TreeDoc, tree_doc}
+use Rattle.tough_schema.specs.Whole.{tree_doc}
 use Rattle.tough_schema.specs.declared.targets.DelegatedTargets.{DelegatedTargets, out-DelegatedTargets}
 use Rattle.tough_signed.specs.declared.signed_role.SignedRole.{SignedRole}
 use Rattle.tough_signed.specs.Roles.{signed_of}
@@ -34,4 +33,5 @@ listed_in_role r = all_listed (tree_doc (out-DelegatedTargets (signed_of r).sign
 
 -- what the documents of these roles list, one after another
 abbrev pub listed_by : List (SignedRole DelegatedTargets) → Listing
-listed_by rs = flat_map listed_in_role rs
+listed_by [] = []
+listed_by (r ∷ rs) = listed_in_role r ++ listed_by rs

@@ -51,7 +51,8 @@ impl<'a> TargetFiles<'a> {
             (λ t. is_consistent t ≡ signed.is_consistent roles.now) }
     {
         let mut targets = BTreeMap::new(alloc);
-        for role in roles.roles() {
+        let all = roles.roles();
+        for role in all {
             add_listed(alloc, role, &mut targets)?;
         }
         Ok(TargetFiles::new(targets, roles.consistent_snapshot()))

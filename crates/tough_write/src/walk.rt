@@ -70,9 +70,12 @@ fn look<F: Files>(
         → Looks root.now path.now result (F.calls files.old) (F.calls files.new) }
 {
     match files.kind(path, true) {
-        Ok(FileKind::File) => Ok(Entry::File),
-        Ok(FileKind::Folder) => inner(alloc, files, root, path),
-        Ok(_) => Ok(Entry::Passed),
+        Ok(kind) => match kind {
+            FileKind::File => Ok(Entry::File),
+            FileKind::Folder => inner(alloc, files, root, path),
+            FileKind::Link => Ok(Entry::Passed),
+            FileKind::Other => Ok(Entry::Passed),
+        },
         Err(error) => Err(refusal(alloc, Step::Walk, root, error)),
     }
 }

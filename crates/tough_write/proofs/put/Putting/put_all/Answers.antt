@@ -1,7 +1,7 @@
 use Rattle.std.proofs.Common.{ℕ, List, rules, inl, inr, subst}
 use Rattle.tough_write.specs.Putting.{manner_of}
 use Rattle.tough_write.specs.Walking.{max_depth, Walks}
-use Rattle.tough_write.proofs.walk.Putting.put_all.Goals as goal
+use Rattle.tough_write.proofs.put.Putting.put_all.Goals as goal
 
 pub returns-in_err-folder : goal.returns-in_err-folder
 returns-in_err-folder g c = λ tells. inr (c.in_ok-make_folders.field-0, g.F.Files.calls c.make_folders.new.files, c.in_ok-make_folders.ensures tells,

@@ -2,7 +2,7 @@ use Rattle.std.proofs.Common.{◌≡◌, ◌+◌, ◌*◌, true, drop}
 use Rattle.tough_write.specs.Putting.{manner_of}
 use Rattle.tough_write.specs.Steps.{EachOf}
 use Rattle.tough_write.specs.Walking.{Enters, VisitsName}
-use Rattle.tough_write.proofs.walk.Putting.+walk.Given as goal
+use Rattle.tough_write.proofs.put.Putting.+walk.Given as goal
 
 abbrev pub decreases-visit : goal.decreases-visit
 decreases-visit g l = 2 * l.left
