@@ -17,18 +17,28 @@ pub enum PathExists {
 }
 
 impl PathExists {
+    // What the word means, if it means anything.
+    fn of(name: &str) -> Option<PathExists>
+        ensures { result ≡ path_exists name.now }
+    {
+        if name == "skip" {
+            Some(PathExists::Skip)
+        } else if name == "replace" {
+            Some(PathExists::Replace)
+        } else if name == "fail" {
+            Some(PathExists::Fail)
+        } else {
+            None
+        }
+    }
+
     /// What the word means, of `skip`, `replace` and `fail`; `Shape` for any other.
     pub fn from_str(alloc: Global, name: &str) -> Result<PathExists, ReadError>
         ensures { Reads (λ p. p) result (path_exists name.now) }
     {
-        if name == "skip" {
-            Ok(PathExists::Skip)
-        } else if name == "replace" {
-            Ok(PathExists::Replace)
-        } else if name == "fail" {
-            Ok(PathExists::Fail)
-        } else {
-            Err(shape(alloc, name))
+        match PathExists::of(name) {
+            Some(exists) => Ok(exists),
+            None => Err(shape(alloc, name)),
         }
     }
 }
