@@ -4,3 +4,4 @@ mod Wrote
 mod Choosing
 mod Listings
 mod Walked
+mod Named

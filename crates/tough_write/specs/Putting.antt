@@ -177,7 +177,7 @@ is_kind make.Copy path result (found File) = IsDone result
 is_kind make.Copy path result (found Link) = Fails (TellsKind (codes "regular file") (codes "symlink") path) result
 is_kind make.Link path result (found Link) = IsDone result
 is_kind make.Link path result (found File) = Fails (TellsKind (codes "symlink") (codes "regular file") path) result
-is_kind making path result (found other) = Fails (Tells error.InvalidFileType path) result
+is_kind making path result (found k) = Fails (Tells error.InvalidFileType path) result
 is_kind making path result (refused why) = Fails (TellsRefusal error.FileMetadata path why) result
 is_kind making path result _ = ⊥
 

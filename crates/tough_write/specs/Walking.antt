@@ -37,7 +37,7 @@ Lists root dir result = Asks (list_of dir) (λ answered. Stops (is_listed root r
 -- a folder, and not a link to one, is walked
 abbrev pub is_inner : List ℕ → Outcome Entry → Answered → Type 0
 is_inner root result (found kind.Folder) = result ≡ Ok entry.Folder
-is_inner root result (found other) = result ≡ Ok entry.Passed
+is_inner root result (found k) = result ≡ Ok entry.Passed
 is_inner root result (refused why) = Fails (TellsRefusal error.WalkDir root why) result
 is_inner root result _ = ⊥
 
@@ -48,7 +48,7 @@ LooksInner root path result = Asks (kind_of path false) (λ answered. Stops (is_
 abbrev pub looked : List ℕ → List ℕ → Outcome Entry → Answered → Script
 looked root path result (found kind.File) = Stops (result ≡ Ok entry.File)
 looked root path result (found kind.Folder) = LooksInner root path result
-looked root path result (found other) = Stops (result ≡ Ok entry.Passed)
+looked root path result (found k) = Stops (result ≡ Ok entry.Passed)
 looked root path result (refused why) = Stops (Fails (TellsRefusal error.WalkDir root why) result)
 looked root path result _ = Stops ⊥
 

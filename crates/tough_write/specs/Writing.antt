@@ -2,7 +2,10 @@
 use Rattle.std.specs.Prelude.{ℕ, Bool, List, map, string_bytes}
 use Rattle.std.specs.Path.{path_join}
 use Rattle.tough_files.specs.Calls.{create_at, append_to}
+use Rattle.tough_roles.specs.Names.{file_name}
 use Rattle.tough_save.specs.Scripts.{Script}
+use Rattle.tough_schema.specs.Targets.{delegated_doc, delegated_file, delegated_name}
+use Rattle.tough_schema.specs.declared.targets.DelegatedTargets.{DelegatedTargets}
 use Rattle.tough_signed.specs.declared.signed_role.SignedRole.{SignedRole}
 use Rattle.tough_signed.specs.Roles.{signed_of, buffer_of}
 use Rattle.tough_write.specs.declared.error.OutputError.TheVariants as error
@@ -35,3 +38,7 @@ role_file file consistent r = (file (signed_of r).signed consistent, buffer_of r
 -- the files of signed roles
 abbrev pub role_files : {T : Type 0} → (T → Bool → List ℕ) → Bool → List (SignedRole T) → List FileDoc
 role_files file consistent rs = map (role_file file consistent) rs
+
+-- the name of the file of a delegated role's document: escaped, and after the version where snapshots are consistent
+abbrev pub roles_file : DelegatedTargets → Bool → List ℕ
+roles_file d consistent = file_name consistent (delegated_doc d).head.version (delegated_file (delegated_name d))

@@ -31,7 +31,7 @@ impl<'a> TargetFiles<'a> {
         targets: BTreeMap<TargetName, &'a Target>,
         consistent_snapshot: bool,
     ) -> TargetFiles<'a>
-        ensures targets { listing_in result ≡ map_docs targets.entries }
+        ensures targets { listing_in result ≡ map_docs targets.entry.entries }
         ensures consistent { is_consistent result ≡ consistent_snapshot }
     {
         TargetFiles {

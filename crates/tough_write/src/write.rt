@@ -1,11 +1,9 @@
 //! Signed roles are written into a folder.
 
 ghost use Rattle.std.specs.Prelude.{◌≡◌, ℕ, List, [], ◌∷◌, Bool, true, IfOk, map, string_bytes};
-ghost use Rattle.tough_roles.specs.RoleId.{RoleIdDoc};
-ghost use Rattle.tough_schema.specs.declared.targets.DelegatedTargets.{DelegatedTargets as Roles};
 ghost use Rattle.tough_signed.specs.Standing.{roles_of};
 ghost use Rattle.tough_write.specs.Steps.{IfMemory, MakesFolders, Resolves};
-ghost use Rattle.tough_write.specs.Writing.{FileDoc, file_doc, Writes, WritesRole, WritesAll, role_file, role_files};
+ghost use Rattle.tough_write.specs.Writing.{FileDoc, file_doc, Writes, WritesRole, WritesAll, role_file, role_files, roles_file};
 
 use crate::error::{OutputError, Step, refusal};
 use std::alloc::{AllocError, Global};
@@ -13,7 +11,6 @@ use std::path::Path;
 use tough_files::Files;
 use tough_roles::Role;
 use tough_save::write_file;
-use tough_schema::DelegatedTargets;
 use tough_signed::{SignedDelegatedTargets, SignedRole};
 
 /// A file to be written: its name, and its bytes.
@@ -165,7 +162,7 @@ impl<T: Role + Drop> WriteSigned for SignedRole<T> {
 }
 
 impl WriteSigned for SignedDelegatedTargets {
-    ghost written = { λ s consistent. role_files DelegatedTargets.file consistent (roles_of s) };
+    ghost written = { λ s consistent. role_files roles_file consistent (roles_of s) };
 
     fn named_files(
         &self,
@@ -173,8 +170,10 @@ impl WriteSigned for SignedDelegatedTargets {
         consistent_snapshot: bool,
     ) -> Result<Vec<NamedFile<'_>>, AllocError> {
         let mut files = Vec::new(alloc);
-        for role in self.roles() {
-            files.push(named_file(role, alloc, consistent_snapshot)?)?;
+        let roles = self.roles();
+        for role in roles {
+            let file = named_file(role, alloc, consistent_snapshot)?;
+            files.push(file)?;
         }
         Ok(files)
     }
