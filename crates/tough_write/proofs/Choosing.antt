@@ -1,6 +1,6 @@
 -- What is done at a target's path.
-use Rattle.std.specs.Prelude.{◌≡◌, ℕ, Bool, true, false, List, Some, None, Ok, Err, String, string_bytes, refl}
-use Rattle.std.proofs.Common.{inr, subst, ◌∙◌}
+use Rattle.std.specs.Prelude.{◌≡◌, ℕ, Bool, true, false, List, Some, None, Ok, String, string_bytes, refl}
+use Rattle.std.proofs.Common.{subst, ◌∙◌}
 use Rattle.std.specs.declared.alloc.Global.{Global}
 use Rattle.std.specs.Path.{path_join, path_parent}
 use Rattle.tough_files.specs.Calls.{Told}

@@ -1,6 +1,6 @@
 -- How steps for each of a list go on.
 use Rattle.std.specs.Prelude.{◌≡◌, ℕ, ◌+◌, ◌<◌, ◌≤◌, List, [], ◌∷◌, length, drop, map, Ok, Err, refl}
-use Rattle.std.proofs.Common.{get_or, inl, inr, sym, subst, drop-cons, add-one, ◌∙◌}
+use Rattle.std.proofs.Common.{get_or, inl, inr, sym, subst, drop-cons, add-one}
 use Rattle.std.proofs.lemmas.List.{drop_all}
 use Rattle.tough_files.specs.Calls.{Told}
 use Rattle.tough_save.specs.Scripts.{Script}

@@ -1,14 +1,13 @@
 -- The calls by which the file of a target is copied or linked into a folder.
-use Rattle.std.specs.Prelude.{◌≡◌, ◌≢◌, ◌⊎◌, ℕ, Bool, true, false, List, Option, Some, None, option_map, Result, Ok, Err, codes, String, string_bytes, ⊤}
+use Rattle.std.specs.Prelude.{◌≡◌, ◌≢◌, ◌⊎◌, ℕ, Bool, true, false, List, Option, Some, None, option_map, Result, Ok, Err, codes, String, string_bytes}
 use Rattle.std.specs.Borrow.{Bor}
 use Rattle.std.specs.declared.alloc.Global.{Global}
 use Rattle.std.specs.Path.{path_file_name, path_join, path_parent, PathStartsWith}
-use Rattle.tough_files.specs.declared.files.FileKind.TheVariants.{File, Folder, Link, Other}
+use Rattle.tough_files.specs.declared.files.FileKind.TheVariants.{File, Link}
 use Rattle.tough_files.specs.declared.files.FilesError.{FilesError}
 use Rattle.tough_files.specs.declared.files.FilesError.TheVariants as files
-use Rattle.tough_files.specs.Calls.{Answered, Told, found, refused, kind_of, copy_to, link_to, remove_at}
+use Rattle.tough_files.specs.Calls.{Answered, found, refused, kind_of, copy_to, link_to, remove_at}
 use Rattle.tough_names.specs.declared.name.NameError.{NameError}
-use Rattle.tough_names.specs.declared.name.NameError.TheVariants as names
 use Rattle.tough_names.specs.Named.{Named, clean}
 use Rattle.tough_save.specs.Places.{path_of, parent_of, IsPlace}
 use Rattle.tough_save.specs.declared.place.Place.{Place}
@@ -30,7 +29,7 @@ use Rattle.tough_write.specs.declared.put.Putting.{Putting}
 use Rattle.tough_write.specs.declared.target_files.TargetFiles.{TargetFiles}
 use Rattle.tough_write.specs.Errors.{Tells, TellsKind, TellsMismatch, TellsRefusal, TellsUnsafe}
 use Rattle.tough_write.specs.Listed.{is_consistent, listed_sha256, listing_in}
-use Rattle.tough_write.specs.Steps.{Done, Does, Fails, IfMemory, IsDone, MakesFolders, Outcome, Resolves, Then}
+use Rattle.tough_write.specs.Steps.{Done, Does, Fails, IsDone, MakesFolders, Outcome, Resolves, Then}
 
 -- how files are put into a folder
 pub record Manner : Type 0 where

@@ -7,12 +7,12 @@ use Rattle.std.specs.Ordering.{nat_cmp, on}
 use Rattle.std.specs.Path.{path_join}
 use Rattle.tough_files.specs.declared.files.FileKind.TheVariants as kind
 use Rattle.tough_files.specs.declared.files.FilesError.TheVariants as files
-use Rattle.tough_files.specs.Calls.{Answered, Told, found, listed, refused, kind_of, list_of}
+use Rattle.tough_files.specs.Calls.{Answered, found, listed, refused, kind_of, list_of}
 use Rattle.tough_save.specs.Scripts.{Script, Asks, Stops}
 use Rattle.tough_write.specs.declared.error.OutputError.TheVariants as error
 use Rattle.tough_write.specs.declared.walk.Entry.{Entry}
 use Rattle.tough_write.specs.declared.walk.Entry.TheVariants as entry
-use Rattle.tough_write.specs.Errors.{Tells, TellsRefusal}
+use Rattle.tough_write.specs.Errors.{TellsRefusal}
 use Rattle.tough_write.specs.Putting.{Manner, Puts}
 use Rattle.tough_write.specs.Steps.{Done, EachOf, Fails, IfMemory, IsDone, MakesFolders, Outcome, Resolves, Then}
 
@@ -21,7 +21,6 @@ abbrev pub max_depth : ℕ
 max_depth = 128
 
 -- ---- what a folder has
-
 
 -- the names that were answered, in the order of their bytes
 abbrev pub is_listed : List ℕ → Outcome (Vec (String Global) Global) → Answered → Type 0

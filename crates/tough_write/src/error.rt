@@ -204,12 +204,7 @@ fn refused(step: Step, path: String, source: FilesError) -> OutputError
 }
 
 /// The error for a call on this path that was refused at this step.
-pub(crate) fn refusal(
-    alloc: Global,
-    step: Step,
-    path: &str,
-    source: FilesError,
-) -> OutputError
+pub(crate) fn refusal(alloc: Global, step: Step, path: &str, source: FilesError) -> OutputError
     ensures { TellsRefusal (of_step step) path.now source result }
 {
     if source == FilesError::Memory {

@@ -190,11 +190,7 @@ fn last_name(alloc: Global, input: &str) -> Result<TargetName, OutputError>
 }
 
 // The name that is given, else the path's last component.
-fn name_of(
-    alloc: Global,
-    input: &str,
-    name: Option<&TargetName>,
-) -> Result<TargetName, OutputError>
+fn name_of(alloc: Global, input: &str, name: Option<&TargetName>) -> Result<TargetName, OutputError>
     ensures { IsNamed input.now (given name.entry) result }
 {
     match name {
@@ -388,7 +384,12 @@ impl<'b, 'a> Putting<'b, 'a> {
         ensures { IsPlaced (manner_of self.now).consistent dir.now chosen.now result }
     {
         let consistent = self.targets.consistent_snapshot();
-        let name = file_name(self.alloc, chosen.name.resolved(), &chosen.sha256, consistent)?;
+        let name = file_name(
+            self.alloc,
+            chosen.name.resolved(),
+            &chosen.sha256,
+            consistent,
+        )?;
         match Place::new(self.alloc, dir, name.as_str()) {
             Ok(place) => Ok(place),
             Err(SaveError::NoParent { path }) => {
@@ -422,12 +423,7 @@ impl<'b, 'a> Putting<'b, 'a> {
     }
 
     // Does what is to be done where something stands there already.
-    fn replace<F: Files>(
-        &self,
-        files: &mut F,
-        input: &str,
-        path: &str,
-    ) -> Result<(), OutputError>
+    fn replace<F: Files>(&self, files: &mut F, input: &str, path: &str) -> Result<(), OutputError>
         ensures { F.tells ≡ true
             → Replaces (manner_of self.now).exists (manner_of self.now).making input.now path.now
             result (F.calls files.old) (F.calls files.new) }
@@ -440,12 +436,7 @@ impl<'b, 'a> Putting<'b, 'a> {
     }
 
     // What stands there must have the digest, unless its name has it.
-    fn agree<F: Files>(
-        &self,
-        files: &mut F,
-        path: &str,
-        sha256: &[u8],
-    ) -> Result<(), OutputError>
+    fn agree<F: Files>(&self, files: &mut F, path: &str, sha256: &[u8]) -> Result<(), OutputError>
         ensures { F.tells ≡ true
             → Agrees (manner_of self.now).consistent path.now sha256.now result
             (F.calls files.old) (F.calls files.new) }

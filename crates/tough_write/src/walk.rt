@@ -135,7 +135,9 @@ impl<'b, 'a> Putting<'b, 'a> {
     {
         let names = names_in(self.alloc, files, root, dir)?;
         for name in &names {
-            let path = Path::new(dir).join(self.alloc, name.as_str())?.into_string();
+            let path = Path::new(dir)
+                .join(self.alloc, name.as_str())?
+                .into_string();
             self.visit(files, root, path.as_str(), left)?;
         }
         Ok(())

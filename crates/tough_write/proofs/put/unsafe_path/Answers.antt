@@ -1,4 +1,4 @@
-use Rattle.std.proofs.Common.{rules, inr, refl, ap}
+use Rattle.std.proofs.Common.{rules, inr}
 use Rattle.tough_write.proofs.put.unsafe_path.Goals as goal
 
 pub returns-in-Ok-from_str-2 : goal.returns-in-Ok-from_str-2

@@ -1,5 +1,4 @@
-use Rattle.std.proofs.Common.{List, subst}
-use Rattle.tough_files.specs.Calls.{Told, found, refused}
+use Rattle.tough_files.specs.Calls.{found, refused}
 use Rattle.tough_write.proofs.Walked.{looked_file, looked_folder, looked_link, looked_other}
 use Rattle.tough_write.proofs.walk.look.Goals as goal
 

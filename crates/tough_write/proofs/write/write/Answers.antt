@@ -1,4 +1,4 @@
-use Rattle.std.proofs.Common.{rules, inr, refl}
+use Rattle.std.proofs.Common.{inr, refl}
 use Rattle.tough_files.specs.Calls.{done}
 use Rattle.tough_save.specs.Wholes.{created}
 use Rattle.tough_write.proofs.Wrote.{write_refused}

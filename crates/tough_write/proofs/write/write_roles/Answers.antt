@@ -1,6 +1,4 @@
-use Rattle.std.proofs.Common.{◌≡◌, ℕ, List, rules, arith, sym, subst, Err, Ok, string_bytes}
-use Rattle.tough_files.specs.Calls.{Told}
-use Rattle.tough_write.specs.Steps.{Done}
+use Rattle.std.proofs.Common.{ℕ, List, rules, subst, Err, Ok}
 use Rattle.tough_write.specs.Writing.{file_doc, WritesRole}
 use Rattle.tough_write.proofs.Wrote.{WritesNamed}
 use Rattle.tough_write.proofs.Each.{each_end, each_fails, each_goes, each_map}
@@ -15,7 +13,7 @@ returns-in_err-write_role g c = λ tells.
     let P : List ℕ → Type 0 = λ name. WritesRole c.args.outdir.now (name, c.role-item.result.bytes.now) (Err e) (calls c.loop-role.files) new in
     let failed = subst P c.as_str.ensures.value (c.in_err-write_role.ensures tells) in
     let all = each_map (WritesRole c.args.outdir.now) file_doc c.args.roles.now (Err e) (calls c.args.files.now) new
-        (c.loop-role.invariant tells (Err e) new (each_fails does c.args.roles.now c.loop-role.role-index c.role-item.result (calls c.loop-role.files) new c.loop-role-test.true c.role-item.is e failed)) in
+    (c.loop-role.invariant tells (Err e) new (each_fails does c.args.roles.now c.loop-role.role-index c.role-item.result (calls c.loop-role.files) new c.loop-role-test.true c.role-item.is e failed)) in
     search rules
 
 pub returns : goal.returns

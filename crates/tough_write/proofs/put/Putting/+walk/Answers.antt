@@ -10,15 +10,23 @@ use Rattle.tough_write.proofs.Walked.{entered, too_deep}
 use Rattle.tough_write.proofs.put.Putting.+walk.Goals as goal
 
 pub visit-returns-then-left-eq0 : goal.visit-returns-then-left-eq0
-visit-returns-then-left-eq0 g t c = λ tells. inr (c.in_ok-entry.entry, g.F.Files.calls c.look.new.files, c.in_ok-entry.ensures tells,
-    too_deep (manner_of c.args.self.now) c.args.root.now c.args.path.now c.args.left c.in_ok-entry.entry c.in-Folder.is c.refusal.result _ c.if-left-eq0.true c.refusal.ensures)
+visit-returns-then-left-eq0 g t c = λ tells. inr (
+  c.in_ok-entry.entry,
+  g.F.Files.calls c.look.new.files,
+  c.in_ok-entry.ensures tells,
+  too_deep (manner_of c.args.self.now) c.args.root.now c.args.path.now c.args.left c.in_ok-entry.entry c.in-Folder.is c.refusal.result _ c.if-left-eq0.true c.refusal.ensures,
+)
 
 pub visit-returns-else-left-eq0 : goal.visit-returns-else-left-eq0
 visit-returns-else-left-eq0 g t c = λ tells.
     let some = c.if-left-eq0.false in
     let more : c.args.left ≡ (c.args.left - 1) + 1 = omega (arith, some) in
-    inr (c.in_ok-entry.entry, g.F.Files.calls c.look.new.files, c.in_ok-entry.ensures tells,
-    entered (manner_of c.args.self.now) c.args.root.now c.args.path.now c.args.left c.in_ok-entry.entry c.in-Folder.is (c.args.left - 1) c.walk.result _ _ more (c.walk.ensures tells))
+    inr (
+      c.in_ok-entry.entry,
+      g.F.Files.calls c.look.new.files,
+      c.in_ok-entry.ensures tells,
+      entered (manner_of c.args.self.now) c.args.root.now c.args.path.now c.args.left c.in_ok-entry.entry c.in-Folder.is (c.args.left - 1) c.walk.result _ _ more (c.walk.ensures tells),
+    )
 
 pub walk-returns-in_err-join : goal.walk-returns-in_err-join
 walk-returns-in_err-join g t c = λ tells.

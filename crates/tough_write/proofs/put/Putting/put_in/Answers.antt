@@ -1,6 +1,5 @@
 use Rattle.std.proofs.Common.{ℕ, List, rules, inl, inr, refl, subst, Err, Ok}
-use Rattle.tough_save.specs.Places.{path_of, parent_of}
-use Rattle.tough_write.specs.Steps.{Done}
+use Rattle.tough_save.specs.Places.{parent_of}
 use Rattle.tough_write.specs.Putting.{manner_of, Lays, Settles}
 use Rattle.tough_write.proofs.put.Putting.put_in.Goals as goal
 
@@ -12,8 +11,12 @@ returns-in_err-settle g c = λ tells.
     let S : List ℕ → List ℕ → Type 0 = λ parent path. Settles c.args.chosen.now.name c.args.dir.now parent path (Err e) (g.F.Files.calls c.args.files.now) new in
     let P : List ℕ → Type 0 = λ parent. S parent c.path.result.now in
     let Q : List ℕ → Type 0 = λ path. S (parent_of place) path in
-    inr (place, g.F.Files.calls c.args.files.now, (refl, c.in_ok-place.ensures),
-    inl (e, subst Q c.path.ensures (subst P c.parent.ensures (c.in_err-settle.ensures tells)), search rules))
+    inr (
+      place,
+      g.F.Files.calls c.args.files.now,
+      (refl, c.in_ok-place.ensures),
+      inl (e, subst Q c.path.ensures (subst P c.parent.ensures (c.in_err-settle.ensures tells)), search rules),
+    )
 
 pub returns : goal.returns
 returns g c = λ tells.
@@ -24,5 +27,9 @@ returns g c = λ tells.
     let P : List ℕ → Type 0 = λ parent. S parent c.path.result.now in
     let Q : List ℕ → Type 0 = λ path. S (parent_of place) path in
     let L : List ℕ → Type 0 = λ path. Lays (manner_of c.args.self.now) c.args.input.now path c.args.chosen.now.sha256 c.lay.result mid (g.F.Files.calls c.lay.new.files) in
-    inr (place, g.F.Files.calls c.args.files.now, (refl, c.in_ok-place.ensures),
-    inr (u, mid, subst Q c.path.ensures (subst P c.parent.ensures (c.in_ok-settle.ensures tells)), subst L c.path-2.ensures (c.lay.ensures tells)))
+    inr (
+      place,
+      g.F.Files.calls c.args.files.now,
+      (refl, c.in_ok-place.ensures),
+      inr (u, mid, subst Q c.path.ensures (subst P c.parent.ensures (c.in_ok-settle.ensures tells)), subst L c.path-2.ensures (c.lay.ensures tells)),
+    )

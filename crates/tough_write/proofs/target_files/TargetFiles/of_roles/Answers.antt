@@ -1,4 +1,4 @@
-use Rattle.std.proofs.Common.{◌≡◌, sym, ap, ◌∙◌}
+use Rattle.std.proofs.Common.{sym, ap, ◌∙◌}
 use Rattle.tough_schema.specs.Entries.{merged_into}
 use Rattle.tough_write.specs.Listed.{listed_in_role}
 use Rattle.tough_write.proofs.Listings.{merged-next}

@@ -1,4 +1,4 @@
-use Rattle.std.proofs.Common.{◌≡◌, rules, map, ap, ◌∙◌}
+use Rattle.std.proofs.Common.{map, ap, ◌∙◌}
 use Rattle.tough_write.specs.Writing.{file_doc, role_file, roles_file}
 use Rattle.tough_write.proofs.Named.{named_more}
 use Rattle.tough_write.proofs.write.SignedDelegatedTargetsWriteSigned.named_files.Goals as goal
