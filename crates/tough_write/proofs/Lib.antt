@@ -1,0 +1,7 @@
+mod Telling
+mod Each
+mod Wrote
+mod Choosing
+mod Listings
+mod Walked
+mod Named

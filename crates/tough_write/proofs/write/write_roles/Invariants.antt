@@ -1,0 +1,10 @@
+use Rattle.std.proofs.Common.{◌≡◌, true, drop}
+use Rattle.tough_write.specs.Steps.{EachOf}
+use Rattle.tough_write.proofs.Wrote.{WritesNamed}
+use Rattle.tough_write.proofs.write.write_roles.Given as goal
+
+-- what writes the rest completes the whole
+abbrev pub invariant-loop-role : goal.invariant-loop-role
+invariant-loop-role g l = g.F.Files.tells ≡ true → (r : _) (calls : _)
+    → EachOf (WritesNamed l.outdir) (drop l.role-index l.roles) r (g.F.Files.calls l.files) calls
+    → EachOf (WritesNamed l.outdir) l.roles r (g.F.Files.calls l.fn.files) calls

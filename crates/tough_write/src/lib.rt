@@ -1,0 +1,14 @@
+//! Signed roles as files of a folder, and the files of targets copied or linked into one.
+#![tactic(auto)]
+
+mod error;
+mod path_exists;
+mod put;
+mod target_files;
+mod walk;
+mod write;
+
+pub use error::OutputError;
+pub use path_exists::PathExists;
+pub use target_files::TargetFiles;
+pub use write::{NamedFile, WriteSigned, write_role, write_roles};
