@@ -1,0 +1,4 @@
+pub mod Wide
+pub mod Editors
+pub mod Fetched
+pub mod Adding

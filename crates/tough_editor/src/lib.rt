@@ -1,0 +1,12 @@
+//! Editors of repositories with what fetches for them: the builder calls of the original over the edits of `tough_edit`.
+#![tactic(auto)]
+
+mod add_role;
+mod error;
+mod fetch;
+mod targets;
+
+pub use add_role::AddRole;
+pub use error::wide;
+pub use targets::TargetsEditor;
+pub use tough_error::{Error, Result};
