@@ -3,6 +3,7 @@
 //! The parts lie in crates of their own, which this one gathers: a caller writes one dependency.
 #![tactic(auto)]
 
+pub mod editor;
 pub mod error;
 pub mod files;
 mod get;
@@ -14,6 +15,7 @@ mod report;
 pub mod schema;
 pub mod sign;
 mod waiting;
+pub mod world;
 
 pub use bytes::Bytes;
 pub use error::Error;

@@ -8,7 +8,7 @@ use std::alloc::{AllocError, Global};
 const COMMON: &str = "call,name,answer,words";
 
 /// Each call, with the members of its cases, beside those of every case, and the members of the objects in their lists.
-pub const CALLS: [(&str, &str, &str); 79] = [
+pub const CALLS: [(&str, &str, &str); 80] = [
     ("TargetName::new", "input", ""),
     ("encode_filename", "input", ""),
     ("TargetName::cmp", "input,other", ""),
@@ -115,6 +115,11 @@ pub const CALLS: [(&str, &str, &str); 79] = [
         "Core::counts",
         "trusted,max_root_updates,answers,unsafe,now,files",
         "",
+    ),
+    (
+        "TargetsEditor",
+        "role,steps,signers",
+        "op,name,version,content,path,keys,key,role,signers,pattern,threshold,recursive,limits,served,at,url",
     ),
     ("tough", "files,steps", "step,words,path,text,blanks"),
     (

@@ -1,0 +1,4 @@
+//! Editors, what they sign, and how that is written.
+
+pub mod signed;
+pub mod targets;

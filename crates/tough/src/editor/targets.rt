@@ -1,0 +1,3 @@
+//! The editor of a targets document.
+
+pub use tough_editor::{AddRole, TargetsEditor};
