@@ -4,7 +4,7 @@ use Rattle.tough_load.specs.Words as load
 use Rattle.tough_client.specs.Repositories as repository
 use Rattle.tough_client.proofs.Opened.{opened, refused}
 use Rattle.tough_client.proofs.Vouched.{made-held, vouched-same}
-use Rattle.tough_client.proofs.driving.Repository.from_outcome.Goals as goal
+use Rattle.tough_client.proofs.repository.Repository.from_outcome.Goals as goal
 
 pub returns-in-Ok-clause-opens : goal.returns-in-Ok-clause-opens
 returns-in-Ok-clause-opens g c old finishes =
