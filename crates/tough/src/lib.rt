@@ -19,31 +19,103 @@ pub mod world;
 
 pub use bytes::Bytes;
 pub use error::Error;
-pub use futures::task::{Context, Poll};
-pub use futures::{Future, Stream};
+pub use futures::Future;
+pub use futures::Stream;
+pub use futures::task::Context;
+pub use futures::task::Poll;
 pub use jiff;
-pub use serde_json::{Map, Value};
+pub use serde_json::Map;
+pub use serde_json::Value;
 pub use tokio::runtime::LocalRuntime;
-pub use tough_base::{
-    FileKind, Files, FilesError, MemoryFiles, NameError, OsFiles, SafeUrlPath, TargetName,
-    encode_filename,
-};
-pub use tough_client::{
-    Act, Answer, Ask, Cache, CacheMetadata, Clock, Core, Counts, DirStore, DocumentName, Entry,
-    ExpirationEnforcement, Fault, FixedClock, Keeper, Limits, ListedVersion, Load, LoadParts,
-    LoadRun, Loaded, MemoryStore, Prefix, ReadTarget, Receipt, Received, Refusal, Repository,
-    RepositoryLoader, RepositoryParts, Request, Result, SaveTarget, SnapshotVersions, StepError,
-    Store, StoreError, SystemClock, TargetStream, TimestampVersions, Tip, Unset, UpdateError,
-    Vault, drive, finish,
-};
-pub use tough_http::{
-    DefaultStream, DefaultTransport, HttpStream, HttpTransport, HttpTransportBuilder,
-};
-pub use tough_net::{
-    AnswerClass, Cause, DigestCheck, FileStream, FilesystemTransport, HttpError, IntoVec,
-    IntoVecFuture, LastRequest, MaxSize, MemoryStream, MemoryTransport, RequestError, RequestFault,
-    RetryAction, RetryCore, RetryEvent, RetrySettings, Transport, TransportError,
-    TransportErrorKind, TransportStream, fetch_max_size, fetch_sha256,
-};
-pub use url::{ParseError, Url};
-pub use waiting::{drive_on, open_on};
+pub use tough_base::FileKind;
+pub use tough_base::Files;
+pub use tough_base::FilesError;
+pub use tough_base::MemoryFiles;
+pub use tough_base::NameError;
+pub use tough_base::OsFiles;
+pub use tough_base::SafeUrlPath;
+pub use tough_base::TargetName;
+pub use tough_base::encode_filename;
+pub use tough_client::Act;
+pub use tough_client::Answer;
+pub use tough_client::Ask;
+pub use tough_client::Cache;
+pub use tough_client::CacheMetadata;
+pub use tough_client::Clock;
+pub use tough_client::Core;
+pub use tough_client::Counts;
+pub use tough_client::DirStore;
+pub use tough_client::DocumentName;
+pub use tough_client::Entry;
+pub use tough_client::ExpirationEnforcement;
+pub use tough_client::Fault;
+pub use tough_client::FixedClock;
+pub use tough_client::Keeper;
+pub use tough_client::Limits;
+pub use tough_client::ListedVersion;
+pub use tough_client::Load;
+pub use tough_client::LoadParts;
+pub use tough_client::LoadRun;
+pub use tough_client::Loaded;
+pub use tough_client::MemoryStore;
+pub use tough_client::Prefix;
+pub use tough_client::ReadTarget;
+pub use tough_client::Receipt;
+pub use tough_client::Received;
+pub use tough_client::Refusal;
+pub use tough_client::Repository;
+pub use tough_client::RepositoryLoader;
+pub use tough_client::RepositoryParts;
+pub use tough_client::Request;
+pub use tough_client::Result;
+pub use tough_client::SaveTarget;
+pub use tough_client::SnapshotVersions;
+pub use tough_client::StepError;
+pub use tough_client::Store;
+pub use tough_client::StoreError;
+pub use tough_client::SystemClock;
+pub use tough_client::TargetStream;
+pub use tough_client::TimestampVersions;
+pub use tough_client::Tip;
+pub use tough_client::Unset;
+pub use tough_client::UpdateError;
+pub use tough_client::Vault;
+pub use tough_client::drive;
+pub use tough_client::finish;
+pub use tough_http::DefaultStream;
+pub use tough_http::DefaultTransport;
+pub use tough_http::HttpStream;
+pub use tough_http::HttpTransport;
+pub use tough_http::HttpTransportBuilder;
+pub use tough_net::AnswerClass;
+pub use tough_net::Cause;
+pub use tough_net::DigestCheck;
+pub use tough_net::FileStream;
+pub use tough_net::FilesystemTransport;
+pub use tough_net::HttpError;
+pub use tough_net::IntoVec;
+pub use tough_net::IntoVecFuture;
+pub use tough_net::LastRequest;
+pub use tough_net::MaxSize;
+pub use tough_net::MemoryStream;
+pub use tough_net::MemoryTransport;
+pub use tough_net::RequestError;
+pub use tough_net::RequestFault;
+pub use tough_net::RetryAction;
+pub use tough_net::RetryCore;
+pub use tough_net::RetryEvent;
+pub use tough_net::RetrySettings;
+pub use tough_net::Transport;
+pub use tough_net::TransportError;
+pub use tough_net::TransportErrorKind;
+pub use tough_net::TransportStream;
+pub use tough_net::fetch_max_size;
+pub use tough_net::fetch_sha256;
+pub use tough_world::Life;
+pub use tough_world::Turn;
+pub use tough_world::TurnError;
+pub use tough_world::World;
+pub use url::ParseError;
+pub use url::Url;
+pub use waiting::drive_on;
+pub use waiting::open_on;

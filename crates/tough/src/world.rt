@@ -1,3 +1,3 @@
-//! Several loads on one vault, by turns of any schedule.
+//! The answers of a schedule, which `World::turn` takes.
 
-pub use tough_world::{Answer, Life, Turn, TurnError, World};
+pub use tough_world::Answer;
