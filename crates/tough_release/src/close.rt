@@ -1,0 +1,129 @@
+//! The open editor is signed and closed, and one over another document is opened.
+
+ghost use Rattle.std.specs.Prelude.{◌≡◌, Some, None, IfOk, IfErr, OnOk, OnErr, option_map};
+ghost use Rattle.tough_roles.specs.Root.{root_doc};
+ghost use Rattle.tough_roles.specs.Signature.{signed_doc};
+ghost use Rattle.tough_schema.specs.Whole.{tree_doc, held_doc};
+ghost use Rattle.tough_signed.specs.Holders.{by_root};
+ghost use Rattle.tough_edit.specs.Edits.{edits_doc, opened};
+ghost use Rattle.tough_release.specs.Edits.{release_doc, top_name};
+ghost use Rattle.tough_release.specs.Closing.{missing, Places, IsUnplaced, IsClosed, IsUnclosed, IsEditorBelow, IsLost, IsMissing, IsChanged, IsUnchangeable};
+
+use crate::edits::RepositoryEdits;
+use crate::parts::top_editor;
+use std::alloc::Global;
+use std::mem;
+use tough_edit::TargetEdits;
+use tough_keys::Sign;
+use tough_roles::{Error, Signed};
+use tough_schema::{DelegatedTargets, KeyHolder, Targets};
+use tough_signed::{EditError, bare_delegations};
+
+// The error for a role of the name whose document isn't there.
+fn missing(name: String, error: Error) -> EditError
+    ensures { result ≡ missing name error }
+{
+    match error {
+        Error::Memory => EditError::Memory,
+        source => EditError::DelegateMissing { name, source },
+    }
+}
+
+// The document becomes the targets, or that of the role of its name.
+fn place(
+    alloc: Global,
+    targets: &mut Option<Signed<Targets>>,
+    document: Signed<DelegatedTargets>,
+) -> Result<(), EditError>
+    ensures placed { OnOk result (Places (held_doc document)
+        (option_map (signed_doc tree_doc) targets.old)
+        (option_map (signed_doc tree_doc) targets.new)) }
+    ensures refused { IfErr result (IsUnplaced (held_doc document)
+        (option_map (signed_doc tree_doc) targets.old)) }
+    ensures unchanged { OnErr result (option_map (signed_doc tree_doc) targets.new
+        ≡ option_map (signed_doc tree_doc) targets.old) }
+{
+    if document.signed.name.as_str() == "targets" {
+        let (_, signed) = DelegatedTargets::unnamed(document);
+        *targets = Some(signed);
+        return Ok(());
+    }
+    let Some(signed) = targets else {
+        return Err(EditError::NoTargets);
+    };
+    let name = document.signed.name.clone()?;
+    match signed.signed.put_document(alloc, name.as_str(), document) {
+        Ok(()) => Ok(()),
+        Err(error) => Err(missing(name, error)),
+    }
+}
+
+// An editor over the document of a role below the targets, which the keys of the delegations sign in which the role stands.
+fn editor_below(alloc: Global, targets: &Targets, role: &str) -> Result<TargetEdits, EditError>
+    ensures opened { IfOk result
+        (λ e. IsEditorBelow role.now (tree_doc targets.now) (edits_doc e)) }
+    ensures refused { IfErr result
+        (IsMissing role.now (IsLost role.now (tree_doc targets.now))) }
+{
+    let name = String::from_str(alloc, role)?;
+    let parent = match targets.parent_of(alloc, role) {
+        Ok(parent) => parent,
+        Err(error) => return Err(missing(name, error)),
+    };
+    let document = match targets.delegated_targets(alloc, role) {
+        Ok(document) => document,
+        Err(error) => return Err(missing(name, error)),
+    };
+    let holder = KeyHolder::Delegations(bare_delegations(parent)?);
+    let document = document.signed.targets.clone()?;
+    Ok(TargetEdits::from_targets(alloc, role, document, holder)?)
+}
+
+impl RepositoryEdits {
+    /// Signs what the open editor makes, if one is open, as `TargetEdits::create_signed` does, and closes it. The document becomes the signed
+    /// targets, or that of the role of the editor's name (TUF specification 1.0, section 4.5). The refusals, in this order: those of
+    /// `create_signed`; for a delegated role `NoTargets` without signed targets, and `DelegateMissing` where they have no such role.
+    pub fn sign_targets_editor<S: Sign>(
+        &mut self,
+        alloc: Global,
+        signers: &[S],
+    ) -> Result<(), EditError>
+        ensures signed { OnOk result (IsClosed S.key S.signs signers.now
+            (release_doc self.old) (release_doc self.new)) }
+        ensures refused { IfErr result
+            (IsUnclosed S.key S.signs S.fails signers.now (release_doc self.old)) }
+        ensures unchanged { OnErr result (release_doc self.new ≡ release_doc self.old) }
+    {
+        let Some(editor) = &self.editor else {
+            return Ok(());
+        };
+        let document = editor.create_signed(alloc, signers)?;
+        place(alloc, &mut self.targets, document)?;
+        drop(mem::replace(&mut self.editor, None));
+        Ok(())
+    }
+
+    /// Opens an editor over the role's document, which the keys of the delegations sign in which the role stands; of the role `targets`, over the
+    /// signed targets, which the root's keys sign. The refusals, in this order: `TargetsEditorSome` if an editor is open; `NoTargets` without signed
+    /// targets; `DelegateMissing` where no entry has the name, or there is no document of it.
+    pub fn change_delegated_targets(&mut self, alloc: Global, role: &str) -> Result<(), EditError>
+        ensures changed { OnOk result
+            (IsChanged role.now (release_doc self.old) (release_doc self.new)) }
+        ensures refused { IfErr result (IsUnchangeable role.now (release_doc self.old)) }
+        ensures unchanged { OnErr result (release_doc self.new ≡ release_doc self.old) }
+    {
+        if self.editor.is_some() {
+            return Err(EditError::TargetsEditorSome);
+        }
+        let Some(targets) = &self.targets else {
+            return Err(EditError::NoTargets);
+        };
+        let editor = if role == "targets" {
+            top_editor(alloc, &self.root.signed().signed, &targets.signed)?
+        } else {
+            editor_below(alloc, &targets.signed, role)?
+        };
+        self.editor = Some(editor);
+        Ok(())
+    }
+}
