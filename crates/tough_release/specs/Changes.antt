@@ -75,8 +75,12 @@ module _ {S : Type 0} (key_of : S → KeyDoc) where
     pub delegates : is_some editor.keys ≡ true
     pub added : after ≡ at_editor (with_role (own_keys [] (map key_of signers)) (delegated_to (held_doc document) r.paths r.terminating ids r.threshold)) e
 
-  -- Its document isn't created; or no editor is open, or that has no delegations.
-  abbrev pub IsUndelegatable : (S → List ℕ → Type 0) → NewRole → List S → ReleaseDoc → EditError → Type 0
-  IsUndelegatable fails r signers e error =
-      IsUncreated key_of fails (new_document r.name r.version r.expires) signers error
-      ⊎ (IsUnopened e error ⊎ ((editor : EditsDoc) × (e.editor ≡ Some editor) × IsUndelegated editor error))
+  -- Its document is created, and no editor is open, or that has no delegations.
+  pub record IsUnaccepted (signs : S → List ℕ → List ℕ → Type 0) (r : NewRole) (signers : List S) (e : ReleaseDoc) (error : EditError) : Type 0 where
+    pub document : Signed DelegatedTargets
+    pub created : IsCreated key_of signs (new_document r.name r.version r.expires) signers document
+    pub refused : IsUnopened e error ⊎ ((editor : EditsDoc) × (e.editor ≡ Some editor) × IsUndelegated editor error)
+
+  -- Its document isn't created, or no editor takes it.
+  abbrev pub IsUndelegatable : (S → List ℕ → List ℕ → Type 0) → (S → List ℕ → Type 0) → NewRole → List S → ReleaseDoc → EditError → Type 0
+  IsUndelegatable signs fails r signers e error = IsUncreated key_of fails (new_document r.name r.version r.expires) signers error ⊎ IsUnaccepted signs r signers e error

@@ -2,27 +2,23 @@
 -- and 4.5).
 use Rattle.std.specs.Prelude.{◌≡◌, ⊤, ℕ, List, Bool, true, false, is_some, Option, Some, None, ◌⊎◌, String, string_bytes}
 use Rattle.std.specs.declared.alloc.Global.{Global}
-use Rattle.std.specs.Str.{bytes_eq}
 use Rattle.tough_keys.specs.Key.{KeyDoc}
 use Rattle.tough_roles.specs.Root.{RootDoc}
 use Rattle.tough_roles.specs.Signature.{SignedDoc}
 use Rattle.tough_roles.specs.declared.error.Error.{Error}
 use Rattle.tough_roles.specs.declared.error.Error.TheVariants as faults
 use Rattle.tough_roles.specs.declared.signed.Signed.{Signed}
-use Rattle.tough_schema.specs.Delegations.{DelegationsDoc}
 use Rattle.tough_schema.specs.Put.{is_role, with_document}
 use Rattle.tough_schema.specs.Seek.{sought, document_of, parent, IsUnsought, IsUnheld, IsOrphan}
-use Rattle.tough_schema.specs.Whole.{TreeDoc, DelegationsTree, HeldDoc, held_doc, entries_in}
+use Rattle.tough_schema.specs.Whole.{TreeDoc, DelegationsTree, HeldDoc, held_doc}
 use Rattle.tough_schema.specs.declared.targets.DelegatedTargets.{DelegatedTargets}
 use Rattle.tough_signed.specs.Holders.{HolderDoc, by_root, by_delegations}
 use Rattle.tough_signed.specs.declared.error.EditError.{EditError}
 use Rattle.tough_signed.specs.declared.error.EditError.TheVariants as errors
 use Rattle.tough_edit.specs.Edits.{EditsDoc, opened}
 use Rattle.tough_edit.specs.Signed.{IsCreated, IsUncreated}
-use Rattle.tough_release.specs.Edits.{ReleaseDoc, top_name}
-
-abbrev pub is_top : List ℕ → Bool
-is_top name = bytes_eq name top_name
+use Rattle.tough_release.specs.Edits.{ReleaseDoc}
+use Rattle.tough_release.specs.Holding.{is_top, delegations_top, HasHolder}
 
 -- want of memory isn't told as another fault
 abbrev pub IsNoMemory : Error → Type 0
@@ -68,10 +64,11 @@ IsUnplaced h old error =
 -- ---- the open editor is signed
 
 module _ {S : Type 0} (key_of : S → KeyDoc) where
-  -- What the editor creates takes its place, and the editor is closed; all else is as it was.
+  -- What the editor creates, signed for who holds its keys, takes its place, and the editor is closed; all else is as it was.
   pub record IsPutIn (signs : S → List ℕ → List ℕ → Type 0) (signers : List S) (editor : EditsDoc) (e after : ReleaseDoc) : Type 0 where
     pub document : Signed DelegatedTargets
     pub created : IsCreated key_of signs editor signers document
+    pub held : HasHolder e.root.role e.targets editor
     pub targets : SignedDoc TreeDoc
     pub placed : IsPlaced (held_doc document) e.targets targets
     pub closed : after ≡ record e { targets = Some targets; editor = None }
@@ -92,10 +89,6 @@ module _ {S : Type 0} (key_of : S → KeyDoc) where
       (error ≡ errors.Memory) ⊎ ((editor : EditsDoc) × (e.editor ≡ Some editor) × (IsUncreated key_of fails editor signers error ⊎ IsUnput signs signers editor e error))
 
 -- ---- an editor over another document
-
--- the delegations without the documents of their roles
-abbrev pub delegations_top : DelegationsTree → DelegationsDoc
-delegations_top g = record { keys = g.0; roles = entries_in g.1 }
 
 abbrev pub with_editor : EditsDoc → ReleaseDoc → ReleaseDoc
 with_editor editor e = record e { editor = Some editor }

@@ -12,6 +12,7 @@ use Rattle.tough_signed.specs.Roles.{signed_of, buffer_of}
 use Rattle.tough_signed.specs.declared.error.EditError.{EditError}
 use Rattle.tough_signed.specs.declared.error.EditError.TheVariants as errors
 use Rattle.tough_edit.specs.Edits.{EditsDoc, edits_doc, fresh, opened}
+use Rattle.tough_release.specs.Holding.{top_name}
 use Rattle.tough_release.specs.declared.heading.Heading.{Heading}
 use Rattle.tough_release.specs.declared.edits.RepositoryEdits.{RepositoryEdits}
 
@@ -42,10 +43,6 @@ release_doc e = record {
   snapshot = heading_doc e.snapshot;
   timestamp = heading_doc e.timestamp;
 }
-
--- the name of the top-level targets
-abbrev pub top_name : List ℕ
-top_name = codes "targets"
 
 -- nothing is set of a document
 abbrev pub bare_heading : HeadingDoc

@@ -1,5 +1,6 @@
 pub mod Edits
 pub mod Roots
+pub mod Holding
 pub mod Changes
 pub mod Closing
 pub mod Files

@@ -6,7 +6,7 @@ ghost use Rattle.tough_roles.specs.Signature.{signed_doc};
 ghost use Rattle.tough_schema.specs.Whole.{tree_doc, held_doc};
 ghost use Rattle.tough_signed.specs.Holders.{by_root};
 ghost use Rattle.tough_edit.specs.Edits.{edits_doc, opened};
-ghost use Rattle.tough_release.specs.Edits.{release_doc, top_name};
+ghost use Rattle.tough_release.specs.Edits.{release_doc};
 ghost use Rattle.tough_release.specs.Closing.{missing, Places, IsUnplaced, IsClosed, IsUnclosed, IsEditorBelow, IsLost, IsMissing, IsChanged, IsUnchangeable};
 
 use crate::edits::RepositoryEdits;

@@ -161,7 +161,7 @@ impl RepositoryEdits {
           expires = expires.nanosecond;
           version = non_zero_u64_get version;
         }) signers.now (release_doc self.old) (release_doc self.new)) }
-        ensures refused { IfErr result (IsUndelegatable S.key S.fails (record {
+        ensures refused { IfErr result (IsUndelegatable S.key S.signs S.fails (record {
           name = name.now;
           paths = paths_doc paths;
           terminating = terminating;

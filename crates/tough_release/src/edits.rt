@@ -1,7 +1,13 @@
 //! The editor.
 
+ghost use Rattle.std.specs.Prelude.{option_map};
+ghost use Rattle.tough_roles.specs.Root.{root_doc};
+ghost use Rattle.tough_roles.specs.Signature.{signed_doc};
+ghost use Rattle.tough_schema.specs.Whole.{tree_doc};
 ghost use Rattle.tough_signed.specs.Roles.{signed_of, buffer_of};
+ghost use Rattle.tough_edit.specs.Edits.{edits_doc};
 ghost use Rattle.tough_release.specs.Roots.{IsRootOf};
+ghost use Rattle.tough_release.specs.Holding.{IsHeld};
 
 use crate::heading::Heading;
 use tough_edit::TargetEdits;
@@ -19,4 +25,6 @@ pub struct RepositoryEdits {
     pub(crate) snapshot: Heading,
     pub(crate) timestamp: Heading,
     ghost rooted: { IsRootOf (signed_of root) (buffer_of root) },
+    ghost held: { IsHeld (root_doc (signed_of root).signed)
+        (option_map (signed_doc tree_doc) targets) (option_map edits_doc editor) },
 }

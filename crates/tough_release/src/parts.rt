@@ -11,7 +11,8 @@ ghost use Rattle.tough_schema.specs.Whole.{tree_doc};
 ghost use Rattle.tough_signed.specs.Holders.{by_root};
 ghost use Rattle.tough_signed.specs.declared.error.EditError.TheVariants as errors;
 ghost use Rattle.tough_edit.specs.Edits.{edits_doc, opened};
-ghost use Rattle.tough_release.specs.Edits.{release_doc, top_name, with_targets, with_snapshot_extra, with_timestamp_extra, IsOtherVersion, with_snapshot_version, with_snapshot_expiry, with_timestamp_version, with_timestamp_expiry};
+ghost use Rattle.tough_release.specs.Holding.{top_name};
+ghost use Rattle.tough_release.specs.Edits.{release_doc, with_targets, with_snapshot_extra, with_timestamp_extra, IsOtherVersion, with_snapshot_version, with_snapshot_expiry, with_timestamp_version, with_timestamp_expiry};
 
 use crate::edits::RepositoryEdits;
 use std::alloc::{AllocError, Global};
