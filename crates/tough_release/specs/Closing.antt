@@ -16,9 +16,9 @@ use Rattle.tough_signed.specs.Holders.{HolderDoc, by_root, by_delegations}
 use Rattle.tough_signed.specs.declared.error.EditError.{EditError}
 use Rattle.tough_signed.specs.declared.error.EditError.TheVariants as errors
 use Rattle.tough_edit.specs.Edits.{EditsDoc, opened}
-use Rattle.tough_edit.specs.Signed.{IsCreated, IsUncreated}
+use Rattle.tough_edit.specs.Signed.{IsCreatedFor, IsUncreatedFor}
 use Rattle.tough_release.specs.Edits.{ReleaseDoc}
-use Rattle.tough_release.specs.Holding.{is_top, delegations_top, HasHolder}
+use Rattle.tough_release.specs.Holding.{is_top, delegations_top, holder_in}
 
 -- want of memory isn't told as another fault
 abbrev pub IsNoMemory : Error → Type 0
@@ -63,12 +63,19 @@ IsUnplaced h old error =
 
 -- ---- the open editor is signed
 
+-- the role isn't the top-level one, and there are no targets, or they have no entry of the name
+abbrev pub IsUnheldIn : List ℕ → Option (SignedDoc TreeDoc) → EditError → Type 0
+IsUnheldIn name targets error =
+    (is_top name ≡ false)
+    × (((error ≡ errors.NoTargets) × (targets ≡ None)) ⊎ ((s : SignedDoc TreeDoc) × (targets ≡ Some s) × IsMissing name (IsOrphan name (parent name s.role)) error))
+
 module _ {S : Type 0} (key_of : S → KeyDoc) where
-  -- What the editor creates, signed for who holds its keys, takes its place, and the editor is closed; all else is as it was.
+  -- What the editor creates, signed for who holds the keys of its role, takes its place, and the editor is closed; all else is as it was.
   pub record IsPutIn (signs : S → List ℕ → List ℕ → Type 0) (signers : List S) (editor : EditsDoc) (e after : ReleaseDoc) : Type 0 where
+    pub holder : HolderDoc
+    pub held : holder_in e.root.role e.targets editor.name ≡ Some holder
     pub document : Signed DelegatedTargets
-    pub created : IsCreated key_of signs editor signers document
-    pub held : HasHolder e.root.role e.targets editor
+    pub created : IsCreatedFor key_of signs editor holder signers document
     pub targets : SignedDoc TreeDoc
     pub placed : IsPlaced (held_doc document) e.targets targets
     pub closed : after ≡ record e { targets = Some targets; editor = None }
@@ -78,15 +85,22 @@ module _ {S : Type 0} (key_of : S → KeyDoc) where
   IsClosed signs signers e after = ((e.editor ≡ None) × (after ≡ e)) ⊎ ((editor : EditsDoc) × (e.editor ≡ Some editor) × IsPutIn signs signers editor e after)
 
   -- What the editor creates has no place.
-  pub record IsUnput (signs : S → List ℕ → List ℕ → Type 0) (signers : List S) (editor : EditsDoc) (e : ReleaseDoc) (error : EditError) : Type 0 where
+  pub record IsUnput (signs : S → List ℕ → List ℕ → Type 0) (signers : List S) (editor : EditsDoc) (holder : HolderDoc) (e : ReleaseDoc) (error : EditError) : Type 0 where
     pub document : Signed DelegatedTargets
-    pub created : IsCreated key_of signs editor signers document
+    pub created : IsCreatedFor key_of signs editor holder signers document
     pub unplaced : IsUnplaced (held_doc document) e.targets error
 
-  -- The open editor creates no document, or that has no place; or memory was wanting.
+  -- The editor creates no document for who holds the keys of its role, or that has no place.
+  pub record IsUnsignedIn (signs : S → List ℕ → List ℕ → Type 0) (fails : S → List ℕ → Type 0) (signers : List S) (editor : EditsDoc) (e : ReleaseDoc) (error : EditError) : Type 0 where
+    pub holder : HolderDoc
+    pub held : holder_in e.root.role e.targets editor.name ≡ Some holder
+    pub refused : IsUncreatedFor key_of fails editor holder signers error ⊎ IsUnput signs signers editor holder e error
+
+  -- Nobody holds the keys of the open editor's role, or its document isn't signed, or has no place; or memory was wanting.
   abbrev pub IsUnclosed : (S → List ℕ → List ℕ → Type 0) → (S → List ℕ → Type 0) → List S → ReleaseDoc → EditError → Type 0
   IsUnclosed signs fails signers e error =
-      (error ≡ errors.Memory) ⊎ ((editor : EditsDoc) × (e.editor ≡ Some editor) × (IsUncreated key_of fails editor signers error ⊎ IsUnput signs signers editor e error))
+      (error ≡ errors.Memory)
+      ⊎ ((editor : EditsDoc) × (e.editor ≡ Some editor) × (IsUnheldIn editor.name e.targets error ⊎ IsUnsignedIn signs fails signers editor e error))
 
 -- ---- an editor over another document
 
@@ -114,7 +128,7 @@ pub record IsChanged (name : List ℕ) (e after : ReleaseDoc) : Type 0 where
   pub over : IsEditorOf name e.root.role targets.role editor
   pub change : after ≡ with_editor editor e
 
--- no entry of the name has a parent, or there is no document of it
+-- no entry has the name, or there is no document of it
 abbrev pub IsLost : List ℕ → TreeDoc → Error → Type 0
 IsLost name t source = IsOrphan name (parent name t) source ⊎ ((is_some (parent name t) ≡ true) × IsUnheld name (sought name t) source)
 

@@ -1,5 +1,5 @@
--- Who holds the keys of the document that is edited (TUF specification 1.0, sections 4.3 and 4.5).
-use Rattle.std.specs.Prelude.{◌≡◌, ⊤, ℕ, List, Bool, Option, Some, None, option_map, option_and_then, if◌then◌else◌, codes}
+-- Who holds the keys of a targets document (TUF specification 1.0, sections 4.3 and 4.5).
+use Rattle.std.specs.Prelude.{ℕ, List, Bool, Option, Some, option_map, option_and_then, if◌then◌else◌, codes}
 use Rattle.std.specs.Str.{bytes_eq}
 use Rattle.tough_roles.specs.Root.{RootDoc}
 use Rattle.tough_roles.specs.Signature.{SignedDoc}
@@ -7,7 +7,6 @@ use Rattle.tough_schema.specs.Delegations.{DelegationsDoc}
 use Rattle.tough_schema.specs.Seek.{parent}
 use Rattle.tough_schema.specs.Whole.{TreeDoc, DelegationsTree, entries_in}
 use Rattle.tough_signed.specs.Holders.{HolderDoc, by_root, by_delegations}
-use Rattle.tough_edit.specs.Edits.{EditsDoc}
 
 -- the name of the top-level targets
 abbrev pub top_name : List ℕ
@@ -27,12 +26,3 @@ holder_below name targets = option_map (λ g. by_delegations (delegations_top g)
 -- the root for the top-level targets, and those delegations for a role below them
 abbrev pub holder_in : RootDoc → Option (SignedDoc TreeDoc) → List ℕ → Option HolderDoc
 holder_in root targets name = if is_top name then Some (by_root root) else holder_below name targets
-
--- the editor has a holder of its document's keys: that one
-abbrev pub HasHolder : RootDoc → Option (SignedDoc TreeDoc) → EditsDoc → Type 0
-HasHolder root targets editor = (holder : HolderDoc) × (editor.holder ≡ Some holder) × (holder_in root targets editor.name ≡ Some holder)
-
--- so has the open editor, if any
-abbrev pub IsHeld : RootDoc → Option (SignedDoc TreeDoc) → Option EditsDoc → Type 0
-IsHeld root targets None = ⊤
-IsHeld root targets (Some editor) = HasHolder root targets editor

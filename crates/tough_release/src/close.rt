@@ -1,13 +1,15 @@
 //! The open editor is signed and closed, and one over another document is opened.
 
-ghost use Rattle.std.specs.Prelude.{◌≡◌, Some, None, IfOk, IfErr, OnOk, OnErr, option_map};
+ghost use Rattle.std.specs.Prelude.{◌≡◌, ◌⊎◌, Some, IfOk, IfErr, OnOk, OnErr, option_map};
 ghost use Rattle.tough_roles.specs.Root.{root_doc};
 ghost use Rattle.tough_roles.specs.Signature.{signed_doc};
 ghost use Rattle.tough_schema.specs.Whole.{tree_doc, held_doc};
-ghost use Rattle.tough_signed.specs.Holders.{by_root};
-ghost use Rattle.tough_edit.specs.Edits.{edits_doc, opened};
+ghost use Rattle.tough_signed.specs.Holders.{holder_doc};
+ghost use Rattle.tough_signed.specs.declared.error.EditError.TheVariants as errors;
+ghost use Rattle.tough_edit.specs.Edits.{edits_doc};
 ghost use Rattle.tough_release.specs.Edits.{release_doc};
-ghost use Rattle.tough_release.specs.Closing.{missing, Places, IsUnplaced, IsClosed, IsUnclosed, IsEditorBelow, IsLost, IsMissing, IsChanged, IsUnchangeable};
+ghost use Rattle.tough_release.specs.Holding.{holder_in};
+ghost use Rattle.tough_release.specs.Closing.{missing, Places, IsUnplaced, IsClosed, IsUnclosed, IsUnheldIn, IsEditorBelow, IsLost, IsMissing, IsChanged, IsUnchangeable};
 
 use crate::edits::RepositoryEdits;
 use crate::parts::top_editor;
@@ -15,7 +17,7 @@ use std::alloc::Global;
 use std::mem;
 use tough_edit::TargetEdits;
 use tough_keys::Sign;
-use tough_roles::{Error, Signed};
+use tough_roles::{Error, Root, Signed};
 use tough_schema::{DelegatedTargets, KeyHolder, Targets};
 use tough_signed::{EditError, bare_delegations};
 
@@ -58,6 +60,31 @@ fn place(
     }
 }
 
+// Who holds the keys of the role: the root those of the top-level targets, the delegations in which the role stands those of another.
+fn holder_in(
+    alloc: Global,
+    root: &Root,
+    targets: &Option<Signed<Targets>>,
+    role: &str,
+) -> Result<KeyHolder, EditError>
+    ensures holder { IfOk result (λ h. holder_in (root_doc root.now)
+        (option_map (signed_doc tree_doc) targets.now) role.now ≡ Some (holder_doc h)) }
+    ensures refused { IfErr result (λ e. (e ≡ errors.Memory)
+        ⊎ IsUnheldIn role.now (option_map (signed_doc tree_doc) targets.now) e) }
+{
+    if role == "targets" {
+        return Ok(KeyHolder::Root(root.clone()?));
+    }
+    let Some(targets) = targets else {
+        return Err(EditError::NoTargets);
+    };
+    let name = String::from_str(alloc, role)?;
+    match targets.signed.parent_of(alloc, role) {
+        Ok(delegations) => Ok(KeyHolder::Delegations(bare_delegations(delegations)?)),
+        Err(error) => Err(missing(name, error)),
+    }
+}
+
 // An editor over the document of a role below the targets, which the keys of the delegations sign in which the role stands.
 fn editor_below(alloc: Global, targets: &Targets, role: &str) -> Result<TargetEdits, EditError>
     ensures opened { IfOk result
@@ -80,9 +107,9 @@ fn editor_below(alloc: Global, targets: &Targets, role: &str) -> Result<TargetEd
 }
 
 impl RepositoryEdits {
-    /// Signs what the open editor makes, if one is open, as `TargetEdits::create_signed` does, and closes it. The document becomes the signed
-    /// targets, or that of the role of the editor's name (TUF specification 1.0, section 4.5). The refusals, in this order: those of
-    /// `create_signed`; for a delegated role `NoTargets` without signed targets, and `DelegateMissing` where they have no such role.
+    /// Signs what the open editor makes, if one is open, for who holds the keys of its role, and closes it. The document becomes the signed targets,
+    /// or that of the role of the editor's name (TUF specification 1.0, section 4.5). The refusals, in this order: for a delegated role `NoTargets`
+    /// without signed targets, and `DelegateMissing` where they have no such role; those of `TargetEdits::create_signed_for`.
     pub fn sign_targets_editor<S: Sign>(
         &mut self,
         alloc: Global,
@@ -97,7 +124,9 @@ impl RepositoryEdits {
         let Some(editor) = &self.editor else {
             return Ok(());
         };
-        let document = editor.create_signed(alloc, signers)?;
+        let root = &self.root.signed().signed;
+        let holder = holder_in(alloc, root, &self.targets, editor.name())?;
+        let document = editor.create_signed_for(alloc, &holder, signers)?;
         place(alloc, &mut self.targets, document)?;
         drop(mem::replace(&mut self.editor, None));
         Ok(())

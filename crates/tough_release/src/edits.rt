@@ -1,13 +1,7 @@
 //! The editor.
 
-ghost use Rattle.std.specs.Prelude.{option_map};
-ghost use Rattle.tough_roles.specs.Root.{root_doc};
-ghost use Rattle.tough_roles.specs.Signature.{signed_doc};
-ghost use Rattle.tough_schema.specs.Whole.{tree_doc};
 ghost use Rattle.tough_signed.specs.Roles.{signed_of, buffer_of};
-ghost use Rattle.tough_edit.specs.Edits.{edits_doc};
-ghost use Rattle.tough_release.specs.Roots.{IsRootOf};
-ghost use Rattle.tough_release.specs.Holding.{IsHeld};
+ghost use Rattle.tough_release.specs.Roots.{IsRootFile};
 
 use crate::heading::Heading;
 use tough_edit::TargetEdits;
@@ -24,7 +18,5 @@ pub struct RepositoryEdits {
     pub(crate) editor: Option<TargetEdits>,
     pub(crate) snapshot: Heading,
     pub(crate) timestamp: Heading,
-    ghost rooted: { IsRootOf (signed_of root) (buffer_of root) },
-    ghost held: { IsHeld (root_doc (signed_of root).signed)
-        (option_map (signed_doc tree_doc) targets) (option_map edits_doc editor) },
+    ghost rooted: { IsRootFile (signed_of root) (buffer_of root) },
 }

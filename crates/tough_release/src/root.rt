@@ -6,7 +6,7 @@ ghost use Rattle.tough_roles.specs.Signature.{signed_doc};
 ghost use Rattle.tough_signed.specs.Roles.{signed_of, buffer_of};
 ghost use Rattle.tough_edit.specs.Edits.{edits_doc};
 ghost use Rattle.tough_release.specs.Edits.{release_doc, begun, begun_editor};
-ghost use Rattle.tough_release.specs.Roots.{IsRootOf, first_unstable, IsUnstable};
+ghost use Rattle.tough_release.specs.Roots.{IsRootOf, IsRootFile, first_unstable, IsUnstable};
 
 use crate::edits::RepositoryEdits;
 use crate::heading::Heading;
@@ -85,7 +85,7 @@ impl RepositoryEdits {
         ensures root { signed_doc root_doc (signed_of result.now)
             ≡ (release_doc self.now).root }
         ensures file { buffer_of result.now ≡ (release_doc self.now).root_file }
-        ensures read { IsRootOf (signed_of result.now) (buffer_of result.now) }
+        ensures read { IsRootFile (signed_of result.now) (buffer_of result.now) }
     {
         &self.root
     }
