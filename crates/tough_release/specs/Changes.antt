@@ -50,6 +50,14 @@ SomeAdded ps e after = (done rest : List (Bor (List ℕ))) × (ps ≡ done ++ re
 
 -- ---- new roles
 
+-- an editor is open, over a document that has delegations
+abbrev pub HasDelegations : ReleaseDoc → Type 0
+HasDelegations e = (editor : EditsDoc) × (e.editor ≡ Some editor) × (is_some editor.keys ≡ true)
+
+-- no editor is open, or its document has no delegations
+abbrev pub IsUndelegating : ReleaseDoc → EditError → Type 0
+IsUndelegating e error = IsUnopened e error ⊎ ((editor : EditsDoc) × (e.editor ≡ Some editor) × IsUndelegated editor error)
+
 -- a role that is delegated to, and the version and the expiry of its document
 pub record NewRole : Type 0 where
   pub name : List ℕ
@@ -70,16 +78,14 @@ module _ {S : Type 0} (key_of : S → KeyDoc) where
     pub created : IsCreated key_of signs (new_document r.name r.version r.expires) signers document
     pub ids : List Spelled
     pub own : AreIds (map key_of signers) ids
-    pub editor : EditsDoc
-    pub there : e.editor ≡ Some editor
-    pub delegates : is_some editor.keys ≡ true
+    pub there : HasDelegations e
     pub added : after ≡ at_editor (with_role (own_keys [] (map key_of signers)) (delegated_to (held_doc document) r.paths r.terminating ids r.threshold)) e
 
   -- Its document is created, and no editor is open, or that has no delegations.
   pub record IsUnaccepted (signs : S → List ℕ → List ℕ → Type 0) (r : NewRole) (signers : List S) (e : ReleaseDoc) (error : EditError) : Type 0 where
     pub document : Signed DelegatedTargets
     pub created : IsCreated key_of signs (new_document r.name r.version r.expires) signers document
-    pub refused : IsUnopened e error ⊎ ((editor : EditsDoc) × (e.editor ≡ Some editor) × IsUndelegated editor error)
+    pub refused : IsUndelegating e error
 
   -- Its document isn't created, or no editor takes it.
   abbrev pub IsUndelegatable : (S → List ℕ → List ℕ → Type 0) → (S → List ℕ → Type 0) → NewRole → List S → ReleaseDoc → EditError → Type 0

@@ -102,6 +102,14 @@ module _ {S : Type 0} (key_of : S → KeyDoc) where
       (error ≡ errors.Memory)
       ⊎ ((editor : EditsDoc) × (e.editor ≡ Some editor) × (IsUnheldIn editor.name e.targets error ⊎ IsUnsignedIn signs fails signers editor e error))
 
+-- ---- another document is put in place
+
+-- the document takes its place, and no editor is open; all else is as it was
+pub record IsReplaced (h : HeldDoc) (e after : ReleaseDoc) : Type 0 where
+  pub targets : SignedDoc TreeDoc
+  pub placed : IsPlaced h e.targets targets
+  pub closed : after ≡ record e { targets = Some targets; editor = None }
+
 -- ---- an editor over another document
 
 abbrev pub with_editor : EditsDoc → ReleaseDoc → ReleaseDoc

@@ -9,7 +9,7 @@ ghost use Rattle.tough_signed.specs.declared.error.EditError.TheVariants as erro
 ghost use Rattle.tough_edit.specs.Edits.{edits_doc};
 ghost use Rattle.tough_release.specs.Edits.{release_doc};
 ghost use Rattle.tough_release.specs.Holding.{holder_in};
-ghost use Rattle.tough_release.specs.Closing.{missing, Places, IsUnplaced, IsClosed, IsUnclosed, IsUnheldIn, IsEditorBelow, IsLost, IsMissing, IsChanged, IsUnchangeable};
+ghost use Rattle.tough_release.specs.Closing.{missing, Places, IsUnplaced, IsReplaced, IsClosed, IsUnclosed, IsUnheldIn, IsEditorBelow, IsLost, IsMissing, IsChanged, IsUnchangeable};
 
 use crate::edits::RepositoryEdits;
 use crate::parts::top_editor;
@@ -40,8 +40,8 @@ fn place(
     ensures placed { OnOk result (Places (held_doc document)
         (option_map (signed_doc tree_doc) targets.old)
         (option_map (signed_doc tree_doc) targets.new)) }
-    ensures refused { IfErr result (IsUnplaced (held_doc document)
-        (option_map (signed_doc tree_doc) targets.old)) }
+    ensures refused { IfErr result (λ e. (e ≡ errors.Memory) ⊎ IsUnplaced (held_doc document)
+        (option_map (signed_doc tree_doc) targets.old) e) }
     ensures unchanged { OnErr result (option_map (signed_doc tree_doc) targets.new
         ≡ option_map (signed_doc tree_doc) targets.old) }
 {
@@ -127,6 +127,24 @@ impl RepositoryEdits {
         let root = &self.root.signed().signed;
         let holder = holder_in(alloc, root, &self.targets, editor.name())?;
         let document = editor.create_signed_for(alloc, &holder, signers)?;
+        place(alloc, &mut self.targets, document)?;
+        drop(mem::replace(&mut self.editor, None));
+        Ok(())
+    }
+
+    /// Puts the document in the place of the signed targets, or of that of the role of its name, and closes the open editor, if any. The refusals, in
+    /// this order: for a delegated role `NoTargets` without signed targets, and `DelegateMissing` where they have no such role.
+    pub fn replace_targets(
+        &mut self,
+        alloc: Global,
+        document: Signed<DelegatedTargets>,
+    ) -> Result<(), EditError>
+        ensures replaced { OnOk result (IsReplaced (held_doc document)
+            (release_doc self.old) (release_doc self.new)) }
+        ensures refused { IfErr result (λ e. (e ≡ errors.Memory)
+            ⊎ IsUnplaced (held_doc document) (release_doc self.old).targets e) }
+        ensures unchanged { OnErr result (release_doc self.new ≡ release_doc self.old) }
+    {
         place(alloc, &mut self.targets, document)?;
         drop(mem::replace(&mut self.editor, None));
         Ok(())

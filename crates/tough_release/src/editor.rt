@@ -1,23 +1,28 @@
 //! Calls of the targets editor that is open.
 
-ghost use Rattle.std.specs.Prelude.{◌≡◌, true, is_some, map, IfOk, IfErr, OnOk, OnErr, IsTrue, ◌⊎◌};
+ghost use Rattle.std.specs.Prelude.{◌≡◌, ◌⊎◌, true, is_some, IfOk, IfErr, OnOk, OnErr, IsTrue};
 ghost use Rattle.std.specs.Int.NonZero.{non_zero_u64_get};
 ghost use Rattle.tough_files.specs.Contents.{Same};
+ghost use Rattle.tough_roles.specs.Root.{keys_doc};
 ghost use Rattle.tough_schema.specs.FileDigest.{there};
 ghost use Rattle.tough_schema.specs.Paths.{paths_doc};
 ghost use Rattle.tough_schema.specs.Target.{target_doc};
+ghost use Rattle.tough_schema.specs.Whole.{held_doc};
 ghost use Rattle.tough_signed.specs.declared.error.EditError.TheVariants as errors;
 ghost use Rattle.tough_edit.specs.Edits.{with_target, without_target, without_targets, with_version, with_expiry};
-ghost use Rattle.tough_release.specs.Edits.{release_doc, at_editor, IsUnopened};
-ghost use Rattle.tough_release.specs.Changes.{IsAdded, IsAddedOf, IsUnadded, AreAdded, SomeAdded, NewRole, new_document, IsDelegated, IsUndelegatable};
+ghost use Rattle.tough_edit.specs.Roles.{delegated_to, with_role};
 ghost use Rattle.tough_edit.specs.Signed.{IsCreated, IsUncreated};
+ghost use Rattle.tough_release.specs.Edits.{release_doc, at_editor, IsUnopened};
+ghost use Rattle.tough_release.specs.Changes.{IsAdded, IsAddedOf, IsUnadded, AreAdded, SomeAdded, NewRole, HasDelegations, IsUndelegating, new_document, IsDelegated, IsUndelegatable};
 
 use crate::edits::RepositoryEdits;
 use std::alloc::Global;
+use std::collections::BTreeMap;
 use std::num::NonZeroU64;
+use tough_decoded::{Decoded, Hex};
 use tough_edit::{SignersKeys, TargetEdits, build_target, signers_keys};
 use tough_files::Files;
-use tough_keys::Sign;
+use tough_keys::{Key, Sign};
 use tough_names::TargetName;
 use tough_roles::Signed;
 use tough_schema::{DelegatedTargets, PathSet, Target};
@@ -139,6 +144,31 @@ impl RepositoryEdits {
         Ok(())
     }
 
+    /// Delegates a new role with that document, under its name, as `TargetEdits::delegate_role` does (TUF specification 1.0, section 4.5). The
+    /// refusals, in this order: `NoTargets` if no editor is open; `NoDelegations` where the document that is edited has none.
+    pub fn delegate_document(
+        &mut self,
+        document: Signed<DelegatedTargets>,
+        paths: PathSet,
+        terminating: bool,
+        keys: BTreeMap<Decoded<Hex>, Key>,
+        keyids: Vec<Decoded<Hex>>,
+        threshold: NonZeroU64,
+    ) -> Result<(), EditError>
+        ensures delegated { OnOk result (release_doc self.new
+            ≡ at_editor (with_role (keys_doc keys.entries) (delegated_to (held_doc document)
+            (paths_doc paths) terminating keyids.items (non_zero_u64_get threshold)))
+            (release_doc self.old)) }
+        ensures there { OnOk result (HasDelegations (release_doc self.old)) }
+        ensures refused { IfErr result (IsUndelegating (release_doc self.old)) }
+        ensures unchanged { OnErr result (release_doc self.new ≡ release_doc self.old) }
+    {
+        let Some(editor) = &mut self.editor else {
+            return Err(EditError::NoTargets);
+        };
+        editor.delegate_role(document, paths, terminating, keys, keyids, threshold)
+    }
+
     /// Delegates a new role to the signers' keys, in their order, with a new document that lists nothing and that they sign (TUF specification 1.0,
     /// section 4.5). The refusals, in this order: those of `TargetEdits::create_signed` without a holder; `NoTargets` if no editor is open;
     /// `NoDelegations` where the document that is edited has none.
@@ -173,10 +203,7 @@ impl RepositoryEdits {
     {
         let document = new_document(alloc, name, signers, expires, version)?;
         let SignersKeys { keyids, keys } = signers_keys(alloc, signers)?;
-        let Some(editor) = &mut self.editor else {
-            return Err(EditError::NoTargets);
-        };
-        editor.delegate_role(document, paths, terminating, keys, keyids, threshold)
+        self.delegate_document(document, paths, terminating, keys, keyids, threshold)
     }
 }
 

@@ -1,8 +1,9 @@
 //! An editor stands on a root.
 
-ghost use Rattle.std.specs.Prelude.{◌≡◌, None, IfOk, IfErr};
+ghost use Rattle.std.specs.Prelude.{◌≡◌, None, IfOk, IfErr, option_map};
 ghost use Rattle.tough_roles.specs.Root.{root_doc};
 ghost use Rattle.tough_roles.specs.Signature.{signed_doc};
+ghost use Rattle.tough_schema.specs.Whole.{tree_doc};
 ghost use Rattle.tough_signed.specs.Roles.{signed_of, buffer_of};
 ghost use Rattle.tough_edit.specs.Edits.{edits_doc};
 ghost use Rattle.tough_release.specs.Edits.{release_doc, begun, begun_editor};
@@ -88,5 +89,19 @@ impl RepositoryEdits {
         ensures read { IsRootFile (signed_of result.now) (buffer_of result.now) }
     {
         &self.root
+    }
+    /// The signed targets, with the documents of the roles below them.
+    pub fn signed_targets(&self) -> Option<&Signed<Targets>>
+        ensures { option_map (λ s. signed_doc tree_doc s.now) result
+            ≡ (release_doc self.now).targets }
+    {
+        self.targets.as_ref()
+    }
+
+    /// The editor that is open, if any.
+    pub fn editor(&self) -> Option<&TargetEdits>
+        ensures { option_map (λ e. edits_doc e.now) result ≡ (release_doc self.now).editor }
+    {
+        self.editor.as_ref()
     }
 }
