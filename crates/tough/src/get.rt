@@ -5,7 +5,7 @@ ghost use Rattle.tough_update.specs.Stages.{LoadedDoc};
 ghost use Rattle.tough_client.specs.Repositories.{documents_of};
 ghost use Rattle.tough.specs.Program.{IsVouchedFor, report_text};
 
-use crate::opening::{Fault, Wanted, not_run, open_by, refused, vault_in, with_cause};
+use crate::opening::{Fault, Wanted, not_run, open_by, refused, vault_in, with_cause, with_fault};
 use crate::progress::Watched;
 use crate::report::report;
 use std::alloc::AllocGlobal;
@@ -68,7 +68,10 @@ where
     let mut files = Watched::new(OsFiles::new(rt.clone()?), rt.clone()?, err, length);
     let done = save(rt, runtime, repository, &mut files, name, outdir);
     files.finish();
-    done
+    match done {
+        Ok(()) => Ok(()),
+        Err(fault) => Err(with_fault(rt.alloc(), fault, files.files().last_fault())),
+    }
 }
 
 // Saves a target of a repository, and tells the versions of what was loaded, and what was saved where.

@@ -4,7 +4,8 @@ ghost use Rattle.std.specs.Prelude.{⊤, IfOk};
 ghost use Rattle.tough_client.specs.Repositories.{documents_of};
 ghost use Rattle.tough.specs.Program.{IsVouchedFor};
 
-use crate::{Error, open_on};
+use crate::error::ErrorKind;
+use crate::{Error, drive_on};
 use std::alloc::{AllocError, AllocGlobal, Global};
 use std::fs::File;
 use std::random::RandomSource;
@@ -12,7 +13,7 @@ use std::sync::Wait;
 use std::{io, rt};
 use tokio::runtime::LocalRuntime;
 use tough_client::Repository;
-use tough_load::{DirStore, Keeper, RepositoryLoader, SystemClock, Vault};
+use tough_load::{Core, DirStore, Keeper, RepositoryLoader, SystemClock, Vault};
 use tough_net::Transport;
 use tough_schema::DemoVerify;
 use url::Url;
@@ -22,6 +23,8 @@ use url::Url;
 pub(crate) enum Fault {
     /// The load couldn't be begun, or it refused, or the saving did.
     Refused(String),
+    /// The files refused.
+    Files(String),
     /// Something else failed.
     Failed(String),
     /// Out of memory.
@@ -45,10 +48,45 @@ fn said(alloc: Global, error: &Error) -> Result<String, AllocError> {
 /// A refusal.
 pub(crate) fn refused(alloc: Global, error: Error) -> Fault {
     let told = said(alloc, &error);
+    let kind = error.kind();
     drop(error);
     match told {
+        Ok(text) if kind == ErrorKind::File => Fault::Files(text),
         Ok(text) => Fault::Refused(text),
         Err(_) => Fault::Memory,
+    }
+}
+
+/// The fault of a saving in files, of which the system last said so.
+pub(crate) fn with_fault(alloc: Global, fault: Fault, cause: Option<&io::Error>) -> Fault {
+    match (fault, cause) {
+        (Fault::Files(text), Some(cause)) => match format!(in alloc; "{text}: {cause}") {
+            Ok(text) => Fault::Files(text),
+            Err(_) => Fault::Memory,
+        },
+        (fault, _) => fault,
+    }
+}
+
+// The refusal of a load, which is in this file: its name stands behind what the error says, where that doesn't have it.
+fn refused_in(alloc: Global, error: Error, file: Option<String>) -> Fault {
+    let fault = refused(alloc, error);
+    match (fault, file) {
+        (Fault::Refused(text), Some(file)) if !text.as_str().contains(file.as_str()) => {
+            match format!(in alloc; "{text} ({file})") {
+                Ok(text) => Fault::Refused(text),
+                Err(_) => Fault::Memory,
+            }
+        }
+        (fault, _) => fault,
+    }
+}
+
+// The file that the machine asked for last, if it was one and there is memory to tell it.
+fn last_file(alloc: Global, core: &Core) -> Option<String> {
+    match core.last_file() {
+        Some(name) => String::from_str(alloc, name).ok(),
+        None => None,
     }
 }
 
@@ -107,10 +145,17 @@ where
         Ok(load) => load,
         Err(error) => return Err(refused(rt.alloc(), Error::from(error))),
     };
-    match open_on(rt, runtime, load) {
-        Ok(Ok(repository)) => Ok(repository),
-        Ok(Err(error)) => Err(refused(rt.alloc(), error)),
-        Err(error) => Err(not_run(rt.alloc(), error)),
+    let (outcome, load) = match drive_on(rt, runtime, load) {
+        Ok(both) => both,
+        Err(error) => return Err(not_run(rt.alloc(), error)),
+    };
+    let file = match &outcome {
+        Ok(_) => None,
+        Err(_) => last_file(rt.alloc(), load.core()),
+    };
+    match Repository::from_outcome(load, outcome) {
+        Ok(repository) => Ok(repository),
+        Err(error) => Err(refused_in(rt.alloc(), error, file)),
     }
 }
 

@@ -28,15 +28,23 @@ const LOAD: &str = "usage: tough load ROOT METADATA TARGETS STORE";
 
 const GET: &str = "usage: tough get ROOT METADATA TARGETS STORE NAME OUTDIR";
 
-// The URL of a word.
+// The refusal of a word that is no URL of files.
+fn no_url(alloc: Global, word: &str, source: ParseError) -> Fault {
+    match String::from_str(alloc, word) {
+        Ok(url) => refused(alloc, Error::ParseUrl { url, source }),
+        Err(_) => Fault::Memory,
+    }
+}
+
+// The URL of a word, below which files can lie.
 fn url(alloc: Global, word: &str) -> Result<Url, Fault> {
     match Url::parse(alloc, word) {
+        Ok(url) if url.cannot_be_a_base() => {
+            Err(no_url(alloc, word, ParseError::RelativeUrlWithCannotBeABaseBase))
+        }
         Ok(url) => Ok(url),
         Err(ParseError::OutOfMemory) => Err(Fault::Memory),
-        Err(source) => {
-            let url = String::from_str(alloc, word)?;
-            Err(refused(alloc, Error::ParseUrl { url, source }))
-        }
+        Err(source) => Err(no_url(alloc, word, source)),
     }
 }
 
@@ -184,7 +192,10 @@ where
 // Tells why a run failed.
 fn tell<E: Write>(err: &mut E, fault: &Fault) -> io::Result<()> {
     match fault {
-        Fault::Refused(text) | Fault::Failed(text) => writeln!(err, "tough: {text}"),
+        Fault::Refused(text) | Fault::Files(text) | Fault::Failed(text) => writeln!(
+            err,
+            "tough: {text}"
+        ),
         Fault::Memory => writeln!(err, "tough: {}", Error::Memory),
     }
 }

@@ -64,6 +64,11 @@ impl<F, R: Clock, E: Write> Watched<F, R, E> {
         }
     }
 
+    /// The files themselves.
+    pub(crate) fn files(&self) -> &F {
+        &self.files
+    }
+
     /// Ends the line, where one was begun.
     pub(crate) fn finish(&mut self) {
         if self.progress.last.is_some() {

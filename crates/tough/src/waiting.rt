@@ -71,15 +71,8 @@ where
         (VouchesFor T.refuses T.serves K.keeps C.may_give T.Stream.yields V.verifies from
         (part.base_of load))) }
 {
-    let (outcome, load) = match drive_on(rt, runtime, load) {
-        Ok(both) => both,
-        Err(error) => return Err(error),
-    };
-    match outcome {
-        Ok(loaded) => Ok(Ok(Repository::new(load, loaded))),
-        Err(error) => {
-            drop(load);
-            Ok(Err(Error::from(error)))
-        }
+    match drive_on(rt, runtime, load) {
+        Ok((outcome, load)) => Ok(Repository::from_outcome(load, outcome)),
+        Err(error) => Err(error),
     }
 }

@@ -1,11 +1,19 @@
 -- What a store holds, as the steps see it.
-use Rattle.std.specs.Prelude.{ℕ, ℤ, List, Option, None, Some, option_and_then, Result, Ok, Err, Vec}
+use Rattle.std.specs.Prelude.{◌≡◌, ℕ, ℤ, List, Option, None, Some, option_and_then, Result, Ok, Err, Vec}
 use Rattle.std.specs.declared.alloc.Global.{Global}
 use Rattle.tough_roles.specs.Root.{RootDoc}
 use Rattle.tough_roles.specs.Timestamp.{TimestampDoc}
 use Rattle.tough_roles.specs.Snapshot.{SnapshotDoc}
 use Rattle.tough_keys.specs.Same.{Verifies}
-use Rattle.tough_roles.specs.Verdict.{Refused}
+use Rattle.tough_roles.specs.Chain.{text_by}
+use Rattle.tough_roles.specs.Policy.{policy}
+use Rattle.tough_roles.specs.Signature.{signatures_doc}
+use Rattle.tough_roles.specs.Verdict.{Refused, MissingRole, verdict}
+use Rattle.tough_roles.specs.declared.role_type.RoleType.{RoleType}
+use Rattle.tough_roles.specs.declared.signed.Signed.{Signed}
+use Rattle.serde_json.specs.Data.{Data}
+use Rattle.tough_json.specs.declared.error.ReadError.{ReadError}
+use Rattle.tough_json.specs.declared.error.ReadError.TheVariants as errors
 use Rattle.tough_json.specs.Results.{json_of}
 use Rattle.tough_json.specs.Reading.{instant, ◌>>=◌}
 use Rattle.tough_checks.specs.Documents.{timestamp_in, timestamp_verdict, snapshot_in, snapshot_verdict}
@@ -27,6 +35,14 @@ stored_time (Some bytes) = time_in bytes
 abbrev pub if_verified : {A : Type 0} → Result Unit Refused → A → Option A
 if_verified (Ok u) a = Some a
 if_verified (Err r) a = None
+
+-- the document that was read, where it could be read and the root verifies it; nothing is said where memory was wanting
+abbrev pub IsAccepted : {T : Type 0} → Verifies → RootDoc → RoleType → (T → Option Data) → Result (Signed T) ReadError → Option T → Type 0
+IsAccepted verifies root type json (Ok s) old =
+    old ≡ if_verified (verdict verifies (MissingRole type) type (policy root type) (text_by json s.signed) (signatures_doc s.signatures.items)) s.signed
+IsAccepted verifies root type json (Err (errors.Json place)) old = old ≡ None
+IsAccepted verifies root type json (Err (errors.Shape told)) old = old ≡ None
+IsAccepted verifies root type json (Err errors.Memory) old = ⊥
 
 -- the stored document, where the file reads and the root verifies it
 abbrev pub stored_timestamp : Verifies → RootDoc → Option (List ℕ) → Option TimestampDoc

@@ -13,13 +13,14 @@ ghost use Rattle.tough_checks.specs.Checks.{Checked, RefusedBy, items_in, snapsh
 use crate::checks::{
     ExpirationEnforcement, Refusal, StepError, check_expiry, check_signed, check_version,
 };
+use crate::stored::accepted;
 use crate::versions::{ListedVersion, SnapshotVersions};
 use jiff::Timestamp as Instant;
 use std::alloc::{AllocError, Global};
 use std::collections::BTreeMap;
-use tough_roles::{Error, Metafile, ReadError, RoleType, Root, Signed, Snapshot, Verify};
+use tough_roles::{Metafile, RoleType, Root, Signed, Snapshot, Verify};
 
-/// The stored snapshot, where the file reads and the root verifies it. The only refusal is want of memory.
+/// The stored snapshot, if the file can be read and the root verifies it. The only refusal is out of memory.
 pub fn read_snapshot<V: Verify>(
     alloc: Global,
     verifier: &V,
@@ -32,16 +33,8 @@ pub fn read_snapshot<V: Verify>(
     let Some(bytes) = found else {
         return Ok(None);
     };
-    let signed = match Signed::<Snapshot>::read(alloc, bytes.as_slice()) {
-        Ok(signed) => signed,
-        Err(ReadError::Memory) => return Err(AllocError),
-        Err(_) => return Ok(None),
-    };
-    match root.verify_role(alloc, &signed, verifier) {
-        Ok(()) => Ok(Some(signed.signed)),
-        Err(Error::Memory) => Err(AllocError),
-        Err(_) => Ok(None),
-    }
+    let read = Signed::<Snapshot>::read(alloc, bytes.as_slice());
+    accepted(alloc, verifier, root, read)
 }
 
 // A snapshot lists `targets.json`.

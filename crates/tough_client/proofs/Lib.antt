@@ -3,5 +3,5 @@ mod Planned
 mod Savings
 mod Starting
 mod Turns
-pub mod Opened
-pub mod Vouched
+mod Opened
+mod Vouched

@@ -221,6 +221,18 @@ module _ {S : Type 0} (tells : Bool) where
   abbrev pub BeginsAll : LoadedDoc → Folders → Option (List (List ℕ)) → Bool → List Told → List Told → Result (Caching S) Error → Type 0
   BeginsAll l dirs subset chain old new begun = HasBegun (AreMade tells dirs old new) (PlansAll l subset chain) begun
 
+-- which folders a cache makes, and what it plans: of the metadata alone, or of the targets of a subset too, or of all that are listed
+abbrev pub MakesWanted : Bool → Folders → Option (Option (List (List ℕ))) → List Told → List Told → Result (Unit {0}) Error → Type 0
+MakesWanted tells dirs None old new result = IsMade tells dirs.metadata.now old new result
+MakesWanted tells dirs (Some subset) old new result = AreMade tells dirs old new result
+
+abbrev pub PlansWanted : LoadedDoc → Option (Option (List (List ℕ))) → Bool → List Turn → Type 0
+PlansWanted l None chain turns = turns ≡ all_metadata chain l
+PlansWanted l (Some subset) chain turns = PlansAll l subset chain turns
+
+abbrev pub BeginsWanted : {S : Type 0} → Bool → LoadedDoc → Folders → Option (Option (List (List ℕ))) → Bool → List Told → List Told → Result (Caching S) Error → Type 0
+BeginsWanted tells l dirs wanted chain old new begun = HasBegun (MakesWanted tells dirs wanted old new) (PlansWanted l wanted chain) begun
+
 module _ {T K C S R : Type 0} (refuses : T → Parts → TransportError → Type 0) (serves : T → Parts → Runs Item) (yields : S → Runs Item) (can_poll : S → Type 0)
     (keeps : Verifies → K → Act → Result R StepError → K → Type 0) (may_give : C → ℤ → Type 0) (tells : Bool) where
   module _ (makes : List Told → List Told → Result (Unit {0}) Error → Type 0) (plans : List Turn → Type 0) where
@@ -235,11 +247,7 @@ module _ {T K C S R : Type 0} (refuses : T → Parts → TransportError → Type
     GoesOnPlan None r dirs old new next result = CachesPlan r dirs old new next result
     GoesOnPlan (Some c) r dirs old new next result = GoesOnCaching refuses serves yields can_poll keeps may_give tells c.work (left_in c.plan) r dirs old new next result
 
-  -- The calls by which the metadata is cached, in their order, and what comes of them.
-  abbrev pub GoesOnMetadata : Option (Caching S) → Repository T K C R → Folders → Bool → List Told → List Told → Keeping K R → Result (Unit {0}) Error → Type 0
-  GoesOnMetadata o r dirs chain old new next result =
-      GoesOnPlan (IsMade tells dirs.metadata.now) (λ turns. turns ≡ all_metadata chain (documents_of r)) o r dirs old new next result
-
-  -- The same of a whole repository.
-  abbrev pub GoesOnAll : Option (Caching S) → Repository T K C R → Folders → Option (List (List ℕ)) → Bool → List Told → List Told → Keeping K R → Result (Unit {0}) Error → Type 0
-  GoesOnAll o r dirs subset chain old new next result = GoesOnPlan (AreMade tells dirs) (PlansAll (documents_of r) subset chain) o r dirs old new next result
+  -- The calls of a cache, in their order, and its result.
+  abbrev pub GoesOnWanted : Option (Caching S) → Repository T K C R → Folders → Option (Option (List (List ℕ))) → Bool → List Told → List Told → Keeping K R → Result (Unit {0}) Error → Type 0
+  GoesOnWanted o r dirs wanted chain old new next result =
+      GoesOnPlan (MakesWanted tells dirs wanted) (PlansWanted (documents_of r) wanted chain) o r dirs old new next result

@@ -1,14 +1,15 @@
 -- What the futures of a repository hold.
-use Rattle.std.specs.Prelude.{ℕ, Bool, List, map, Option, option_map}
+use Rattle.std.specs.Prelude.{ℕ, Bool, List, map, Option, Some, None, option_map}
 use Rattle.std.specs.Borrow.{MutBor}
 use Rattle.tough_names.specs.Named.{Named}
 use Rattle.tough_net.specs.declared.digest_check.DigestCheck.{DigestCheck}
 use Rattle.tough_net.specs.declared.max_size.MaxSize.{MaxSize}
 use Rattle.tough_save.specs.declared.saving.Saving.{Saving}
 use Rattle.tough_client.specs.declared.cache.Cache.{Cache}
-use Rattle.tough_client.specs.declared.cache.CacheMetadata.{CacheMetadata}
 use Rattle.tough_client.specs.declared.cache.Caching.{Caching}
 use Rattle.tough_client.specs.declared.cache.Folders.{Folders}
+use Rattle.tough_client.specs.declared.cache.Wanted.{Wanted}
+use Rattle.tough_client.specs.declared.cache.Wanted.TheVariants as wanted
 use Rattle.tough_client.specs.declared.read.ReadTarget.{ReadTarget}
 use Rattle.tough_client.specs.declared.repository.Repository.{Repository}
 use Rattle.tough_client.specs.declared.save.Prefix.{Prefix}
@@ -48,6 +49,10 @@ module _ {T K C F S R : Type 0} where
   abbrev pub saving_in : SaveTarget T K C F S R → Option (Saving (DigestCheck (MaxSize S)))
   saving_in f = f.saving
 
+abbrev pub wanted_of : {N : Type 0} → (N → List ℕ) → Wanted N → Option (Option (List (List ℕ)))
+wanted_of text wanted.Metadata = None
+wanted_of text (wanted.Targets subset) = Some (option_map (λ names. map text names.now) subset)
+
 module _ {T K C F N S R : Type 0} where
   -- the repository that is cached, and the files that it is cached in
   abbrev pub cached_from : Cache T K C F N S R → MutBor (Repository T K C R)
@@ -60,9 +65,9 @@ module _ {T K C F N S R : Type 0} where
   abbrev pub folders_in : Cache T K C F N S R → Folders
   folders_in f = f.folders
 
-  -- the texts of the subset, where one is given
-  abbrev pub subset_in : (N → List ℕ) → Cache T K C F N S R → Option (List (List ℕ))
-  subset_in text f = option_map (λ names. map text names.now) f.subset
+  -- the targets that are cached beside the metadata, if any are: the texts of the subset, where one is given
+  abbrev pub wanted_in : (N → List ℕ) → Cache T K C F N S R → Option (Option (List (List ℕ)))
+  wanted_in text f = wanted_of text f.wanted
 
   -- whether the root chain is asked for
   abbrev pub chain_in : Cache T K C F N S R → Bool
@@ -71,20 +76,3 @@ module _ {T K C F N S R : Type 0} where
   -- the cache that it has come to, once it began
   abbrev pub caching_in : Cache T K C F N S R → Option (Caching S)
   caching_in f = f.caching
-
-module _ {T K C F S R : Type 0} where
-  -- the same where its metadata alone is cached
-  abbrev pub metadata_from : CacheMetadata T K C F S R → MutBor (Repository T K C R)
-  metadata_from f = f.repository
-
-  abbrev pub metadata_in : CacheMetadata T K C F S R → MutBor F
-  metadata_in f = f.files
-
-  abbrev pub metadata_folders_in : CacheMetadata T K C F S R → Folders
-  metadata_folders_in f = f.folders
-
-  abbrev pub metadata_chain_in : CacheMetadata T K C F S R → Bool
-  metadata_chain_in f = f.root_chain
-
-  abbrev pub metadata_caching_in : CacheMetadata T K C F S R → Option (Caching S)
-  metadata_caching_in f = f.caching

@@ -1,13 +1,13 @@
 //! Repositories are cached: their targets, and their metadata as it is served.
 
-ghost use Rattle.std.specs.Prelude.{◌≡◌, List, None, map, IfOk, IfErr, IfSome, IsSomeAnd, option_map, string_bytes};
+ghost use Rattle.std.specs.Prelude.{◌≡◌, List, None, Some, map, IfOk, IfErr, IfSome, IsSomeAnd, option_map, string_bytes};
 ghost use Rattle.futures.specs.Poll.{IfReady, OnPending};
 ghost use Rattle.futures.specs.Task.{Covers, Keeps};
 ghost use Rattle.tough_files.specs.Calls.{Told};
 ghost use Rattle.tough_trust.specs.View.{request_doc};
 ghost use Rattle.tough_trust.specs.Steps.{Keeping};
-ghost use Rattle.tough_client.specs.Caching.{Ends, Follows, IsPollable, Needs, prefix_of, IsBegun, IsUnstarted, BeginsFile, BeginsTarget, BeginsText, Begins, GoesOnCaching, Continues, AreMade, BeginsMetadata, PlansAll, BeginsAll, GoesOnMetadata, GoesOnAll};
-ghost use Rattle.tough_client.specs.Futures.{cached_from, cached_in, folders_in, subset_in, chain_in, caching_in, metadata_from, metadata_in, metadata_folders_in, metadata_chain_in, metadata_caching_in};
+ghost use Rattle.tough_client.specs.Caching.{Ends, Follows, IsPollable, Needs, prefix_of, IsBegun, IsUnstarted, BeginsFile, BeginsTarget, BeginsText, Begins, GoesOnCaching, Continues, AreMade, BeginsMetadata, PlansAll, BeginsAll, BeginsWanted, GoesOnWanted};
+ghost use Rattle.tough_client.specs.Futures.{cached_from, cached_in, folders_in, wanted_of, wanted_in, chain_in, caching_in};
 ghost use Rattle.tough_client.specs.Plans.{left_in};
 ghost use Rattle.tough_client.specs.Repositories.{IsKept, documents_of, keeping_of};
 
@@ -47,6 +47,13 @@ struct Caching<S> {
 struct Folders<'a> {
     metadata: &'a str,
     targets: &'a str,
+}
+
+// What is cached: the metadata alone, or targets before it, each of the subset or else each listed one.
+#[derive(Drop)]
+enum Wanted<'a, N> {
+    Metadata,
+    Targets(Option<&'a [N]>),
 }
 
 // What is under way goes on; it is put by where it waits.
@@ -324,6 +331,23 @@ impl<T: Transport, K: Keeper, C: Clock + Drop> Repository<T, K, C> {
         }
     }
 
+    // Makes the folders, and plans what is cached.
+    fn begin<F: Files, N: AsStr>(
+        &self,
+        files: &mut F,
+        folders: Folders<'_>,
+        wanted: &Wanted<'_, N>,
+        root_chain: bool,
+    ) -> Result<Caching<T::Stream>, Error>
+        ensures begins { BeginsWanted F.tells (documents_of self.now) folders.entry
+            (wanted_of N.text wanted.now) root_chain (F.calls files.old) (F.calls files.new) result }
+    {
+        match wanted {
+            Wanted::Metadata => self.begin_metadata(files, folders, root_chain),
+            Wanted::Targets(subset) => self.begin_all(files, folders, *subset, root_chain),
+        }
+    }
+
     /// The future that saves targets in a folder, and then the metadata in another, as `cache_metadata` does: each target of the subset
     /// where one is given, else each that the documents list, in the order of their names. Under consistent snapshots the digest of a target
     /// stands before its name.
@@ -344,8 +368,8 @@ impl<T: Transport, K: Keeper, C: Clock + Drop> Repository<T, K, C> {
             × ((cached_in result).now ≡ files.old) }
         ensures metadata { (folders_in result).metadata.now ≡ metadata_outdir.now }
         ensures targets { (folders_in result).targets.now ≡ targets_outdir.now }
-        ensures subset { subset_in S.text result
-            ≡ option_map (λ names. map S.text names.now) targets_subset.entry }
+        ensures subset { wanted_in S.text result
+            ≡ Some (option_map (λ names. map S.text names.now) targets_subset.entry) }
         ensures chain { chain_in result ≡ cache_root_chain }
         ensures unbegun { caching_in result ≡ None }
     {
@@ -356,7 +380,7 @@ impl<T: Transport, K: Keeper, C: Clock + Drop> Repository<T, K, C> {
                 metadata: metadata_outdir,
                 targets: targets_outdir,
             },
-            subset: targets_subset,
+            wanted: Wanted::Targets(targets_subset),
             root_chain: cache_root_chain,
             caching: None,
         }
@@ -375,21 +399,23 @@ impl<T: Transport, K: Keeper, C: Clock + Drop> Repository<T, K, C> {
         metadata_outdir: &'a str,
         cache_root_chain: bool,
     ) -> CacheMetadata<'a, T, K, C, F>
-        ensures lent { (metadata_from result).ghost_name ≡ self.entry.ghost_name }
-        ensures files_lent { (metadata_in result).ghost_name ≡ files.entry.ghost_name }
-        ensures begins { ((metadata_from result).now ≡ self.old)
-            × ((metadata_in result).now ≡ files.old) }
-        ensures folder { (metadata_folders_in result).metadata.now ≡ metadata_outdir.now }
-        ensures chain { metadata_chain_in result ≡ cache_root_chain }
-        ensures unbegun { metadata_caching_in result ≡ None }
+        ensures lent { (cached_from result).ghost_name ≡ self.entry.ghost_name }
+        ensures files_lent { (cached_in result).ghost_name ≡ files.entry.ghost_name }
+        ensures begins { ((cached_from result).now ≡ self.old)
+            × ((cached_in result).now ≡ files.old) }
+        ensures folder { (folders_in result).metadata.now ≡ metadata_outdir.now }
+        ensures no_targets { wanted_in string_bytes result ≡ None }
+        ensures chain { chain_in result ≡ cache_root_chain }
+        ensures unbegun { caching_in result ≡ None }
     {
-        CacheMetadata {
+        Cache {
             repository: self,
             files,
             folders: Folders {
                 metadata: metadata_outdir,
                 targets: metadata_outdir,
             },
+            wanted: Wanted::Metadata,
             root_chain: cache_root_chain,
             caching: None,
         }
@@ -398,27 +424,20 @@ impl<T: Transport, K: Keeper, C: Clock + Drop> Repository<T, K, C> {
 
 /// The future of `Repository::cache`.
 #[derive(Drop)]
-pub struct Cache<'a, T: Transport, K: Keeper, C, F, S> {
+pub struct Cache<'a, T: Transport, K: Keeper, C, F, N> {
     repository: &'a mut Repository<T, K, C>,
     files: &'a mut F,
     folders: Folders<'a>,
-    subset: Option<&'a [S]>,
+    wanted: Wanted<'a, N>,
     root_chain: bool,
     caching: Option<Caching<T::Stream>>,
 }
 
 /// The future of `Repository::cache_metadata`.
-#[derive(Drop)]
-pub struct CacheMetadata<'a, T: Transport, K: Keeper, C, F> {
-    repository: &'a mut Repository<T, K, C>,
-    files: &'a mut F,
-    folders: Folders<'a>,
-    root_chain: bool,
-    caching: Option<Caching<T::Stream>>,
-}
+pub type CacheMetadata<'a, T, K, C, F> = Cache<'a, T, K, C, F, String>;
 
-impl<T: Transport, K: Keeper, C: Clock + Drop, F: Files, S: AsStr> Future
-    for Cache<'_, T, K, C, F, S> {
+impl<T: Transport, K: Keeper, C: Clock + Drop, F: Files, N: AsStr> Future
+    for Cache<'_, T, K, C, F, N> {
     type Output = Result<(), Error>;
 
     ghost can_poll = { λ m. IfSome m.caching (λ c. IfSome c.work (IsPollable T.Stream.can_poll)) };
@@ -428,39 +447,38 @@ impl<T: Transport, K: Keeper, C: Clock + Drop, F: Files, S: AsStr> Future
 
     // Some calls and some keeper's steps lead to what it may give.
     ghost gives = { λ m r. (calls : List Told) × (next : Keeping K K.Receipt)
-        × GoesOnAll T.refuses T.serves T.Stream.yields T.Stream.can_poll K.keeps C.may_give F.tells
-        m.caching m.repository.now m.folders (option_map (λ names. map S.text names.now) m.subset)
-        m.root_chain (F.calls m.files.now) calls next r };
+        × GoesOnWanted T.refuses T.serves T.Stream.yields T.Stream.can_poll K.keeps C.may_give
+        F.tells (caching_in m) (cached_from m).now (folders_in m) (wanted_in N.text m) (chain_in m)
+        (F.calls (cached_in m).now) calls next r };
 
     fn poll(&mut self, cx: &mut Context<'_>) -> Poll<Result<(), Error>>
-        requires { IfSome self.old.caching (λ c. IfSome c.work (IsPollable T.Stream.can_poll)) }
+        requires { IfSome (caching_in self.old)
+            (λ c. IfSome c.work (IsPollable T.Stream.can_poll)) }
         ensures value { IfReady result
             (λ r. (calls : List Told) × (next : Keeping K K.Receipt)
-            × GoesOnAll T.refuses T.serves T.Stream.yields T.Stream.can_poll K.keeps C.may_give
-            F.tells self.old.caching self.old.repository.now self.old.folders
-            (option_map (λ names. map S.text names.now) self.old.subset) self.old.root_chain
-            (F.calls self.old.files.now) calls next r) }
+            × GoesOnWanted T.refuses T.serves T.Stream.yields T.Stream.can_poll K.keeps C.may_give
+            F.tells (caching_in self.old) (cached_from self.old).now (folders_in self.old)
+            (wanted_in N.text self.old) (chain_in self.old) (F.calls (cached_in self.old).now)
+            calls next r) }
         ensures caches { IfReady result
-            (GoesOnAll T.refuses T.serves T.Stream.yields T.Stream.can_poll K.keeps C.may_give
-            F.tells self.old.caching self.old.repository.now self.old.folders
-            (option_map (λ names. map S.text names.now) self.old.subset) self.old.root_chain
-            (F.calls self.old.files.now) (F.calls self.new.files.now)
-            (keeping_of self.new.repository.now)) }
-        ensures again { OnPending result
-            (IfSome self.new.caching (λ c. IfSome c.work (IsPollable T.Stream.can_poll))) }
+            (GoesOnWanted T.refuses T.serves T.Stream.yields T.Stream.can_poll K.keeps C.may_give
+            F.tells (caching_in self.old) (cached_from self.old).now (folders_in self.old)
+            (wanted_in N.text self.old) (chain_in self.old) (F.calls (cached_in self.old).now)
+            (F.calls (cached_in self.new).now) (keeping_of (cached_from self.new).now)) }
+        ensures again { OnPending result (IfSome (caching_in self.new)
+            (λ c. IfSome c.work (IsPollable T.Stream.can_poll))) }
         ensures same { OnPending result ((r : _)
             → ((calls : List Told) × (next : Keeping K K.Receipt)
-            × GoesOnAll T.refuses T.serves T.Stream.yields T.Stream.can_poll K.keeps C.may_give
-            F.tells self.new.caching self.new.repository.now self.new.folders
-            (option_map (λ names. map S.text names.now) self.new.subset) self.new.root_chain
-            (F.calls self.new.files.now) calls next r)
+            × GoesOnWanted T.refuses T.serves T.Stream.yields T.Stream.can_poll K.keeps C.may_give
+            F.tells (caching_in self.new) (cached_from self.new).now (folders_in self.new)
+            (wanted_in N.text self.new) (chain_in self.new) (F.calls (cached_in self.new).now)
+            calls next r)
             → ((calls : List Told) × (next : Keeping K K.Receipt)
-            × GoesOnAll T.refuses T.serves T.Stream.yields T.Stream.can_poll K.keeps C.may_give
-            F.tells self.old.caching self.old.repository.now self.old.folders
-            (option_map (λ names. map S.text names.now) self.old.subset) self.old.root_chain
-            (F.calls self.old.files.now) calls next r)) }
-        ensures registered { OnPending result
-            (Covers cx.new (λ n. IsSomeAnd self.new.caching
+            × GoesOnWanted T.refuses T.serves T.Stream.yields T.Stream.can_poll K.keeps C.may_give
+            F.tells (caching_in self.old) (cached_from self.old).now (folders_in self.old)
+            (wanted_in N.text self.old) (chain_in self.old) (F.calls (cached_in self.old).now)
+            calls next r)) }
+        ensures registered { OnPending result (Covers cx.new (λ n. IsSomeAnd (caching_in self.new)
             (λ c. IsSomeAnd c.work (λ w. Needs T.Stream.needs w n)))) }
         ensures kept { Keeps cx.old cx.new }
         ensures lent { (cached_from self.new).ghost_name ≡ (cached_from self.old).ghost_name }
@@ -472,68 +490,7 @@ impl<T: Transport, K: Keeper, C: Clock + Drop, F: Files, S: AsStr> Future
                 .go_on_caching(caching, self.files, self.folders, cx),
             None => match self
                 .repository
-                .begin_all(self.files, self.folders, self.subset, self.root_chain)
-            {
-                Ok(caching) => {
-                    self.caching = Some(caching);
-                    cx.yield_now()
-                }
-                Err(error) => Poll::Ready(Err(error)),
-            },
-        }
-    }
-}
-
-impl<T: Transport, K: Keeper, C: Clock + Drop, F: Files> Future for CacheMetadata<'_, T, K, C, F> {
-    type Output = Result<(), Error>;
-
-    ghost can_poll = { λ m. IfSome m.caching (λ c. IfSome c.work (IsPollable T.Stream.can_poll)) };
-
-    ghost needs = { λ m n. IsSomeAnd m.caching
-        (λ c. IsSomeAnd c.work (λ w. Needs T.Stream.needs w n)) };
-
-    // Some calls and some keeper's steps lead to what it may give.
-    ghost gives = { λ m r. (calls : List Told) × (next : Keeping K K.Receipt)
-        × GoesOnMetadata T.refuses T.serves T.Stream.yields T.Stream.can_poll K.keeps C.may_give
-        F.tells m.caching m.repository.now m.folders m.root_chain (F.calls m.files.now) calls next r };
-
-    fn poll(&mut self, cx: &mut Context<'_>) -> Poll<Result<(), Error>>
-        requires { IfSome self.old.caching (λ c. IfSome c.work (IsPollable T.Stream.can_poll)) }
-        ensures value { IfReady result
-            (λ r. (calls : List Told) × (next : Keeping K K.Receipt)
-            × GoesOnMetadata T.refuses T.serves T.Stream.yields T.Stream.can_poll K.keeps C.may_give
-            F.tells self.old.caching self.old.repository.now self.old.folders self.old.root_chain
-            (F.calls self.old.files.now) calls next r) }
-        ensures caches { IfReady result
-            (GoesOnMetadata T.refuses T.serves T.Stream.yields T.Stream.can_poll K.keeps C.may_give
-            F.tells self.old.caching self.old.repository.now self.old.folders self.old.root_chain
-            (F.calls self.old.files.now) (F.calls self.new.files.now)
-            (keeping_of self.new.repository.now)) }
-        ensures again { OnPending result
-            (IfSome self.new.caching (λ c. IfSome c.work (IsPollable T.Stream.can_poll))) }
-        ensures same { OnPending result ((r : _)
-            → ((calls : List Told) × (next : Keeping K K.Receipt)
-            × GoesOnMetadata T.refuses T.serves T.Stream.yields T.Stream.can_poll K.keeps C.may_give
-            F.tells self.new.caching self.new.repository.now self.new.folders self.new.root_chain
-            (F.calls self.new.files.now) calls next r)
-            → ((calls : List Told) × (next : Keeping K K.Receipt)
-            × GoesOnMetadata T.refuses T.serves T.Stream.yields T.Stream.can_poll K.keeps C.may_give
-            F.tells self.old.caching self.old.repository.now self.old.folders self.old.root_chain
-            (F.calls self.old.files.now) calls next r)) }
-        ensures registered { OnPending result
-            (Covers cx.new (λ n. IsSomeAnd self.new.caching
-            (λ c. IsSomeAnd c.work (λ w. Needs T.Stream.needs w n)))) }
-        ensures kept { Keeps cx.old cx.new }
-        ensures lent { (metadata_from self.new).ghost_name ≡ (metadata_from self.old).ghost_name }
-        ensures stays { IsKept (metadata_from self.old).now (metadata_from self.new).now }
-    {
-        match &mut self.caching {
-            Some(caching) => self
-                .repository
-                .go_on_caching(caching, self.files, self.folders, cx),
-            None => match self
-                .repository
-                .begin_metadata(self.files, self.folders, self.root_chain)
+                .begin(self.files, self.folders, &self.wanted, self.root_chain)
             {
                 Ok(caching) => {
                     self.caching = Some(caching);

@@ -75,8 +75,8 @@ pub(crate) fn with_keys(
     Ok(all)
 }
 
-// The identifiers of the keys.
-fn keyids_of(
+/// The identifiers of the keys, in their order. `AllocError` when out of memory.
+pub fn keyids_of(
     alloc: Global,
     keys: &BTreeMap<Decoded<Hex>, Key>,
 ) -> Result<Vec<Decoded<Hex>>, AllocError>

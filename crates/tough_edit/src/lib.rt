@@ -11,5 +11,6 @@ mod signers;
 
 pub use edits::TargetEdits;
 pub use files::build_target;
+pub use keys::keyids_of;
 pub use signers::{SignersKeys, signers_keys};
 pub use tough_signed::EditError;

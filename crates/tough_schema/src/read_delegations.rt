@@ -26,17 +26,24 @@ fn no_pattern(alloc: Global, text: &str) -> ReadError
     }
 }
 
-// Reads a text as a pattern.
+// Reads a text as a pattern; a refusal has this copy of the text.
 #[tactic(auto, using(crate::proofs::PathLemmas::if_pattern_is))]
+fn pattern_or(alloc: Global, text: String, told: &str) -> Result<PathPattern, ReadError>
+    ensures { Reads (λ p. p) result (if_pattern (string_bytes text)) }
+{
+    match PathPattern::new(alloc, text) {
+        Ok(pattern) => Ok(pattern),
+        Err(PatternError::Memory) => Err(ReadError::Memory),
+        Err(PatternError::Glob) => Err(no_pattern(alloc, told)),
+    }
+}
+
+// Reads a text as a pattern.
 fn pattern_in(alloc: Global, text: String) -> Result<PathPattern, ReadError>
     ensures { Reads (λ p. p) result (if_pattern (string_bytes text)) }
 {
     let told = text.clone()?;
-    match PathPattern::new(alloc, text) {
-        Ok(pattern) => Ok(pattern),
-        Err(PatternError::Memory) => Err(ReadError::Memory),
-        Err(PatternError::Glob) => Err(no_pattern(alloc, told.as_str())),
-    }
+    pattern_or(alloc, text, told.as_str())
 }
 
 // Reads a value as a pattern.

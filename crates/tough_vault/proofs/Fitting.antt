@@ -1,5 +1,5 @@
 -- What passed the checks of a step follows the tip, and its file then holds it.
-use Rattle.std.proofs.Common.{◌≡◌, ℕ, ℤ, ◌≤◌, ◌≤ℤ◌, List, [], ◌∷◌, Option, None, Some, Bool, true, false, nat_lt, nat_le, int_lt, is_some, Result, Ok, Err, OnOk, refl, sym, ap, ◌∙◌, subst, arith, rules}
+use Rattle.std.proofs.Common.{◌≡◌, ℕ, ℤ, ◌≤◌, ◌≤ℤ◌, List, [], ◌∷◌, Option, None, Some, Bool, true, false, nat_lt, nat_le, int_lt, is_some, Result, Ok, Err, OnOk, IfErr, refl, sym, ap, ◌∙◌, subst, arith, rules}
 use Rattle.std.proofs.lemmas.Bool.Decides.{nat_tests}
 use Rattle.std.proofs.lemmas.Slice.Eq.{bytes_eq-Decides}
 use Rattle.std.specs.Str.{bytes_eq}
@@ -150,3 +150,10 @@ module _ {S : Type 0} (tells : Bool) (files : S → Files) (count : S → ℕ) w
 -- what was prepared is so
 pub when_ready : {P : Type 0} (prepared : Result Prepared StepError) (p : Prepared) → OnOk prepared P → prepared ≡ Ok p → P
 when_ready {P} prepared p h is = subst (λ (r : Result Prepared StepError). OnOk r P) is h
+
+-- a step that succeeded was prepared
+pub when_done : {P : Type 0} (Q : Type 0) (prepared : Result Prepared StepError) (result : Result Receipt StepError) → IfErr prepared (λ e. (result ≡ Err e) × Q) → OnOk prepared P → OnOk result P
+when_done Q (Ok p) (Ok r) x h = h
+when_done Q (Ok p) (Err e) x h = tt
+when_done Q (Err f) (Ok r) x h = absurd (cc (x.0))
+when_done Q (Err f) (Err e) x h = tt

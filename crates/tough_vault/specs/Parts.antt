@@ -35,7 +35,15 @@ HoldsTimestamp p file = (d : SignedDoc TimestampDoc) × (file ≡ timestamp_text
 abbrev pub HoldsSnapshot : Roles → Option (List ℕ) → Type 0
 HoldsSnapshot r file = (d : SignedDoc SnapshotDoc) × (file ≡ snapshot_text d) × (file ≢ None) × (roles_in d.role ≡ r) × ReadsBack snapshot_in (signed_json snapshot_json d) d file
 
--- the same of a signed root of this version, which is read as it where its keys stand under their own identifiers
+-- the text of the timestamp is read as it, where it nests no deeper than is read
+abbrev pub TimestampReadsBack : SignedDoc TimestampDoc → Type 0
+TimestampReadsBack d = ReadsBack timestamp_in (signed_json timestamp_json d) d (timestamp_text d)
+
+-- the same of a snapshot
+abbrev pub SnapshotReadsBack : SignedDoc SnapshotDoc → Type 0
+SnapshotReadsBack d = ReadsBack snapshot_in (signed_json snapshot_json d) d (snapshot_text d)
+
+-- the file is the text of a signed root of this version, which is read as it where its keys stand under their own identifiers
 abbrev pub HoldsRoot : ℕ → Option (List ℕ) → Type 0
 HoldsRoot v file = (d : SignedDoc RootDoc) × (file ≡ root_text d) × (file ≢ None) × (d.role.head.version ≡ v) × (AreOwn d.role.keys → ReadsBack root_in (signed_json root_json d) d file)
 

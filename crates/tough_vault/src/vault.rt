@@ -1,6 +1,6 @@
 //! A store, with the journal of what was accepted from it.
 
-ghost use Rattle.std.specs.Prelude.{◌≡◌, List, [], true, false};
+ghost use Rattle.std.specs.Prelude.{◌≡◌, List, [], Some, true, false, OnOk};
 ghost use Rattle.tough_roles.specs.Signature.{signed_doc};
 ghost use Rattle.tough_roles.specs.Root.{root_doc};
 ghost use Rattle.tough_roles.specs.Timestamp.{timestamp_doc};
@@ -8,10 +8,11 @@ ghost use Rattle.tough_roles.specs.Snapshot.{snapshot_doc};
 ghost use Rattle.tough_checks.specs.Checks.{enforces};
 ghost use Rattle.tough_vault.specs.Journal.{no_tip, replay, Rises, Legal, NothingGoesBack, has_broken, notes_of, tip_of};
 ghost use Rattle.tough_vault.specs.Step.{Takes, Clears, TriesTwo};
-ghost use Rattle.tough_vault.specs.Steps.{time_step, root_step, timestamp_step, snapshot_step, document_step};
+ghost use Rattle.tough_vault.specs.Steps.{time_text, time_step, root_step, timestamp_step, snapshot_step, document_step};
+ghost use Rattle.tough_checks.specs.StoredDocuments.{stored_time};
 ghost use Rattle.tough_checks.specs.Documents.{role_text};
 ghost use Rattle.tough_checks.specs.DocumentName.{name_of};
-ghost use Rattle.tough_vault.specs.Parts.{Holds, NamesFree};
+ghost use Rattle.tough_vault.specs.Parts.{Holds, NamesFree, TimestampReadsBack, SnapshotReadsBack};
 ghost use Rattle.tough_vault.specs.Props.{Rises-prop, replays-prop};
 
 use crate::entry::{Entry, Receipt, Tip};
@@ -80,10 +81,11 @@ impl<S: Store> Vault<S> {
 
     /// Notes the time of an update as `latest_known_time.json`. It refuses, in this order: `DatastoreOpen`;
     /// `SystemTimeSteppedBackward` where the stored time, or the tip's, is later; `DatastoreSerialize` outside the years
-    /// 0000 to 9999; `DatastoreCreate`.
+    /// 0000 to 9999; `DatastoreCreate`. What was stored is read as this time.
     pub fn note_time(&mut self, now: Instant) -> Result<Receipt, StepError>
-        ensures { Takes S.tells S.files S.count (time_step (tip_in self.old) now.nanosecond)
+        ensures takes { Takes S.tells S.files S.count (time_step (tip_in self.old) now.nanosecond)
             (parts_of self.old) (parts_of self.new) result }
+        ensures back { OnOk result (stored_time (time_text now.nanosecond) ≡ Some now.nanosecond) }
     {
         let Vault {
             alloc,
@@ -133,7 +135,7 @@ impl<S: Store> Vault<S> {
     /// `MissingSnapshotMeta`; `DatastoreOpen`; against a stored timestamp that the root verifies `OlderMetadata`, the
     /// stored one's `TimestampMetaLength` and `MissingSnapshotMeta`, and `OlderSnapshotInTimestamp`; against the tip
     /// `OlderMetadata` and `OlderSnapshotInTimestamp`; `ExpiredMetadata` where `start` is past its expiry and that is
-    /// enforced; `DatastoreCreate`.
+    /// enforced; `DatastoreCreate`. What was stored is read as this timestamp, where it nests no deeper than is read.
     pub fn advance_timestamp<V: Verify>(
         &mut self,
         root: &Root,
@@ -142,10 +144,11 @@ impl<S: Store> Vault<S> {
         enforcement: ExpirationEnforcement,
         verifier: &V,
     ) -> Result<Receipt, StepError>
-        ensures { Takes S.tells S.files S.count
+        ensures takes { Takes S.tells S.files S.count
             (timestamp_step (V.verifies verifier.now) (root_doc root.now) (tip_in self.old)
             (signed_doc timestamp_doc new.now) start.nanosecond (enforces enforcement))
             (parts_of self.old) (parts_of self.new) result }
+        ensures back { OnOk result (TimestampReadsBack (signed_doc timestamp_doc new.now)) }
     {
         let Vault {
             alloc,
@@ -170,7 +173,7 @@ impl<S: Store> Vault<S> {
     /// against a stored snapshot that the root verifies `OlderMetadata`, the stored one's `SnapshotTargetsMetaMissing`,
     /// and for its names in order `SnapshotRoleMissing` or `SnapshotRoleRollback`; against the tip `OlderMetadata` and
     /// the same of its names; `ExpiredMetadata` where `start` is past its expiry and that is enforced;
-    /// `DatastoreCreate`.
+    /// `DatastoreCreate`. What was stored is read as this snapshot, where it nests no deeper than is read.
     pub fn advance_snapshot<V: Verify>(
         &mut self,
         root: &Root,
@@ -180,10 +183,11 @@ impl<S: Store> Vault<S> {
         enforcement: ExpirationEnforcement,
         verifier: &V,
     ) -> Result<Receipt, StepError>
-        ensures { Takes S.tells S.files S.count
+        ensures takes { Takes S.tells S.files S.count
             (snapshot_step (V.verifies verifier.now) (root_doc root.now) (tip_in self.old) listed
             (signed_doc snapshot_doc new.now) start.nanosecond (enforces enforcement))
             (parts_of self.old) (parts_of self.new) result }
+        ensures back { OnOk result (SnapshotReadsBack (signed_doc snapshot_doc new.now)) }
     {
         let Vault {
             alloc,
@@ -228,5 +232,19 @@ impl<S: Store> Vault<S> {
     {
         let Vault { store, .. } = self;
         store
+    }
+
+    /// The store, and all entries.
+    pub fn into_parts(self) -> (S, Vec<Entry>)
+        ensures store { result.0 ≡ store_of self }
+        ensures journal { result.1.items ≡ journal_of self }
+    {
+        let Vault {
+            alloc: _,
+            store,
+            journal,
+            tip: _,
+        } = self;
+        (store, journal)
     }
 }

@@ -1,5 +1,6 @@
-use Rattle.std.proofs.Common.{rules, refl, ◌≡◌, Some, None, map, option_map}
-use Rattle.tough_client.specs.Caching.{AreMade, PlansAll}
+use Rattle.std.proofs.Common.{rules, refl, ◌≡◌, Some, None}
+use Rattle.tough_client.specs.Caching.{MakesWanted, PlansWanted}
+use Rattle.tough_client.specs.Futures.{wanted_in}
 use Rattle.tough_client.specs.Repositories.{documents_of, keeping_of}
 use Rattle.tough_client.proofs.Turns.{goes_value, continues_same, begun_same, unbegun, unbegun_value}
 use Rattle.tough_client.proofs.cache.CacheFuture.poll.Goals as goal
@@ -9,7 +10,7 @@ returns-in-Some-clause-value g c =
     let m = c.args.self.now in
     let is : m.caching ≡ Some c.in-Some.caching = search rules in
     goes_value g.T.Transport.refuses g.T.Transport.serves g.T.Stream.Stream.yields g.T.Stream.Stream.can_poll g.K.Keeper.keeps g.C.Clock.may_give g.F.Files.tells
-    (AreMade g.F.Files.tells m.folders) (PlansAll (documents_of m.repository.now) (option_map (λ names. map g.S.AsStr.text names.now) m.subset) m.root_chain)
+    (MakesWanted g.F.Files.tells m.folders (wanted_in g.N.AsStr.text m)) (PlansWanted (documents_of m.repository.now) (wanted_in g.N.AsStr.text m) m.root_chain)
     m.repository.now m.folders (g.F.Files.calls m.files.now) (g.F.Files.calls m.files.now) m.caching c.in-Some.caching is
     (g.F.Files.calls c.go_on_caching.new.files) (keeping_of c.go_on_caching.new.self) c.go_on_caching.result c.go_on_caching.ensures.done
 
@@ -18,9 +19,9 @@ returns-in-Some-clause-same g c =
     let m = c.args.self.now in
     let is : m.caching ≡ Some c.in-Some.caching = search rules in
     continues_same g.T.Transport.refuses g.T.Transport.serves g.T.Stream.Stream.yields g.T.Stream.Stream.can_poll g.K.Keeper.keeps g.C.Clock.may_give g.F.Files.tells
-    (AreMade g.F.Files.tells m.folders) (PlansAll (documents_of m.repository.now) (option_map (λ names. map g.S.AsStr.text names.now) m.subset) m.root_chain)
+    (MakesWanted g.F.Files.tells m.folders (wanted_in g.N.AsStr.text m)) (PlansWanted (documents_of m.repository.now) (wanted_in g.N.AsStr.text m) m.root_chain)
     m.repository.now m.folders (g.F.Files.calls m.files.now) (g.F.Files.calls c.go_on_caching.new.files) m.caching c.in-Some.caching is
-    (PlansAll (documents_of c.go_on_caching.new.self) (option_map (λ names. map g.S.AsStr.text names.now) m.subset) m.root_chain) c.go_on_caching.new.self c.go_on_caching.new.caching
+    (PlansWanted (documents_of c.go_on_caching.new.self) (wanted_in g.N.AsStr.text m) m.root_chain) c.go_on_caching.new.self c.go_on_caching.new.caching
     (Some c.go_on_caching.new.caching) refl c.go_on_caching.result c.go_on_caching.ensures.continues
 
 pub returns-in-Ok-clause-same : goal.returns-in-Ok-clause-same
@@ -28,8 +29,8 @@ returns-in-Ok-clause-same g c =
     let m = c.args.self.now in
     let is : m.caching ≡ None = search rules in
     begun_same g.T.Transport.refuses g.T.Transport.serves g.T.Stream.Stream.yields g.T.Stream.Stream.can_poll g.K.Keeper.keeps g.C.Clock.may_give g.F.Files.tells
-    (AreMade g.F.Files.tells m.folders) (PlansAll (documents_of m.repository.now) (option_map (λ names. map g.S.AsStr.text names.now) m.subset) m.root_chain)
-    m.repository.now m.folders (g.F.Files.calls m.files.now) (g.F.Files.calls c.begin_all.new.files) m.caching is
+    (MakesWanted g.F.Files.tells m.folders (wanted_in g.N.AsStr.text m)) (PlansWanted (documents_of m.repository.now) (wanted_in g.N.AsStr.text m) m.root_chain)
+    m.repository.now m.folders (g.F.Files.calls m.files.now) (g.F.Files.calls c.begin.new.files) m.caching is
     c.in-Ok.caching c.in-Ok.ensures.begins (Some c.in-Ok.caching) refl c.yield_now.result
 
 pub returns-in-Err-clause-value : goal.returns-in-Err-clause-value
@@ -37,13 +38,13 @@ returns-in-Err-clause-value g c =
     let m = c.args.self.now in
     let is : m.caching ≡ None = search rules in
     unbegun_value g.T.Transport.refuses g.T.Transport.serves g.T.Stream.Stream.yields g.T.Stream.Stream.can_poll g.K.Keeper.keeps g.C.Clock.may_give g.F.Files.tells
-    (AreMade g.F.Files.tells m.folders) (PlansAll (documents_of m.repository.now) (option_map (λ names. map g.S.AsStr.text names.now) m.subset) m.root_chain)
-    m.repository.now m.folders (g.F.Files.calls m.files.now) (g.F.Files.calls c.begin_all.new.files) m.caching is c.in-Err.error c.in-Err.ensures.begins
+    (MakesWanted g.F.Files.tells m.folders (wanted_in g.N.AsStr.text m)) (PlansWanted (documents_of m.repository.now) (wanted_in g.N.AsStr.text m) m.root_chain)
+    m.repository.now m.folders (g.F.Files.calls m.files.now) (g.F.Files.calls c.begin.new.files) m.caching is c.in-Err.error c.in-Err.ensures.begins
 
 pub returns-in-Err-clause-caches : goal.returns-in-Err-clause-caches
 returns-in-Err-clause-caches g c =
     let m = c.args.self.now in
     let is : m.caching ≡ None = search rules in
     unbegun g.T.Transport.refuses g.T.Transport.serves g.T.Stream.Stream.yields g.T.Stream.Stream.can_poll g.K.Keeper.keeps g.C.Clock.may_give g.F.Files.tells
-    (AreMade g.F.Files.tells m.folders) (PlansAll (documents_of m.repository.now) (option_map (λ names. map g.S.AsStr.text names.now) m.subset) m.root_chain)
-    m.repository.now m.folders (g.F.Files.calls m.files.now) (g.F.Files.calls c.begin_all.new.files) m.caching is c.in-Err.error c.in-Err.ensures.begins
+    (MakesWanted g.F.Files.tells m.folders (wanted_in g.N.AsStr.text m)) (PlansWanted (documents_of m.repository.now) (wanted_in g.N.AsStr.text m) m.root_chain)
+    m.repository.now m.folders (g.F.Files.calls m.files.now) (g.F.Files.calls c.begin.new.files) m.caching is c.in-Err.error c.in-Err.ensures.begins

@@ -6,11 +6,14 @@ use Rattle.tough_vault.specs.Journal.{tip_of}
 use Rattle.tough_vault.specs.Steps.{snapshot_step}
 use Rattle.tough_vault.specs.Parts.{parts}
 use Rattle.tough_vault.proofs.Taking.{takes}
-use Rattle.tough_vault.proofs.Fitting.{after_step, fits_snapshot, when_ready}
+use Rattle.tough_vault.proofs.Fitting.{after_step, fits_snapshot, when_ready, when_done}
 use Rattle.tough_vault.proofs.vault.Vault.advance_snapshot.Goals as goal
 
-pub returns : goal.returns
-returns g c = takes _ _ _ _ _ _ _ _ _ c.prepare_snapshot-prepared.ensures.step c.conclude.ensures
+pub returns-clause-takes : goal.returns-clause-takes
+returns-clause-takes g c = takes _ _ _ _ _ _ _ _ _ c.prepare_snapshot-prepared.ensures.step c.conclude.ensures
+
+pub returns-clause-back : goal.returns-clause-back
+returns-clause-back g c = when_done _ c.prepare_snapshot-prepared.result c.conclude.result c.conclude.ensures.refused c.prepare_snapshot-prepared.ensures.back
 
 pub invariant_of-self : goal.invariant_of-self
 invariant_of-self g c =

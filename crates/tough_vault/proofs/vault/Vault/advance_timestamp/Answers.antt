@@ -6,11 +6,14 @@ use Rattle.tough_vault.specs.Journal.{tip_of}
 use Rattle.tough_vault.specs.Steps.{timestamp_step}
 use Rattle.tough_vault.specs.Parts.{parts}
 use Rattle.tough_vault.proofs.Taking.{takes}
-use Rattle.tough_vault.proofs.Fitting.{after_step, fits_timestamp, when_ready}
+use Rattle.tough_vault.proofs.Fitting.{after_step, fits_timestamp, when_ready, when_done}
 use Rattle.tough_vault.proofs.vault.Vault.advance_timestamp.Goals as goal
 
-pub returns : goal.returns
-returns g c = takes _ _ _ _ _ _ _ _ _ c.prepare_timestamp-prepared.ensures.step c.conclude.ensures
+pub returns-clause-takes : goal.returns-clause-takes
+returns-clause-takes g c = takes _ _ _ _ _ _ _ _ _ c.prepare_timestamp-prepared.ensures.step c.conclude.ensures
+
+pub returns-clause-back : goal.returns-clause-back
+returns-clause-back g c = when_done _ c.prepare_timestamp-prepared.result c.conclude.result c.conclude.ensures.refused c.prepare_timestamp-prepared.ensures.back
 
 pub invariant_of-self : goal.invariant_of-self
 invariant_of-self g c =
