@@ -1,2 +1,5 @@
 pub mod Beginning
 pub mod Standings
+pub mod Sets
+pub mod Closings
+pub mod Makings

@@ -27,7 +27,7 @@ use Rattle.tough_release.specs.Documents.{Metas, IsSnapshot, IsTimestamp, IsHead
 use Rattle.tough_release.specs.Edits.{HeadingDoc, ReleaseDoc}
 use Rattle.tough_release.specs.Files.{IsFile, AreFiled, IsUnfiledTree}
 use Rattle.tough_release.specs.Repository.{root_of, targets_of, snapshot_of, timestamp_of, delegated_of}
-use Rattle.tough_release.specs.Roots.{IsRootFile}
+use Rattle.tough_release.specs.Roots.{root_in}
 use Rattle.tough_release.specs.declared.repository.SignedRepository.{SignedRepository}
 
 -- the JSON of a snapshot and of a timestamp
@@ -67,7 +67,7 @@ module _ {S : Type 0} (key_of : S → KeyDoc) where
   pub record IsMade (signs : S → List ℕ → List ℕ → Type 0) (signers : List S) (e : ReleaseDoc) (r : SignedRepository) : Type 0 where
     pub root : signed_doc root_doc (signed_of (root_of r)) ≡ e.root
     pub root_file : buffer_of (root_of r) ≡ e.root_file
-    pub rooted : IsRootFile (signed_of (root_of r)) (buffer_of (root_of r))
+    pub rooted : root_in (buffer_of (root_of r)) ≡ Some (signed_doc root_doc (signed_of (root_of r)))
     pub targets : SignedDoc TreeDoc
     pub there : e.targets ≡ Some targets
     pub files : AreFiled targets (targets_of r) (roles_of (delegated_of r))

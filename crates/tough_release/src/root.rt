@@ -1,13 +1,13 @@
 //! An editor stands on a root.
 
-ghost use Rattle.std.specs.Prelude.{◌≡◌, None, IfOk, IfErr, option_map};
+ghost use Rattle.std.specs.Prelude.{◌≡◌, None, Some, IfOk, IfErr, option_map};
 ghost use Rattle.tough_roles.specs.Root.{root_doc};
 ghost use Rattle.tough_roles.specs.Signature.{signed_doc};
 ghost use Rattle.tough_schema.specs.Whole.{tree_doc};
 ghost use Rattle.tough_signed.specs.Roles.{signed_of, buffer_of};
 ghost use Rattle.tough_edit.specs.Edits.{edits_doc};
 ghost use Rattle.tough_release.specs.Edits.{release_doc, begun, begun_editor};
-ghost use Rattle.tough_release.specs.Roots.{IsRootOf, IsRootFile, first_unstable, IsUnstable};
+ghost use Rattle.tough_release.specs.Roots.{IsRootOf, root_in, first_unstable, IsUnstable};
 
 use crate::edits::RepositoryEdits;
 use crate::heading::Heading;
@@ -86,7 +86,7 @@ impl RepositoryEdits {
         ensures root { signed_doc root_doc (signed_of result.now)
             ≡ (release_doc self.now).root }
         ensures file { buffer_of result.now ≡ (release_doc self.now).root_file }
-        ensures read { IsRootFile (signed_of result.now) (buffer_of result.now) }
+        ensures read { root_in (buffer_of result.now) ≡ Some (signed_doc root_doc (signed_of result.now)) }
     {
         &self.root
     }
