@@ -73,14 +73,18 @@ fn holder_in(
         ⊎ IsUnheldIn role.now (option_map (signed_doc tree_doc) targets.now) e) }
 {
     if role == "targets" {
-        return Ok(KeyHolder::Root(root.clone()?));
+        let root = root.clone()?;
+        return Ok(KeyHolder::Root(root));
     }
     let Some(targets) = targets else {
         return Err(EditError::NoTargets);
     };
     let name = String::from_str(alloc, role)?;
     match targets.signed.parent_of(alloc, role) {
-        Ok(delegations) => Ok(KeyHolder::Delegations(bare_delegations(delegations)?)),
+        Ok(parent) => {
+            let delegations = bare_delegations(parent)?;
+            Ok(KeyHolder::Delegations(delegations))
+        }
         Err(error) => Err(missing(name, error)),
     }
 }
@@ -101,9 +105,11 @@ fn editor_below(alloc: Global, targets: &Targets, role: &str) -> Result<TargetEd
         Ok(document) => document,
         Err(error) => return Err(missing(name, error)),
     };
-    let holder = KeyHolder::Delegations(bare_delegations(parent)?);
-    let document = document.signed.targets.clone()?;
-    Ok(TargetEdits::from_targets(alloc, role, document, holder)?)
+    let delegations = bare_delegations(parent)?;
+    let below = document.signed.targets.clone()?;
+    let holder = KeyHolder::Delegations(delegations);
+    let editor = TargetEdits::from_targets(alloc, role, below, holder)?;
+    Ok(editor)
 }
 
 impl RepositoryEdits {

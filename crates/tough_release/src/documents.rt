@@ -204,7 +204,8 @@ pub(crate) fn sign_both<S: Sign>(
         (by_root (root_doc root.now)) signers.now (heading_doc first) (heading_doc second)
         (snapshot_metas filed.now.targets filed.now.delegated.items)) }
 {
-    let holder = KeyHolder::Root(root.clone()?);
+    let root = root.clone()?;
+    let holder = KeyHolder::Root(root);
     let snapshot = match sign_snapshot(alloc, &holder, first, filed, signers) {
         Ok(snapshot) => snapshot,
         Err(error) => return Err(error),

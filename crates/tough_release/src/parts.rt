@@ -33,7 +33,8 @@ pub(crate) fn top_editor(
         ≡ opened top_name (Some (by_root (root_doc root.now))) (tree_doc targets.now)) }
 {
     let targets = targets.clone()?;
-    let holder = KeyHolder::Root(root.clone()?);
+    let root = root.clone()?;
+    let holder = KeyHolder::Root(root);
     TargetEdits::from_targets(alloc, "targets", targets, holder)
 }
 

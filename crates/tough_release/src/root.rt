@@ -48,7 +48,8 @@ fn new_editor(alloc: Global, root: &Root) -> Result<TargetEdits, AllocError>
         NonZeroU64::MIN,
         jiff::Timestamp::UNIX_EPOCH,
     );
-    let holder = KeyHolder::Root(root.clone()?);
+    let root = root.clone()?;
+    let holder = KeyHolder::Root(root);
     TargetEdits::from_targets(alloc, "targets", targets, holder)
 }
 
