@@ -1,5 +1,2 @@
 pub mod Beginning
-pub mod Standings
 pub mod Sets
-pub mod Closings
-pub mod Makings
