@@ -1,6 +1,7 @@
 -- The documents of roles by themselves, one after another.
-use Rattle.std.proofs.Common.{◌≡◌, ℕ, ◌+◌, ◌<◌, List, [], ◌∷◌, ◌++◌, map, take, length, get_or, Bor, Some, None, ap, sym, subst, ◌∙◌}
-use Rattle.std.proofs.lemmas.List.{take_more, map-append}
+use Rattle.std.proofs.Common.{◌≡◌, ℕ, ◌+◌, ◌<◌, ◌≤◌, List, [], ◌∷◌, ◌++◌, map, take, length, get_or, Bor, Some, None, ◌⊎◌, inl, inr, ap, sym, subst, ◌∙◌}
+use Rattle.std.proofs.lemmas.List.{take_more, take_all, map-append, length-map, get_or-map}
+use Rattle.std.specs.List.{Any}
 use Rattle.tough_schema.specs.Gather.{shown}
 use Rattle.tough_schema.specs.Tree.{Entry}
 use Rattle.tough_schema.specs.Whole.{RoleTree, HeldDoc, role_tree}
@@ -8,7 +9,9 @@ use Rattle.tough_schema.specs.declared.delegations.DelegatedRole.{DelegatedRole}
 use Rattle.tough_schema.specs.declared.targets.DelegatedTargets.{DelegatedTargets}
 use Rattle.tough_signed.specs.Standing.{IsStanding, AreStanding}
 use Rattle.tough_signed.specs.declared.signed_role.SignedRole.{SignedRole}
-use Rattle.tough_release.specs.Files.{IsPutAfter}
+use Rattle.tough_signed.specs.declared.error.EditError.{EditError}
+use Rattle.tough_signed.specs.declared.error.EditError.TheVariants as errors
+use Rattle.tough_release.specs.Files.{IsPutAfter, IsUnfiledOf, SomeUnfiled}
 
 abbrev Standings : Type 0
 Standings = List (SignedRole DelegatedTargets)
@@ -36,3 +39,18 @@ put_step ps i r ss new lt is h k =
     let more : shown (take (i + 1) ps) ≡ shown (take i ps) ++ role_tree r.now ∷ [] =
     ap shown (take_more ps i r lt ∙ ap (λ (y : Bor DelegatedRole). take i ps ++ y ∷ []) (sym is)) ∙ map-append (λ (x : Bor DelegatedRole). role_tree x.now) (take i ps) (r ∷ []) in
     subst (λ l. AreStanding l new) (sym more) (put_more (shown (take i ps)) ss new (role_tree r.now) h k)
+
+pub all_put : (ps : List (Bor DelegatedRole)) (i : ℕ) (rs : List RoleTree) (ss : Standings) → length ps ≤ i → shown ps ≡ rs → AreStanding (shown (take i ps)) ss → AreStanding rs ss
+all_put ps i rs ss end same h = subst (λ (l : List RoleTree). AreStanding l ss) same (subst (λ (l : List (Bor DelegatedRole)). AreStanding (shown l) ss) (take_all i ps end) h)
+
+pub unfiled_at : (ps : List (Bor DelegatedRole)) (i : ℕ) (r : Bor DelegatedRole) (rs : List RoleTree) (e : EditError) → i < length ps → r ≡ get_or ps i r → shown ps ≡ rs → (e ≡ errors.Memory) ⊎ IsUnfiledOf (role_tree r.now) e → SomeUnfiled rs e
+unfiled_at ps i r rs e lt is same (inl m) = inl m
+unfiled_at ps i r rs e lt is same (inr h) =
+    let f : Bor DelegatedRole → RoleTree = λ x. role_tree x.now in
+    inr (subst (λ (l : List RoleTree). Any (λ x. IsUnfiledOf x e) l) same (
+      i,
+      role_tree r.now,
+      subst (λ (n : ℕ). i < n) (sym (length-map ps f)) lt,
+      get_or-map f ps i r (role_tree r.now) lt ∙ ap f (sym is),
+      h,
+    ))

@@ -84,6 +84,18 @@ module _ {S : Type 0} (key_of : S → KeyDoc) where
   abbrev pub IsClosed : (S → List ℕ → List ℕ → Type 0) → List S → ReleaseDoc → ReleaseDoc → Type 0
   IsClosed signs signers e after = ((e.editor ≡ None) × (after ≡ e)) ⊎ ((editor : EditsDoc) × (e.editor ≡ Some editor) × IsPutIn signs signers editor e after)
 
+  -- The editor's document is created for who holds the keys of its role.
+  pub record IsCreatedIn (signs : S → List ℕ → List ℕ → Type 0) (signers : List S) (editor : EditsDoc) (root : RootDoc) (targets : Option (SignedDoc TreeDoc)) (d : Signed DelegatedTargets) : Type 0 where
+    pub holder : HolderDoc
+    pub held : holder_in root targets editor.name ≡ Some holder
+    pub created : IsCreatedFor key_of signs editor holder signers d
+
+  -- Nobody holds those keys, or the editor creates no document for who does; or memory was wanting.
+  abbrev pub IsUncreatedIn : (S → List ℕ → Type 0) → List S → EditsDoc → RootDoc → Option (SignedDoc TreeDoc) → EditError → Type 0
+  IsUncreatedIn fails signers editor root targets error =
+      (error ≡ errors.Memory)
+      ⊎ (IsUnheldIn editor.name targets error ⊎ ((holder : HolderDoc) × (holder_in root targets editor.name ≡ Some holder) × IsUncreatedFor key_of fails editor holder signers error))
+
   -- What the editor creates has no place.
   pub record IsUnput (signs : S → List ℕ → List ℕ → Type 0) (signers : List S) (editor : EditsDoc) (holder : HolderDoc) (e : ReleaseDoc) (error : EditError) : Type 0 where
     pub document : Signed DelegatedTargets

@@ -1,15 +1,17 @@
 //! The open editor is signed and closed, and one over another document is opened.
 
-ghost use Rattle.std.specs.Prelude.{◌≡◌, ◌⊎◌, Some, IfOk, IfErr, OnOk, OnErr, option_map};
+ghost use Rattle.std.specs.Prelude.{◌≡◌, ◌⊎◌, false, Some, IfOk, IfErr, OnOk, OnErr, IsTrue, option_map};
 ghost use Rattle.tough_roles.specs.Root.{root_doc};
 ghost use Rattle.tough_roles.specs.Signature.{signed_doc};
+ghost use Rattle.tough_schema.specs.Put.{is_role};
+ghost use Rattle.tough_schema.specs.Seek.{sought, IsUnsought};
 ghost use Rattle.tough_schema.specs.Whole.{tree_doc, held_doc};
 ghost use Rattle.tough_signed.specs.Holders.{holder_doc};
 ghost use Rattle.tough_signed.specs.declared.error.EditError.TheVariants as errors;
 ghost use Rattle.tough_edit.specs.Edits.{edits_doc};
 ghost use Rattle.tough_release.specs.Edits.{release_doc};
-ghost use Rattle.tough_release.specs.Holding.{holder_in};
-ghost use Rattle.tough_release.specs.Closing.{missing, Places, IsUnplaced, IsReplaced, IsClosed, IsUnclosed, IsUnheldIn, IsEditorBelow, IsLost, IsMissing, IsChanged, IsUnchangeable};
+ghost use Rattle.tough_release.specs.Holding.{holder_in, is_top};
+ghost use Rattle.tough_release.specs.Closing.{missing, with_role_document, Places, IsUnplaced, IsReplaced, IsClosed, IsUnclosed, IsUnheldIn, IsCreatedIn, IsUncreatedIn, IsEditorBelow, IsEditorOf, IsLost, IsMissing, IsChanged, IsUnchangeable};
 
 use crate::edits::RepositoryEdits;
 use crate::parts::top_editor;
@@ -28,6 +30,32 @@ fn missing(name: String, error: Error) -> EditError
     match error {
         Error::Memory => EditError::Memory,
         source => EditError::DelegateMissing { name, source },
+    }
+}
+
+// The document becomes that of the role of its name.
+fn place_below(
+    alloc: Global,
+    targets: &mut Signed<Targets>,
+    document: Signed<DelegatedTargets>,
+) -> Result<(), EditError>
+    ensures placed { OnOk result (signed_doc tree_doc targets.new
+        ≡ with_role_document (held_doc document) (signed_doc tree_doc targets.old)) }
+    ensures there { OnOk result
+        (IsTrue (is_role (sought (held_doc document).name (tree_doc targets.old.signed)))) }
+    ensures refused { IfErr result (IsMissing (held_doc document).name
+        (IsUnsought (held_doc document).name
+        (sought (held_doc document).name (tree_doc targets.old.signed)))) }
+    ensures unchanged { OnErr result (signed_doc tree_doc targets.new
+        ≡ signed_doc tree_doc targets.old) }
+{
+    let name = document.signed.name.clone()?;
+    match targets
+        .signed
+        .put_document(alloc, name.as_str(), document)
+    {
+        Ok(()) => Ok(()),
+        Err(error) => Err(missing(name, error)),
     }
 }
 
@@ -53,11 +81,7 @@ fn place(
     let Some(signed) = targets else {
         return Err(EditError::NoTargets);
     };
-    let name = document.signed.name.clone()?;
-    match signed.signed.put_document(alloc, name.as_str(), document) {
-        Ok(()) => Ok(()),
-        Err(error) => Err(missing(name, error)),
-    }
+    place_below(alloc, signed, document)
 }
 
 // Who holds the keys of the role: the root those of the top-level targets, the delegations in which the role stands those of another.
@@ -112,6 +136,46 @@ fn editor_below(alloc: Global, targets: &Targets, role: &str) -> Result<TargetEd
     Ok(editor)
 }
 
+// An editor over the role's document; of the role `targets`, over the targets, which the root's keys sign.
+fn editor_of(
+    alloc: Global,
+    root: &Root,
+    targets: &Targets,
+    role: &str,
+) -> Result<TargetEdits, EditError>
+    ensures opened { IfOk result (λ e.
+        IsEditorOf role.now (root_doc root.now) (tree_doc targets.now) (edits_doc e)) }
+    ensures refused { IfErr result (λ e. (e ≡ errors.Memory) ⊎ ((is_top role.now ≡ false)
+        × IsMissing role.now (IsLost role.now (tree_doc targets.now)) e)) }
+{
+    if role == "targets" {
+        let editor = top_editor(alloc, root, targets)?;
+        return Ok(editor);
+    }
+    editor_below(alloc, targets, role)
+}
+
+// What the editor makes, signed for who holds the keys of its role.
+fn create_in<S: Sign>(
+    alloc: Global,
+    root: &Root,
+    targets: &Option<Signed<Targets>>,
+    editor: &TargetEdits,
+    signers: &[S],
+) -> Result<Signed<DelegatedTargets>, EditError>
+    ensures created { IfOk result (IsCreatedIn S.key S.signs signers.now (edits_doc editor.now)
+        (root_doc root.now) (option_map (signed_doc tree_doc) targets.now)) }
+    ensures refused { IfErr result (IsUncreatedIn S.key S.fails signers.now
+        (edits_doc editor.now) (root_doc root.now)
+        (option_map (signed_doc tree_doc) targets.now)) }
+{
+    let holder = match holder_in(alloc, root, targets, editor.name()) {
+        Ok(holder) => holder,
+        Err(error) => return Err(error),
+    };
+    editor.create_signed_for(alloc, &holder, signers)
+}
+
 impl RepositoryEdits {
     /// Signs what the open editor makes, if one is open, for who holds the keys of its role, and closes it. The document becomes the signed targets,
     /// or that of the role of the editor's name (TUF specification 1.0, section 4.5). The refusals, in this order: for a delegated role `NoTargets`
@@ -131,11 +195,17 @@ impl RepositoryEdits {
             return Ok(());
         };
         let root = &self.root.signed().signed;
-        let holder = holder_in(alloc, root, &self.targets, editor.name())?;
-        let document = editor.create_signed_for(alloc, &holder, signers)?;
-        place(alloc, &mut self.targets, document)?;
-        drop(mem::replace(&mut self.editor, None));
-        Ok(())
+        let document = match create_in(alloc, root, &self.targets, editor, signers) {
+            Ok(document) => document,
+            Err(error) => return Err(error),
+        };
+        match place(alloc, &mut self.targets, document) {
+            Ok(()) => {
+                drop(mem::replace(&mut self.editor, None));
+                Ok(())
+            }
+            Err(error) => Err(error),
+        }
     }
 
     /// Puts the document in the place of the signed targets, or of that of the role of its name, and closes the open editor, if any. The refusals, in
@@ -151,9 +221,13 @@ impl RepositoryEdits {
             ⊎ IsUnplaced (held_doc document) (release_doc self.old).targets e) }
         ensures unchanged { OnErr result (release_doc self.new ≡ release_doc self.old) }
     {
-        place(alloc, &mut self.targets, document)?;
-        drop(mem::replace(&mut self.editor, None));
-        Ok(())
+        match place(alloc, &mut self.targets, document) {
+            Ok(()) => {
+                drop(mem::replace(&mut self.editor, None));
+                Ok(())
+            }
+            Err(error) => Err(error),
+        }
     }
 
     /// Opens an editor over the role's document, which the keys of the delegations sign in which the role stands; of the role `targets`, over the
@@ -171,12 +245,12 @@ impl RepositoryEdits {
         let Some(targets) = &self.targets else {
             return Err(EditError::NoTargets);
         };
-        let editor = if role == "targets" {
-            top_editor(alloc, &self.root.signed().signed, &targets.signed)?
-        } else {
-            editor_below(alloc, &targets.signed, role)?
-        };
-        self.editor = Some(editor);
-        Ok(())
+        match editor_of(alloc, &self.root.signed().signed, &targets.signed, role) {
+            Ok(editor) => {
+                drop(mem::replace(&mut self.editor, Some(editor)));
+                Ok(())
+            }
+            Err(error) => Err(error),
+        }
     }
 }

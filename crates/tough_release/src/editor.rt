@@ -202,7 +202,8 @@ impl RepositoryEdits {
         ensures unchanged { OnErr result (release_doc self.new ≡ release_doc self.old) }
     {
         let document = new_document(alloc, name, signers, expires, version)?;
-        let SignersKeys { keyids, keys } = signers_keys(alloc, signers)?;
+        let told = signers_keys(alloc, signers)?;
+        let SignersKeys { keyids, keys } = told;
         self.delegate_document(document, paths, terminating, keys, keyids, threshold)
     }
 }

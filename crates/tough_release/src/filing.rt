@@ -53,7 +53,10 @@ fn file_delegated(
     let entries = targets.entries(alloc)?;
     let mut all = Vec::new(alloc);
     for role in &entries {
-        put_standing(alloc, role, &mut all)?;
+        match put_standing(alloc, role, &mut all) {
+            Ok(()) => {}
+            Err(error) => return Err(error),
+        }
     }
     Ok(all)
 }
