@@ -115,22 +115,9 @@ module _ {S : Type 0} (key_of : S → KeyDoc) (signs : S → List ℕ → List �
     inr (record { holder = h.0; held = subst (λ (d : RootDoc). holder_in d e.targets editor.name ≡ Some h.0) same h.1; refused = inl h.2 }),
   )
 
-  pub unclosed_put : (e : ReleaseDoc) (root : RootDoc) (editor : EditsDoc) (d : Signed DelegatedTargets) (error : EditError) → root ≡ e.root.role → e.editor ≡ Some editor → IsCreatedIn key_of signs signers editor root e.targets d
-      → (error ≡ errors.Memory) ⊎ IsUnplaced (held_doc d) e.targets error → IsUnclosed key_of signs fails signers e error
-  unclosed_put e root editor d error same there made (inl m) = inl m
-  unclosed_put e root editor d error same there made (inr h) = inr (
-    editor,
-    there,
-    inr (record {
-      holder = made.holder;
-      held = subst (λ (x : RootDoc). holder_in x e.targets editor.name ≡ Some made.holder) same made.held;
-      refused = inr (record { document = d; created = made.created; unplaced = h });
-    }),
-  )
-
-  pub closes : (e : ReleaseDoc) (root : RootDoc) (editor : EditsDoc) (new : Option (SignedDoc TreeDoc)) (d : Signed DelegatedTargets) → root ≡ e.root.role → e.editor ≡ Some editor → IsCreatedIn key_of signs signers editor root e.targets d
-      → Places (held_doc d) e.targets new → IsClosed key_of signs signers e (record e { targets = new; editor = None })
-  closes e root editor new d same there made placed = inr (
+  pub closed_by : (e after : ReleaseDoc) (root : RootDoc) (editor : EditsDoc) (d : Signed DelegatedTargets) (r : Result (Unit {0}) EditError) → root ≡ e.root.role → e.editor ≡ Some editor → IsCreatedIn key_of signs signers editor root e.targets d
+      → OnOk r (IsReplaced (held_doc d) e after) → OnOk r (IsClosed key_of signs signers e after)
+  closed_by e after root editor d (Ok u) same there made h = inr (
     editor,
     there,
     record {
@@ -138,10 +125,25 @@ module _ {S : Type 0} (key_of : S → KeyDoc) (signs : S → List ℕ → List �
       held = subst (λ (x : RootDoc). holder_in x e.targets editor.name ≡ Some made.holder) same made.held;
       document = d;
       created = made.created;
-      targets = placed.0;
-      placed = placed.2;
-      closed = ap (λ (t : Option (SignedDoc TreeDoc)). let x : ReleaseDoc = record e { targets = t; editor = None } in x) placed.1;
+      targets = h.targets;
+      placed = h.placed;
+      closed = h.closed;
     },
+  )
+  closed_by e after root editor d (Err error) same there made h = h
+
+  pub unclosed_by : (e : ReleaseDoc) (root : RootDoc) (editor : EditsDoc) (d : Signed DelegatedTargets) (r : Result (Unit {0}) EditError) → root ≡ e.root.role → e.editor ≡ Some editor → IsCreatedIn key_of signs signers editor root e.targets d
+      → IfErr r (λ x. (x ≡ errors.Memory) ⊎ IsUnplaced (held_doc d) e.targets x) → IfErr r (IsUnclosed key_of signs fails signers e)
+  unclosed_by e root editor d (Ok u) same there made h = h
+  unclosed_by e root editor d (Err error) same there made (inl m) = inl m
+  unclosed_by e root editor d (Err error) same there made (inr h) = inr (
+    editor,
+    there,
+    inr (record {
+      holder = made.holder;
+      held = subst (λ (x : RootDoc). holder_in x e.targets editor.name ≡ Some made.holder) same made.held;
+      refused = inr (record { document = d; created = made.created; unplaced = h });
+    }),
   )
 
 -- ---- an editor over another document

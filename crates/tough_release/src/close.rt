@@ -199,13 +199,7 @@ impl RepositoryEdits {
             Ok(document) => document,
             Err(error) => return Err(error),
         };
-        match place(alloc, &mut self.targets, document) {
-            Ok(()) => {
-                drop(mem::replace(&mut self.editor, None));
-                Ok(())
-            }
-            Err(error) => Err(error),
-        }
+        self.replace_targets(alloc, document)
     }
 
     /// Puts the document in the place of the signed targets, or of that of the role of its name, and closes the open editor, if any. The refusals, in

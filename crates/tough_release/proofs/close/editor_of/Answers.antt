@@ -5,5 +5,5 @@ use Rattle.tough_edit.specs.Edits.{edits_doc}
 use Rattle.tough_release.proofs.Closings.{over_top}
 use Rattle.tough_release.proofs.close.editor_of.Goals as goal
 
-pub returns-in_ok-editor-clause-opened : goal.returns-in_ok-editor-clause-opened
-returns-in_ok-editor-clause-opened c = over_top c.args.role.now (root_doc c.args.root.now) (tree_doc c.args.targets.now) (edits_doc c.in_ok-editor.editor) (sym c.eq.ensures ∙ c.if-eq.true) c.in_ok-editor.ensures
+pub returns-then-eq-clause-opened : goal.returns-then-eq-clause-opened
+returns-then-eq-clause-opened c = over_top c.args.role.now (root_doc c.args.root.now) (tree_doc c.args.targets.now) (edits_doc c.in_ok-editor.editor) (sym c.eq.ensures ∙ c.if-eq.true) c.in_ok-editor.ensures
