@@ -1,11 +1,11 @@
 -- An editor over targets that list nothing.
-use Rattle.std.proofs.Common.{◌≡◌, ℕ, List, [], ◌∷◌, Option, Some, None, option_map, Result, Ok, Err, IfOk, refl, ap, ap₂, sym, ◌∙◌}
-use Rattle.serde_json.specs.Data.{Members, no_members}
+use Rattle.std.proofs.Common.{◌≡◌, ℕ, List, [], Option, Some, None, option_map, Result, Ok, Err, IfOk, refl, ap, ap₂, sym, ◌∙◌}
+use Rattle.serde_json.specs.Data.{Members}
 use Rattle.tough_roles.specs.Head.{Head}
 use Rattle.tough_schema.specs.Delegations.{DelegationsDoc, no_delegations}
 use Rattle.tough_roles.specs.Root.{RootDoc}
 use Rattle.tough_schema.specs.Targets.{TargetsDoc, targets_doc, bare_targets}
-use Rattle.tough_schema.specs.Tree.{Listing, Entry}
+use Rattle.tough_schema.specs.Tree.{Listing}
 use Rattle.tough_schema.specs.Whole.{TreeDoc, tree, Branches, no_branches, unloaded, loaded, RoleTree, tree_doc, top_doc, entries_in}
 use Rattle.tough_schema.specs.declared.targets.Targets.{Targets}
 use Rattle.tough_schema.proofs.lemmas.Wholes.{top-tells}

@@ -1,5 +1,5 @@
 -- A document takes its place, and an editor is opened over another.
-use Rattle.std.proofs.Common.{◌≡◌, ℕ, List, Bool, true, false, Option, Some, None, option_map, option_and_then, is_some, Result, Ok, Err, IfOk, IfErr, OnOk, IsTrue, ◌⊎◌, inl, inr, refl, ap, ap₂, sym, subst, ◌∙◌, String, string_bytes, if◌then◌else◌}
+use Rattle.std.proofs.Common.{◌≡◌, ℕ, List, true, false, Option, Some, None, option_map, is_some, Result, Ok, Err, IfOk, IfErr, OnOk, IsTrue, ◌⊎◌, inl, inr, refl, ap, ap₂, sym, subst, ◌∙◌, String, string_bytes, if◌then◌else◌}
 use Rattle.std.proofs.lemmas.Slice.Eq.{bytes_eq-Decides}
 use Rattle.std.specs.declared.alloc.Global.{Global}
 use Rattle.tough_roles.specs.Root.{RootDoc}
@@ -8,9 +8,9 @@ use Rattle.tough_roles.specs.declared.error.Error.{Error}
 use Rattle.tough_roles.specs.declared.error.Error.TheVariants as faults
 use Rattle.tough_roles.specs.declared.signed.Signed.{Signed}
 use Rattle.tough_schema.specs.Delegations.{DelegationsDoc, delegations_doc}
-use Rattle.tough_schema.specs.Put.{is_role, with_document}
+use Rattle.tough_schema.specs.Put.{is_role}
 use Rattle.tough_schema.specs.Seek.{parent, sought}
-use Rattle.tough_schema.specs.Whole.{TreeDoc, NamedTree, DelegationsTree, HeldDoc, held_doc, tree_doc, delegations_tree, entries_in}
+use Rattle.tough_schema.specs.Whole.{TreeDoc, NamedTree, DelegationsTree, HeldDoc, held_doc, tree_doc, delegations_tree}
 use Rattle.tough_schema.specs.declared.delegations.Delegations.{Delegations}
 use Rattle.tough_schema.specs.declared.targets.DelegatedTargets.{DelegatedTargets, out-DelegatedTargets}
 use Rattle.tough_schema.specs.declared.targets.Targets.{Targets}

@@ -1,5 +1,5 @@
 -- A document that delegates.
-use Rattle.std.proofs.Common.{◌≡◌, ℕ, List, [], map, Some, Result, Ok, Err, OnOk, IfErr, IsTrue, is_some, inl, inr, ap, ◌∙◌}
+use Rattle.std.proofs.Common.{◌≡◌, ℕ, List, [], map, Some, Result, Ok, Err, OnOk, IfErr, IsTrue, is_some, inr, ap, ◌∙◌}
 use Rattle.tough_signed.specs.declared.error.EditError.{EditError}
 use Rattle.tough_decoded.specs.Spelled.{Spelled}
 use Rattle.tough_keys.specs.Key.{KeyDoc}

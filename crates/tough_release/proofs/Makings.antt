@@ -1,6 +1,5 @@
 -- Documents that are signed, with their files.
-use Rattle.std.proofs.Common.{◌≡◌, ℕ, List, Bool, Option, Some, Result, Ok, Err, IfOk, IfErr, ◌⊎◌, inl, inr, ap, ap₂, sym, subst, ◌∙◌}
-use Rattle.serde_json.specs.Data.{Data}
+use Rattle.std.proofs.Common.{◌≡◌, ℕ, List, Some, Result, Ok, Err, IfOk, IfErr, ◌⊎◌, inr, ap, ap₂, sym, subst, ◌∙◌}
 use Rattle.serde_json.specs.Read.{max_depth}
 use Rattle.tough_keys.specs.Key.{KeyDoc}
 use Rattle.tough_roles.specs.Document.{document_json}
@@ -95,11 +94,11 @@ module _ {S : Type 0} (key_of : S → KeyDoc) (signs : S → List ℕ → List �
     files = subst (λ (l : List (SignedRole DelegatedTargets)). AreFiled s (targets_of r) l) (sym p_ds) (subst (λ (x : SignedRole Targets). AreFiled s x ds) (sym p_t) filed);
     consistent = p_same ∙ ap (λ (d : RootDoc). d.consistent_snapshot) same;
     snapshot = subst (λ (x : SignedRole Snapshot). IsSnapshotBy key_of signs (by_root e.root.role) signers e.snapshot (snapshot_metas (targets_of r) (roles_of (delegated_of r))) x) (sym p_one)
-    (subst (λ (m : Metas). IsSnapshotBy key_of signs (by_root e.root.role) signers e.snapshot m first) (ap₂ (λ (x : SignedRole Targets) (l : List (SignedRole DelegatedTargets)). snapshot_metas x l) (sym p_t) (sym p_ds))
-    (subst (λ (d : RootDoc). IsSnapshotBy key_of signs (by_root d) signers e.snapshot (snapshot_metas t ds) first) same one));
+        (subst (λ (m : Metas). IsSnapshotBy key_of signs (by_root e.root.role) signers e.snapshot m first) (ap₂ (λ (x : SignedRole Targets) (l : List (SignedRole DelegatedTargets)). snapshot_metas x l) (sym p_t) (sym p_ds))
+        (subst (λ (d : RootDoc). IsSnapshotBy key_of signs (by_root d) signers e.snapshot (snapshot_metas t ds) first) same one));
     timestamp = subst (λ (x : SignedRole Timestamp). IsTimestampBy key_of signs (by_root e.root.role) signers e.timestamp (timestamp_metas (snapshot_of r)) x) (sym p_two)
-    (subst (λ (x : SignedRole Snapshot). IsTimestampBy key_of signs (by_root e.root.role) signers e.timestamp (timestamp_metas x) second) (sym p_one)
-    (subst (λ (d : RootDoc). IsTimestampBy key_of signs (by_root d) signers e.timestamp (timestamp_metas first) second) same two));
+        (subst (λ (x : SignedRole Snapshot). IsTimestampBy key_of signs (by_root e.root.role) signers e.timestamp (timestamp_metas x) second) (sym p_one)
+        (subst (λ (d : RootDoc). IsTimestampBy key_of signs (by_root d) signers e.timestamp (timestamp_metas first) second) same two));
     valid = valid;
   }
 

@@ -1,6 +1,6 @@
 -- The open editor of a repository's targets is signed and closed, and one over another document is opened (TUF specification 1.0, sections 4.2
 -- and 4.5).
-use Rattle.std.specs.Prelude.{◌≡◌, ⊤, ℕ, List, Bool, true, false, is_some, Option, Some, None, ◌⊎◌, String, string_bytes}
+use Rattle.std.specs.Prelude.{◌≡◌, ⊤, ℕ, List, true, false, is_some, Option, Some, None, ◌⊎◌, String, string_bytes}
 use Rattle.std.specs.declared.alloc.Global.{Global}
 use Rattle.tough_keys.specs.Key.{KeyDoc}
 use Rattle.tough_roles.specs.Root.{RootDoc}

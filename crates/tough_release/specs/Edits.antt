@@ -1,5 +1,5 @@
 -- An editor of a repository (TUF specification 1.0, sections 4.3 to 4.6), and the calls that set its parts.
-use Rattle.std.specs.Prelude.{◌≡◌, ℕ, ℤ, List, Bool, false, Option, Some, None, option_map, codes, string_bytes}
+use Rattle.std.specs.Prelude.{◌≡◌, ℕ, ℤ, List, false, Option, Some, None, option_map, codes, string_bytes}
 use Rattle.std.specs.Int.NonZero.{non_zero_u64_get}
 use Rattle.std.specs.Str.{bytes_eq}
 use Rattle.serde_json.specs.Data.{Members, no_members}
@@ -7,7 +7,7 @@ use Rattle.serde_json.specs.View.{members_view}
 use Rattle.tough_roles.specs.Root.{RootDoc, root_doc}
 use Rattle.tough_roles.specs.Signature.{SignedDoc, signed_doc}
 use Rattle.tough_schema.specs.Whole.{TreeDoc, tree_doc}
-use Rattle.tough_signed.specs.Holders.{HolderDoc, by_root}
+use Rattle.tough_signed.specs.Holders.{by_root}
 use Rattle.tough_signed.specs.Roles.{signed_of, buffer_of}
 use Rattle.tough_signed.specs.declared.error.EditError.{EditError}
 use Rattle.tough_signed.specs.declared.error.EditError.TheVariants as errors

@@ -3,7 +3,7 @@ use Rattle.std.specs.Prelude.{◌≡◌, ⊤, ℕ, List, Option, Some, None, ◌
 use Rattle.serde_json.specs.Data.{Data}
 use Rattle.tough_keys.specs.Key.{KeyDoc}
 use Rattle.tough_roles.specs.RoleId.{standard}
-use Rattle.tough_roles.specs.Root.{RootDoc, root_doc}
+use Rattle.tough_roles.specs.Root.{root_doc}
 use Rattle.tough_roles.specs.Signature.{SignedDoc, signed_doc}
 use Rattle.tough_roles.specs.Snapshot.{snapshot_doc, snapshot_at, snapshot_json}
 use Rattle.tough_roles.specs.Timestamp.{timestamp_doc, timestamp_at, timestamp_json}

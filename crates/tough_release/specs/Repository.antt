@@ -1,5 +1,4 @@
 -- A signed repository (TUF specification 1.0, section 4.1).
-use Rattle.std.specs.Prelude.{List}
 use Rattle.tough_roles.specs.declared.root.Root.{Root}
 use Rattle.tough_roles.specs.declared.snapshot.Snapshot.{Snapshot}
 use Rattle.tough_roles.specs.declared.timestamp.Timestamp.{Timestamp}

@@ -50,10 +50,7 @@ fn place_below(
         ≡ signed_doc tree_doc targets.old) }
 {
     let name = document.signed.name.clone()?;
-    match targets
-        .signed
-        .put_document(alloc, name.as_str(), document)
-    {
+    match targets.signed.put_document(alloc, name.as_str(), document) {
         Ok(()) => Ok(()),
         Err(error) => Err(missing(name, error)),
     }

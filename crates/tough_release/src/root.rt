@@ -87,10 +87,12 @@ impl RepositoryEdits {
         ensures root { signed_doc root_doc (signed_of result.now)
             ≡ (release_doc self.now).root }
         ensures file { buffer_of result.now ≡ (release_doc self.now).root_file }
-        ensures read { root_in (buffer_of result.now) ≡ Some (signed_doc root_doc (signed_of result.now)) }
+        ensures read { root_in (buffer_of result.now)
+            ≡ Some (signed_doc root_doc (signed_of result.now)) }
     {
         &self.root
     }
+
     /// The signed targets, with the documents of the roles below them.
     pub fn signed_targets(&self) -> Option<&Signed<Targets>>
         ensures { option_map (λ s. signed_doc tree_doc s.now) result

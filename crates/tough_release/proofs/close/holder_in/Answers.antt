@@ -5,7 +5,7 @@ use Rattle.tough_roles.specs.declared.signed.Signed.{Signed}
 use Rattle.tough_schema.specs.Delegations.{delegations_doc}
 use Rattle.tough_schema.specs.Whole.{tree_doc}
 use Rattle.tough_schema.specs.declared.targets.Targets.{Targets}
-use Rattle.tough_signed.specs.Holders.{holder_doc, by_delegations}
+use Rattle.tough_signed.specs.Holders.{by_delegations}
 use Rattle.tough_release.specs.Holding.{holder_in}
 use Rattle.tough_release.proofs.Closings.{held_below}
 use Rattle.tough_release.proofs.close.holder_in.Goals as goal

@@ -1,5 +1,5 @@
 use Rattle.std.proofs.Common.{inl, inr, subst}
-use Rattle.tough_roles.specs.Root.{RootDoc, root_doc}
+use Rattle.tough_roles.specs.Root.{RootDoc}
 use Rattle.tough_signed.specs.Holders.{by_root}
 use Rattle.tough_release.specs.Documents.{snapshot_metas, timestamp_metas}
 use Rattle.tough_release.specs.Edits.{heading_doc}

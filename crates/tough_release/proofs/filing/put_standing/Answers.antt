@@ -1,6 +1,6 @@
-use Rattle.std.proofs.Common.{Some, option_map, sym, subst, ap, ◌∙◌}
+use Rattle.std.proofs.Common.{option_map, sym, subst, ap, ◌∙◌}
 use Rattle.tough_schema.specs.Delegations.{delegated_role_doc}
-use Rattle.tough_schema.specs.Whole.{RoleTree, role_tree, held_doc}
+use Rattle.tough_schema.specs.Whole.{RoleTree, held_doc}
 use Rattle.tough_schema.proofs.lemmas.Wholes.{role-out}
 use Rattle.tough_signed.specs.Standing.{IsStanding}
 use Rattle.tough_release.specs.Files.{IsPutAfter}

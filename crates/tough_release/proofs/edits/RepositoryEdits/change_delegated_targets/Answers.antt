@@ -1,4 +1,4 @@
-use Rattle.std.proofs.Common.{ap, option_map, sym, ◌∙◌}
+use Rattle.std.proofs.Common.{ap, option_map, sym}
 use Rattle.tough_roles.specs.Root.{root_doc}
 use Rattle.tough_roles.specs.Signature.{signed_doc}
 use Rattle.tough_roles.specs.declared.root.Root.{Root}

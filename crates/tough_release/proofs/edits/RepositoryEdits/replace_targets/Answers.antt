@@ -1,6 +1,6 @@
-use Rattle.std.proofs.Common.{ap, option_map, ◌∙◌}
-use Rattle.tough_roles.specs.Signature.{SignedDoc, signed_doc}
-use Rattle.tough_schema.specs.Whole.{TreeDoc, tree_doc, held_doc}
+use Rattle.std.proofs.Common.{ap, option_map}
+use Rattle.tough_roles.specs.Signature.{signed_doc}
+use Rattle.tough_schema.specs.Whole.{tree_doc, held_doc}
 use Rattle.tough_edit.specs.Edits.{edits_doc}
 use Rattle.tough_release.specs.Edits.{release_doc}
 use Rattle.tough_release.proofs.Closings.{replaced}
