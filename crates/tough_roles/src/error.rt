@@ -38,8 +38,9 @@ pub enum Error {
     DuplicateKeyId {
         keyid: String,
     },
-    /// Fewer identifiers than the threshold have signed.
-    #[error("Signature threshold of {threshold} not met for role {role} ({valid} valid signatures)")]
+    /// Fewer identifiers than the threshold have a signature that is valid over the role's canonical form: one over another spelling of the
+    /// same document doesn't count.
+    #[error("Signature threshold of {threshold} not met for role {role} ({valid} valid signatures over its canonical form)")]
     SignatureThreshold {
         role: RoleType,
         threshold: u64,

@@ -11,9 +11,10 @@ ghost use Rattle.tough_trust.specs.Vaults.{vault_keeps};
 ghost use Rattle.tough_trust.specs.View.{act_of, step_doc};
 
 use crate::act::Act;
+use crate::step::act_on;
 use std::alloc::Global;
 use tough_roles::Verify;
-use tough_vault::{DocumentName, Receipt, StepError, Store, Vault};
+use tough_vault::{Receipt, StepError, Store, Vault};
 
 /// Takes the steps of an update on a store (TUF specification 5). A lent vault is one.
 pub trait Keeper: Drop {
@@ -51,39 +52,7 @@ impl<S: Store> Keeper for &mut Vault<S> {
         act: &Act<'_>,
         verifier: &V,
     ) -> Result<Receipt, StepError> {
-        match act {
-            Act::NoteTime(now) => Vault::note_time(self, *now),
-            Act::PutRoot(root) => Vault::put_root(self, *root),
-            Act::ClearRotated => Vault::clear_rotated(self),
-            Act::AdvanceTimestamp {
-                root,
-                new,
-                start,
-                enforcement,
-            } => Vault::advance_timestamp(self, *root, *new, *start, *enforcement, verifier),
-            Act::AdvanceSnapshot {
-                root,
-                listed,
-                new,
-                start,
-                enforcement,
-            } => Vault::advance_snapshot(
-                self,
-                *root,
-                *listed,
-                *new,
-                *start,
-                *enforcement,
-                verifier,
-            ),
-            Act::PutDelegated { name, targets } => Vault::put_document(self, *name, *targets),
-            Act::PutTargets(targets) => {
-                let Ok(name) = DocumentName::targets(alloc) else {
-                    return Err(StepError::Memory);
-                };
-                Vault::put_document(self, &name, *targets)
-            }
-        }
+        act_on(self, alloc, act, verifier)
     }
 }
 

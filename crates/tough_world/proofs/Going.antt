@@ -32,7 +32,8 @@ use Rattle.tough_vault.proofs.Holding.{distinct}
 use Rattle.tough_vault.proofs.Journals.{some_inj, replay-append, rises-append, broken-append}
 use Rattle.tough_vault.proofs.Preparing.{or_none}
 use Rattle.tough_vault.proofs.Rising.{nothing_goes_back}
-use Rattle.tough_world.specs.Steps.{ReadsBack, IsProper, IsUnder, Taken, all_notes, AllUnder, AllProper, Takes, Trail, AddsNothing}
+use Rattle.tough_trust.specs.Vaults.{ReadsBack}
+use Rattle.tough_world.specs.Steps.{IsProper, IsUnder, Taken, all_notes, AllUnder, AllProper, Takes, Trail, AddsNothing}
 use Rattle.tough_world.proofs.Lists.{unbroken-front, uncleared-front, cleared-last, one-added, none-added}
 use Rattle.tough_world.proofs.Shallow.{timestamp-shallow, snapshot-shallow}
 

@@ -12,19 +12,11 @@ use Rattle.tough_checks.specs.Files.{time_file, timestamp_file, snapshot_file, I
 use Rattle.tough_checks.specs.StoredDocuments.{stored_time, stored_timestamp, stored_snapshot}
 use Rattle.tough_checks.specs.declared.checks.StepError.{StepError}
 use Rattle.tough_vault.specs.declared.entry.Receipt.{Receipt}
-use Rattle.tough_vault.specs.Act.{Act, NoteTime, AdvanceTimestamp, AdvanceSnapshot, PutDocument, Acts}
+use Rattle.tough_vault.specs.Act.{Act, AdvanceTimestamp, AdvanceSnapshot, PutDocument, Acts}
 use Rattle.tough_vault.specs.Journal.{Note, Last}
-use Rattle.tough_vault.specs.Parts.{TimestampReadsBack, SnapshotReadsBack}
 use Rattle.tough_vault.specs.Step.{Parts}
-use Rattle.tough_vault.specs.Steps.{time_text}
 use Rattle.tough_vault.specs.Stored.{Files}
-
--- what the step stores is read as what it was given, where that nests no deeper than is read
-abbrev pub ReadsBack : Act → Type 0
-ReadsBack (NoteTime now) = stored_time (time_text now) ≡ Some now
-ReadsBack (AdvanceTimestamp root t start enforced) = TimestampReadsBack t
-ReadsBack (AdvanceSnapshot root listed s start enforced) = SnapshotReadsBack s
-ReadsBack _ = ⊤
+use Rattle.tough_trust.specs.Vaults.{ReadsBack}
 
 -- Such steps updates ask for: a timestamp or snapshot was read from bytes, and no document has a name of the vault's own files.
 abbrev pub IsProper : Act → Type 0

@@ -19,7 +19,7 @@ use Rattle.tough_update.specs.Counts.{with_fetch, with_tree}
 use Rattle.tough_update.specs.Machine.{question}
 use Rattle.tough_update.specs.Promises.{Goes, fits_question}
 use Rattle.tough_update.specs.View.{core_doc, counts_of, last_file_of, answer_doc}
-use Rattle.tough_world.specs.Steps.{ReadsBack}
+use Rattle.tough_trust.specs.Vaults.{ReadsBack}
 use Rattle.tough_world.specs.declared.turns.Answer.{Answer}
 use Rattle.tough_world.specs.declared.turns.Answer.TheVariants as by
 use Rattle.tough_world.specs.declared.turns.Turn.{Turn}

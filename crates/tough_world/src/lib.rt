@@ -3,7 +3,6 @@
 
 pub mod laws;
 mod lives;
-mod steps;
 mod turns;
 mod world;
 

@@ -6,11 +6,10 @@ ghost use Rattle.tough_trust.specs.View.{act_of, step_doc};
 ghost use Rattle.tough_update.specs.View.{question_of};
 ghost use Rattle.tough_world.specs.Turns.{Steps, RepliesOr};
 
-use crate::steps::act_on;
 use jiff::Timestamp as Instant;
 use std::alloc::Global;
 use tough_roles::Verify;
-use tough_trust::{Act, Fault};
+use tough_trust::{Act, Fault, act_on};
 use tough_update::{Answer as Reply, Ask};
 use tough_vault::{StepError, Store, Vault};
 

@@ -1,18 +1,19 @@
-//! A step that an update asks for, put on a vault.
+//! A step that an update asks for, taken on a vault.
 
 ghost use Rattle.std.specs.Prelude.{◌≡◌, OnOk};
 ghost use Rattle.tough_vault.specs.Vault.{parts_of};
 ghost use Rattle.tough_vault.specs.Act.{Acts};
 ghost use Rattle.tough_trust.specs.View.{act_of};
-ghost use Rattle.tough_world.specs.Steps.{ReadsBack};
+ghost use Rattle.tough_trust.specs.Vaults.{ReadsBack};
 
+use crate::act::Act;
 use std::alloc::Global;
 use tough_roles::Verify;
-use tough_trust::Act;
 use tough_vault::{DocumentName, Receipt, StepError, Store, Vault};
 
-/// Takes the step on the vault.
-pub(crate) fn act_on<S: Store, V: Verify>(
+/// Takes the step on the vault. What a time, a timestamp or a snapshot is stored as is read as it was given, where that nests no deeper
+/// than is read.
+pub fn act_on<S: Store, V: Verify>(
     vault: &mut Vault<S>,
     alloc: Global,
     act: &Act<'_>,
