@@ -6,6 +6,7 @@
 //! doesn't know is refused. At the end it prints which calls had no case.
 #![tactic(auto)]
 
+mod editing;
 mod errors;
 mod exchange;
 mod fetch;
@@ -35,6 +36,7 @@ use trials_calls::table::{CALLS, fault_of, place_of};
 // What a call on updates or errors answers.
 fn of_updates(rt: &HostRuntime, call: &str, case: &Value) -> Result<String> {
     match call {
+        "TargetsEditor" => editing::play(rt, case),
         "load" => load::loads(rt, case),
         "update" => update::play(rt.alloc(), case),
         "update over files" => update::serve(rt.alloc(), case),
