@@ -6,7 +6,6 @@
 //! doesn't know is refused. At the end it prints which calls had no case.
 #![tactic(auto)]
 
-mod editing;
 mod errors;
 mod exchange;
 mod fetch;
@@ -32,11 +31,11 @@ use std::{env, fs};
 use trials_calls::case::text;
 use trials_calls::judge::misses;
 use trials_calls::table::{CALLS, fault_of, place_of};
+use trials_editor::{editing, publishing, putting};
 
 // What a call on updates or errors answers.
 fn of_updates(rt: &HostRuntime, call: &str, case: &Value) -> Result<String> {
     match call {
-        "TargetsEditor" => editing::play(rt, case),
         "load" => load::loads(rt, case),
         "update" => update::play(rt.alloc(), case),
         "update over files" => update::serve(rt.alloc(), case),
@@ -50,6 +49,17 @@ fn of_updates(rt: &HostRuntime, call: &str, case: &Value) -> Result<String> {
         "schema::Error" => errors::told_of_schema(rt.alloc(), case),
         _ => Err(anyhow!("no call {call}")),
     }
+}
+
+// What a call on editors, or on what they write, answers.
+fn of_editors(rt: &HostRuntime, call: &str, case: &Value) -> Result<Option<String>> {
+    Ok(match call {
+        "TargetsEditor" => Some(editing::play(rt, case)?),
+        "RepositoryEditor" => Some(publishing::play(rt, case)?),
+        "TargetFiles" => Some(putting::play(rt.alloc(), case)?),
+        "write_roles" => Some(putting::write(rt.alloc(), case)?),
+        _ => None,
+    })
 }
 
 // What the call of a case answers. The program waits by the second runtime.
@@ -72,6 +82,9 @@ where
         _ => {}
     }
     if let Some(told) = trials_calls::answer(rt, call, case)? {
+        return Ok(told);
+    }
+    if let Some(told) = of_editors(rt, call, case)? {
         return Ok(told);
     }
     of_updates(rt, call, case)

@@ -1,84 +1,25 @@
 //! What the calls of an editor of targets answer, one after another, and what it signs.
 
+use crate::given::{
+    Called, Keys, key, keys, outcome, paths, positive, signers, small_files, target,
+};
 use anyhow::{Result, anyhow};
 use bytes::Bytes;
 use serde_json::Value;
 use std::alloc::{AllocGlobal, Global};
-use std::collections::BTreeMap;
 use std::num::NonZeroU64;
 use std::random::RandomSource;
-use tough::editor::signed::SignedDelegatedTargets;
-use tough::editor::targets::TargetsEditor;
-use tough::schema::{
-    Decoded, DelegatedTargets, DemoSign, Hex, Key, PathPattern, PathSet, Role, Signed, Target,
-    Targets,
-};
-use tough::{Error, Files, Limits, MemoryFiles, MemoryTransport, TargetName, finish};
-use tough_demo::role_key;
-use trials_calls::case::{flag, list, number, text};
+use tough_client::finish;
+use tough_decoded::{Decoded, Hex};
+use tough_editor::TargetsEditor;
+use tough_files::MemoryFiles;
+use tough_names::TargetName;
+use tough_net::{Limits, MemoryTransport};
+use tough_schema::{DelegatedTargets, PathSet, Role, Signed, Target, Targets};
+use tough_signed::SignedDelegatedTargets;
+use trials_calls::case::{flag, list, text};
 
 type Editor = TargetsEditor<MemoryTransport>;
-
-type Keys = BTreeMap<Decoded<Hex>, Key>;
-
-// What a call on the editor answers, but for the editor.
-type Called = std::result::Result<(), Error>;
-
-// The signers by the keys of these names.
-fn signers(alloc: Global, names: &[Value]) -> Result<Vec<DemoSign>> {
-    let mut signers = Vec::new(alloc);
-    for name in names {
-        let key = role_key(alloc, name.as_str().unwrap_or(""))?;
-        signers.push(DemoSign { key })?;
-    }
-    Ok(signers)
-}
-
-// The key of a name, under its identifier.
-fn key(alloc: Global, name: &str) -> Result<(Decoded<Hex>, Key)> {
-    let key = role_key(alloc, name)?;
-    let digest = key.digest(alloc)?;
-    let keyid = Decoded::from_vec(alloc, Vec::from_slice(alloc, digest.as_slice())?)?;
-    Ok((keyid, key))
-}
-
-// The keys of these names, under their identifiers.
-fn keys(alloc: Global, names: &[Value]) -> Result<Keys> {
-    let mut keys = BTreeMap::new(alloc);
-    for name in names {
-        let (keyid, key) = key(alloc, name.as_str().unwrap_or(""))?;
-        drop(keys.insert(keyid, key)?);
-    }
-    Ok(keys)
-}
-
-// The names that a step's pattern matches.
-fn paths(alloc: Global, step: &Value) -> Result<PathSet> {
-    let mut patterns = Vec::new(alloc);
-    patterns.push(PathPattern::from_str(alloc, text(step, "pattern"))?)?;
-    Ok(PathSet::Paths(patterns))
-}
-
-// A number of a step from 1 on, or 1.
-fn positive(step: &Value, name: &str) -> NonZeroU64 {
-    NonZeroU64::new(number(step, name).unwrap_or(1)).unwrap_or(NonZeroU64::MIN)
-}
-
-// The target of a file with this content.
-fn target(alloc: Global, content: &str) -> Result<Target> {
-    let mut files = MemoryFiles::new(alloc);
-    files.create("/f")?;
-    files.append("/f", content.as_bytes())?;
-    Ok(Target::from_path(alloc, &mut files, "/f")?)
-}
-
-// What a call answers.
-fn outcome(alloc: Global, done: Called) -> Result<String> {
-    match done {
-        Ok(()) => Ok(String::from_str(alloc, "ok")?),
-        Err(error) => Ok(format!(in alloc; "{error}")?),
-    }
-}
 
 fn add_target(editor: &mut Editor, name: TargetName, target: Target) -> Called {
     editor.add_target(name, target)?;
@@ -93,14 +34,6 @@ fn add_target_path(editor: &mut Editor, files: &mut MemoryFiles, path: &str) -> 
 fn add_target_paths(editor: &mut Editor, files: &mut MemoryFiles, paths: &[&str]) -> Called {
     editor.add_target_paths(files, paths)?;
     Ok(())
-}
-
-// Files with one at `/f` and a folder at `/d`.
-fn small_files(alloc: Global) -> Result<MemoryFiles> {
-    let mut files = MemoryFiles::new(alloc);
-    files.create("/f")?;
-    files.make_folders("/d")?;
-    Ok(files)
 }
 
 // What a call on targets answers, if it is one.
