@@ -32,6 +32,7 @@ use trials_calls::case::text;
 use trials_calls::judge::misses;
 use trials_calls::table::{CALLS, fault_of, place_of};
 use trials_editor::{editing, publishing, putting};
+use trials_world::schedule;
 
 // What a call on updates or errors answers.
 fn of_updates(rt: &HostRuntime, call: &str, case: &Value) -> Result<String> {
@@ -51,13 +52,14 @@ fn of_updates(rt: &HostRuntime, call: &str, case: &Value) -> Result<String> {
     }
 }
 
-// What a call on editors, or on what they write, answers.
+// What a call on editors, on what they write, or on several updates answers.
 fn of_editors(rt: &HostRuntime, call: &str, case: &Value) -> Result<Option<String>> {
     Ok(match call {
         "TargetsEditor" => Some(editing::play(rt, case)?),
         "RepositoryEditor" => Some(publishing::play(rt, case)?),
         "TargetFiles" => Some(putting::play(rt.alloc(), case)?),
         "write_roles" => Some(putting::write(rt.alloc(), case)?),
+        "World" => Some(schedule::play(rt.alloc(), case)?),
         _ => None,
     })
 }

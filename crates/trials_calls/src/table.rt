@@ -8,7 +8,7 @@ use std::alloc::{AllocError, Global};
 const COMMON: &str = "call,name,answer,words";
 
 /// Each call, with the members of its cases, beside those of every case, and the members of the objects in their lists.
-pub const CALLS: [(&str, &str, &str); 83] = [
+pub const CALLS: [(&str, &str, &str); 84] = [
     ("TargetName::new", "input", ""),
     ("encode_filename", "input", ""),
     ("TargetName::cmp", "input,other", ""),
@@ -130,6 +130,11 @@ pub const CALLS: [(&str, &str, &str); 83] = [
         "TargetFiles",
         "op,folders,files,links,targets,consistent,input,outdir,exists,target",
         "",
+    ),
+    (
+        "World",
+        "trusted,loads,files,turns,whole,unsafe,max_timestamp_size",
+        "load,kind,now,file",
     ),
     ("write_roles", "folders,files,links,names,outdir", ""),
     ("tough", "files,steps", "step,words,path,text,blanks"),

@@ -1,0 +1,27 @@
+//! A journal in words.
+
+use anyhow::Result;
+use std::alloc::{AllocError, Global};
+use tough_vault::Entry;
+
+// An entry.
+fn entry(alloc: Global, entry: &Entry) -> Result<String, AllocError> {
+    match entry {
+        Entry::Noted(_) => format!(in alloc; "Noted"),
+        Entry::Root(version) => format!(in alloc; "Root {version}"),
+        Entry::Timestamp(versions, _) => format!(in alloc; "Timestamp {}", versions.version),
+        Entry::Snapshot(versions, _) => format!(in alloc; "Snapshot {}", versions.version),
+        Entry::Cleared => format!(in alloc; "Cleared"),
+        Entry::Document(name) => format!(in alloc; "Document {name}"),
+        Entry::Broken => format!(in alloc; "Broken"),
+    }
+}
+
+/// The entries, in their order.
+pub(crate) fn journal(alloc: Global, entries: &[Entry]) -> Result<String> {
+    let mut texts = Vec::new(alloc);
+    for it in entries {
+        texts.push(entry(alloc, it)?)?;
+    }
+    Ok(texts.as_slice().join(alloc, ", ")?)
+}

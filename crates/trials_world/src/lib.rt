@@ -1,0 +1,5 @@
+//! What updates on one store come to, by turns and side by side, for the cases of `trials`.
+#![tactic(auto)]
+
+mod journal;
+pub mod schedule;
