@@ -32,7 +32,7 @@ use trials_calls::case::text;
 use trials_calls::judge::misses;
 use trials_calls::table::{CALLS, fault_of, place_of};
 use trials_editor::{editing, publishing, putting};
-use trials_world::schedule;
+use trials_world::{schedule, shared};
 
 // What a call on updates or errors answers.
 fn of_updates(rt: &HostRuntime, call: &str, case: &Value) -> Result<String> {
@@ -60,6 +60,7 @@ fn of_editors(rt: &HostRuntime, call: &str, case: &Value) -> Result<Option<Strin
         "TargetFiles" => Some(putting::play(rt.alloc(), case)?),
         "write_roles" => Some(putting::write(rt.alloc(), case)?),
         "World" => Some(schedule::play(rt.alloc(), case)?),
+        "SharedStore" => Some(shared::play(rt, case)?),
         _ => None,
     })
 }

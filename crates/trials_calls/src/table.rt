@@ -8,7 +8,7 @@ use std::alloc::{AllocError, Global};
 const COMMON: &str = "call,name,answer,words";
 
 /// Each call, with the members of its cases, beside those of every case, and the members of the objects in their lists.
-pub const CALLS: [(&str, &str, &str); 84] = [
+pub const CALLS: [(&str, &str, &str); 85] = [
     ("TargetName::new", "input", ""),
     ("encode_filename", "input", ""),
     ("TargetName::cmp", "input,other", ""),
@@ -135,6 +135,11 @@ pub const CALLS: [(&str, &str, &str); 84] = [
         "World",
         "trusted,loads,files,turns,whole,unsafe,max_timestamp_size",
         "load,kind,now,file",
+    ),
+    (
+        "SharedStore",
+        "trusted,files,now,manner,steps",
+        "op,clone,file,listed",
     ),
     ("write_roles", "folders,files,links,names,outdir", ""),
     ("tough", "files,steps", "step,words,path,text,blanks"),

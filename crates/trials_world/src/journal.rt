@@ -25,3 +25,16 @@ pub(crate) fn journal(alloc: Global, entries: &[Entry]) -> Result<String> {
     }
     Ok(texts.as_slice().join(alloc, ", ")?)
 }
+
+/// Whether two entries say the same.
+pub(crate) fn is_entry(one: &Entry, other: &Entry) -> bool {
+    match (one, other) {
+        (Entry::Noted(one), Entry::Noted(other)) => *one == *other,
+        (Entry::Root(one), Entry::Root(other)) => *one == *other,
+        (Entry::Timestamp(one, _), Entry::Timestamp(other, _)) => one.version == other.version,
+        (Entry::Snapshot(one, _), Entry::Snapshot(other, _)) => one.version == other.version,
+        (Entry::Cleared, Entry::Cleared) => true,
+        (Entry::Document(one), Entry::Document(other)) => *one == *other,
+        _ => false,
+    }
+}
