@@ -16,7 +16,7 @@ use tough::editor::RepositoryEditor;
 use tough::editor::signed::{PathExists, SignedRepository, TargetFiles, WriteSigned};
 use tough::jiff::Timestamp;
 use tough::schema::{DemoSign, Key, PathPattern, PathSet, Target};
-use tough::{FilesystemTransport, OsFiles};
+use tough::{Files, FilesystemTransport, OsFiles};
 
 const USAGE: &str = "usage: publisher ROOT KEYS TARGETSDIR OUTDIR [ROLE]";
 
@@ -127,6 +127,7 @@ fn publish(rt: &HostRuntime, words: &Words<'_>) -> Result<()> {
     let signed = sign(rt, &mut disk, words, found.as_slice())?;
     let listed = TargetFiles::of_repository(alloc, &signed)?;
     let folder = format!(in alloc; "{}/targets", words.outdir)?;
+    disk.make_folders(folder.as_str())?;
     for file in &found {
         let (path, skip) = (file.path.as_str(), PathExists::Skip);
         listed.copy_target(
