@@ -60,7 +60,6 @@ fn of_editors(rt: &HostRuntime, call: &str, case: &Value) -> Result<Option<Strin
         "TargetFiles" => Some(putting::play(rt.alloc(), case)?),
         "write_roles" => Some(putting::write(rt.alloc(), case)?),
         "World" => Some(schedule::play(rt.alloc(), case)?),
-        "SharedStore" => Some(shared::play(rt, case)?),
         _ => None,
     })
 }
@@ -75,6 +74,8 @@ where
         + Clock
         + RandomSource
         + AllocGlobal
+        + Sync
+        + Send
         + Clone
         + Drop,
 {
@@ -82,6 +83,7 @@ where
     match call {
         "tough" => return program::play(rt, waiting, case),
         "fetch over HTTP" => return exchange::play(rt, waiting, case),
+        "SharedStore" => return shared::play(waiting, case),
         _ => {}
     }
     if let Some(told) = trials_calls::answer(rt, call, case)? {
@@ -103,6 +105,8 @@ where
         + Clock
         + RandomSource
         + AllocGlobal
+        + Sync
+        + Send
         + Clone
         + Drop,
 {
@@ -133,6 +137,8 @@ where
         + Clock
         + RandomSource
         + AllocGlobal
+        + Sync
+        + Send
         + Clone
         + Drop,
 {
