@@ -1,5 +1,5 @@
 -- Signatures that were made, and why none were.
-use Rattle.std.proofs.Common.{◌≡◌, ℕ, suc, List, [], ◌∷◌, length, Option, Result, Ok, Err, ◌⊎◌, Some, false, ◌<◌, ◌≤◌, IfErr, inl, inr, refl, ap, sym, subst, ◌∙◌}
+use Rattle.std.proofs.Common.{◌≡◌, ℕ, suc, List, [], ◌∷◌, length, Option, Result, Ok, Err, ◌⊎◌, Some, false, ◌<◌, ◌≤◌, IfOk, IfErr, inl, inr, refl, ap, sym, subst, ◌∙◌}
 use Rattle.tough_decoded.specs.Spelled.{Spelled}
 use Rattle.tough_roles.specs.Signature.{SignatureDoc, signatures_doc}
 use Rattle.tough_sign.specs.Making.{AreMade, chosen}
@@ -7,6 +7,10 @@ use Rattle.tough_keys.specs.Failing.{IsReasoned}
 use Rattle.tough_keys.specs.declared.sign.SignError.{SignError}
 use Rattle.tough_keys.specs.declared.sign.SignError.TheVariants as signs
 use Rattle.serde_json.specs.Data.{Data}
+use Rattle.serde_json.specs.Read.{max_depth}
+use Rattle.tough_roles.specs.Document.{document_json}
+use Rattle.tough_roles.specs.Readable.{NestsWithin, IsTextOf}
+use Rattle.tough_schema.specs.Targets.{delegated_doc, KeysAreOwn}
 use Rattle.tough_roles.specs.declared.role_type.RoleType.{RoleType}
 use Rattle.tough_roles.specs.declared.signed.Signed.{Signed}
 use Rattle.tough_signed.specs.Refusals.{sign_error, IsFailure, IsUnasked, IsUnsigned, IsBelow, IsUnfiled, IsUnfiledAs, is_lenient}
@@ -22,7 +26,9 @@ use Rattle.tough_schema.specs.Tree.{Entry}
 use Rattle.tough_schema.specs.Whole.{HeldDoc}
 use Rattle.tough_schema.specs.declared.targets.DelegatedTargets.{DelegatedTargets}
 use Rattle.tough_signed.specs.Signing.{IsSignedFor}
-use Rattle.tough_signed.specs.Standing.{IsAlone, IsUnfiledAlone, json_of}
+use Rattle.tough_signed.specs.Roles.{signed_of, buffer_of, IsWritten}
+use Rattle.tough_signed.specs.Standing.{IsAlone, IsStanding, IsUnfiledAlone, json_of, is_read_as}
+use Rattle.tough_signed.specs.declared.signed_role.SignedRole.{SignedRole}
 use Rattle.tough_signed.specs.declared.error.EditError.{EditError}
 
 -- as many signatures are made as are signers
@@ -93,3 +99,13 @@ signed_for json key_of signs h i xs ys s t doc asked text shown p q r there cano
       made = by;
       enough = λ strict. subst (λ n. asked.threshold ≤ n) (made_length signs text (chosen key_of (known_of h) asked.keyids ys) sigs by) (enough (ap is_lenient q ∙ strict));
     }
+
+-- a document by itself that has a file
+pub standing_of : (e : Entry) (h : HeldDoc) (s : Signed DelegatedTargets) → IsAlone e h s → (r : Result (SignedRole DelegatedTargets) EditError) → IfOk r (λ x. signed_of x ≡ s) → IfOk r (IsWritten json_of)
+    → (KeysAreOwn (delegated_doc s.signed).delegations → NestsWithin max_depth (document_json json_of s) → IfOk r (λ x. IsTextOf is_read_as s (buffer_of x))) → IfOk r (IsStanding e h)
+standing_of e h s a (Ok x) is file back = record {
+  alone = subst (IsAlone e h) (sym is) a;
+  file = file;
+  back = λ own within. subst (λ y. IsTextOf is_read_as y (buffer_of x)) (sym is) (back (subst (λ (y : Signed DelegatedTargets). KeysAreOwn (delegated_doc y.signed).delegations) is own) (subst (λ y. NestsWithin max_depth (document_json json_of y)) is within));
+}
+standing_of e h s a (Err error) is file back = tt
