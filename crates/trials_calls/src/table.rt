@@ -138,7 +138,7 @@ pub const CALLS: [(&str, &str, &str); 85] = [
     ),
     (
         "SharedStore",
-        "trusted,files,now,manner,steps",
+        "trusted,files,older,now,manner,times,steps",
         "op,clone,file,listed",
     ),
     ("write_roles", "folders,files,links,names,outdir", ""),

@@ -38,3 +38,19 @@ pub(crate) fn is_entry(one: &Entry, other: &Entry) -> bool {
         _ => false,
     }
 }
+
+/// Whether no accepted timestamp or snapshot is older than one before it, but for those that were cleared in between.
+pub(crate) fn rises(entries: &[Entry]) -> bool {
+    let (mut timestamp, mut snapshot) = (0u64, 0u64);
+    for entry in entries {
+        match entry {
+            Entry::Timestamp(versions, _) if versions.version < timestamp => return false,
+            Entry::Snapshot(versions, _) if versions.version < snapshot => return false,
+            Entry::Timestamp(versions, _) => timestamp = versions.version,
+            Entry::Snapshot(versions, _) => snapshot = versions.version,
+            Entry::Cleared => (timestamp, snapshot) = (0, 0),
+            _ => {}
+        }
+    }
+    true
+}

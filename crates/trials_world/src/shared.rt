@@ -4,7 +4,7 @@ ghost use Rattle.std.specs.Prelude.{◌≡◌};
 ghost use Rattle.tough_shared.specs.Opened.{book_of};
 
 use crate::held::{Held, LOOKS, Signals};
-use crate::journal::{is_entry, journal};
+use crate::journal::{is_entry, journal, rises};
 use anyhow::Result;
 use bytes::Bytes;
 use jiff::Timestamp as Instant;
@@ -136,10 +136,10 @@ fn by_turns<R: Wait, J: Naming>(
     Ok(told)
 }
 
-// A transport of the case's files, below `http://h/`.
-fn served(alloc: Global, case: &Value) -> Result<MemoryTransport> {
+// A transport of the files in this member of the case, below `http://h/`.
+fn served(alloc: Global, case: &Value, member: &str) -> Result<MemoryTransport> {
     let mut transport = MemoryTransport::in_pieces(alloc, 64);
-    if let Some(files) = case.get("files").and_then(Value::as_object) {
+    if let Some(files) = case.get(member).and_then(Value::as_object) {
         for (name, value) in files {
             let url = format!(in alloc; "http://h/{name}")?;
             let bytes = value.as_str().unwrap_or("").as_bytes();
@@ -187,7 +187,10 @@ where
     J: Naming + Send + Sync,
 {
     let signals = Signals::new();
-    let (slow, fast) = (served(rt.alloc(), case)?, served(rt.alloc(), case)?);
+    let (slow, fast) = (
+        served(rt.alloc(), case, "files")?,
+        served(rt.alloc(), case, "files")?,
+    );
     let within = Held {
         rt,
         signals: &signals,
@@ -206,6 +209,87 @@ where
     Ok(first?.saturating_add(second?))
 }
 
+// Loads the repository of this member of the case as often as the case says, and returns how many loads succeeded.
+fn load_often<R, J>(
+    rt: &R,
+    store: SharedStore<MemoryStore, J>,
+    case: &Value,
+    member: &str,
+) -> Result<usize>
+where
+    R: Wait + RandomSource + AllocGlobal + Clone + Drop,
+    J: Naming,
+{
+    let mut count = 0usize;
+    for _ in 0..number(case, "times").unwrap_or(1) {
+        let transport = served(rt.alloc(), case, member)?;
+        if load(rt, case, transport, store.try_clone()?).is_ok() {
+            count = count.saturating_add(1);
+        }
+    }
+    Ok(count)
+}
+
+// Two threads that load, one of them the older repository.
+fn load_twice<R, J>(rt: &R, store: &SharedStore<MemoryStore, J>, case: &Value) -> Result<usize>
+where
+    R: Threads + Wait + RandomSource + AllocGlobal + Sync + Send + Clone + Drop,
+    J: Naming + Send + Sync,
+{
+    let (one, two) = (store.try_clone()?, store.try_clone()?);
+    let (newer, older) = thread::join(
+        rt,
+        move || load_often(rt, one, case, "files"),
+        move || load_often(rt, two, case, "older"),
+    );
+    Ok(newer?.saturating_add(older?))
+}
+
+// Four such threads.
+fn load_four<R, J>(
+    rt: &R,
+    one: &SharedStore<MemoryStore, J>,
+    two: &SharedStore<MemoryStore, J>,
+    case: &Value,
+) -> Result<usize>
+where
+    R: Threads + Wait + RandomSource + AllocGlobal + Sync + Send + Clone + Drop,
+    J: Naming + Send + Sync,
+{
+    let (some, others) = thread::join(
+        rt,
+        move || load_twice(rt, one, case),
+        move || load_twice(rt, two, case),
+    );
+    Ok(some?.saturating_add(others?))
+}
+
+// What the loads of four threads on clones of the store come to, of which two load an older repository, and whether nothing went back.
+fn in_four_threads<R, J>(
+    rt: &R,
+    one: SharedStore<MemoryStore, J>,
+    two: SharedStore<MemoryStore, J>,
+    three: SharedStore<MemoryStore, J>,
+    case: &Value,
+) -> Result<String>
+where
+    R: Threads + Wait + RandomSource + AllocGlobal + Sync + Send + Clone + Drop,
+    J: Naming + Send + Sync,
+{
+    let alloc = rt.alloc();
+    let done = load_four(rt, &one, &two, case);
+    drop(one);
+    drop(two);
+    let done = done? > 0;
+    match three.close() {
+        Ok(closed) => {
+            let rises = rises(closed.journal());
+            Ok(format!(in alloc; "some loaded: {done}, nothing goes back: {rises}")?)
+        }
+        Err(_) => Ok(String::from_str(alloc, "a clone lives")?),
+    }
+}
+
 // What the case comes to on a store whose history `J` names.
 fn play_named<R, J>(rt: &R, opened: Opened, case: &Value) -> Result<String>
 where
@@ -218,6 +302,7 @@ where
     let (two, three) = (one.try_clone()?, one.try_clone()?);
     let told = match text(case, "manner") {
         "two threads" => return in_two_threads(rt, one, two, three, case),
+        "four threads" => return in_four_threads(rt, one, two, three, case),
         "two loads" => side_by_side(rt, one, two, case)?,
         _ => return closed_after(rt, by_turns(rt, alloc, &one, case)?, one, two, three),
     };
