@@ -30,8 +30,15 @@ fn named(alloc: Global, call: &Call) -> Result<String, AllocError> {
     }
 }
 
-// The calls from this one on.
+// The most calls that are told one by one.
+const MOST: usize = 100;
+
+// The calls from this one on, or how many there are.
 fn calls_from(alloc: Global, files: &MemoryFiles, first: usize) -> Result<String> {
+    let count = files.calls().len().saturating_sub(first);
+    if count > MOST {
+        return Ok(format!(in alloc; "{count} calls")?);
+    }
     let mut texts = Vec::new(alloc);
     for call in files.calls().iter().skip(first) {
         texts.push(named(alloc, call)?)?;
