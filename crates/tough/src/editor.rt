@@ -2,3 +2,5 @@
 
 pub mod signed;
 pub mod targets;
+
+pub use tough_publish::{RepositoryEditor, RepositoryEdits};

@@ -5,7 +5,7 @@ ghost use Rattle.tough_client.specs.Repositories.{documents_of};
 ghost use Rattle.tough.specs.Program.{IsVouchedFor};
 
 use crate::error::ErrorKind;
-use crate::{Error, open_on};
+use crate::{Error, drive_on};
 use std::alloc::{AllocError, AllocGlobal, Global};
 use std::fs::File;
 use std::random::RandomSource;
@@ -13,7 +13,7 @@ use std::sync::Wait;
 use std::{io, rt};
 use tokio::runtime::LocalRuntime;
 use tough_client::Repository;
-use tough_load::{DirStore, Keeper, RepositoryLoader, SystemClock, Vault};
+use tough_load::{Core, DirStore, Keeper, RepositoryLoader, SystemClock, Vault};
 use tough_net::Transport;
 use tough_schema::DemoVerify;
 use url::Url;
@@ -65,6 +65,37 @@ pub(crate) fn with_fault(alloc: Global, fault: Fault, cause: Option<&io::Error>)
             Err(_) => Fault::Memory,
         },
         (fault, _) => fault,
+    }
+}
+
+// A refusal by this text, which is in this file: the name stands behind what it says, where that doesn't have it.
+fn with_file(alloc: Global, text: String, file: &str) -> Fault {
+    if text.as_str().contains(file) {
+        return Fault::Refused(text);
+    }
+    match format!(in alloc; "{text} ({file})") {
+        Ok(text) => Fault::Refused(text),
+        Err(_) => Fault::Memory,
+    }
+}
+
+// The refusal of a load, which is in this file.
+fn refused_in(alloc: Global, error: Error, file: Option<String>) -> Fault {
+    let fault = refused(alloc, error);
+    let Some(file) = file else {
+        return fault;
+    };
+    match fault {
+        Fault::Refused(text) => with_file(alloc, text, file.as_str()),
+        fault => fault,
+    }
+}
+
+// The file that the machine asked for last, if it was one and there is memory to tell it.
+fn last_file(alloc: Global, core: &Core) -> Option<String> {
+    match core.last_file() {
+        Some(name) => String::from_str(alloc, name).ok(),
+        None => None,
     }
 }
 
@@ -123,10 +154,17 @@ where
         Ok(load) => load,
         Err(error) => return Err(refused(rt.alloc(), Error::from(error))),
     };
-    match open_on(rt, runtime, load) {
-        Ok(Ok(repository)) => Ok(repository),
-        Ok(Err(error)) => Err(refused(rt.alloc(), error)),
-        Err(error) => Err(not_run(rt.alloc(), error)),
+    let (outcome, load) = match drive_on(rt, runtime, load) {
+        Ok(both) => both,
+        Err(error) => return Err(not_run(rt.alloc(), error)),
+    };
+    let file = match &outcome {
+        Ok(_) => None,
+        Err(_) => last_file(rt.alloc(), load.core()),
+    };
+    match Repository::from_outcome(load, outcome) {
+        Ok(repository) => Ok(repository),
+        Err(error) => Err(refused_in(rt.alloc(), error, file)),
     }
 }
 

@@ -5,3 +5,4 @@ pub mod Writing
 pub mod Listed
 pub mod Putting
 pub mod Walking
+pub mod Wide

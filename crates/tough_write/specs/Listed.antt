@@ -1,6 +1,9 @@
 -- The targets whose files are copied or linked (TUF specification 1.0, sections 4.5 and 6.2).
 use Rattle.std.specs.Prelude.{ℕ, Bool, List, [], ◌∷◌, ◌++◌, Option, option_map}
 use Rattle.tough_names.specs.Named.{Named}
+use Rattle.tough_release.specs.Repository.{root_of, targets_of}
+use Rattle.tough_release.specs.declared.repository.SignedRepository.{SignedRepository}
+use Rattle.tough_roles.specs.Root.{root_doc}
 use Rattle.tough_schema.specs.Entries.{all_listed}
 use Rattle.tough_schema.specs.Gather.{map_docs}
 use Rattle.tough_schema.specs.Search.{listed}
@@ -35,3 +38,10 @@ listed_in_role r = all_listed (tree_doc (out-DelegatedTargets (signed_of r).sign
 abbrev pub listed_by : List (SignedRole DelegatedTargets) → Listing
 listed_by [] = []
 listed_by (r ∷ rs) = listed_in_role r ++ listed_by rs
+
+-- what the targets of a repository and the documents below them list
+abbrev pub listed_in_repository : SignedRepository → Listing
+listed_in_repository r = all_listed (tree_doc (signed_of (targets_of r)).signed)
+
+abbrev pub repository_is_consistent : SignedRepository → Bool
+repository_is_consistent r = (root_doc (signed_of (root_of r)).signed).consistent_snapshot

@@ -6,6 +6,7 @@ mod path_exists;
 mod put;
 mod target_files;
 mod walk;
+mod wide;
 mod write;
 
 pub use error::OutputError;

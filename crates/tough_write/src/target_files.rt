@@ -4,7 +4,7 @@ ghost use Rattle.std.specs.Prelude.{◌≡◌, [], true, IfOk, OnOk, map, option
 ghost use Rattle.tough_schema.specs.Entries.{merged_into};
 ghost use Rattle.tough_schema.specs.Gather.{map_docs};
 ghost use Rattle.tough_signed.specs.Standing as signed;
-ghost use Rattle.tough_write.specs.Listed.{listing_in, is_consistent, listed_by, listed_in_role, listed_sha256};
+ghost use Rattle.tough_write.specs.Listed.{listing_in, is_consistent, listed_by, listed_in_role, listed_in_repository, repository_is_consistent, listed_sha256};
 ghost use Rattle.tough_write.specs.Putting.{copying, linking, given, manner, manner_of, Puts};
 ghost use Rattle.tough_write.specs.Walking.{PutsAll};
 
@@ -15,6 +15,7 @@ use std::alloc::{AllocError, Global};
 use std::collections::BTreeMap;
 use tough_files::Files;
 use tough_names::TargetName;
+use tough_release::SignedRepository;
 use tough_schema::{DelegatedTargets, Target};
 use tough_signed::{SignedDelegatedTargets, SignedRole};
 
@@ -56,6 +57,21 @@ impl<'a> TargetFiles<'a> {
             add_listed(alloc, role, &mut targets)?;
         }
         Ok(TargetFiles::new(targets, roles.consistent_snapshot()))
+    }
+
+    /// The targets of the repository, of those of one name the later one; the names of their files have digests where its root says so.
+    pub fn of_repository(
+        alloc: Global,
+        repository: &'a SignedRepository,
+    ) -> Result<TargetFiles<'a>, AllocError>
+        ensures targets { IfOk result
+            (λ t. listing_in t ≡ merged_into [] (listed_in_repository repository.now)) }
+        ensures consistent { IfOk result
+            (λ t. is_consistent t ≡ repository_is_consistent repository.now) }
+    {
+        let targets = repository.targets().signed().signed.targets_map(alloc)?;
+        let consistent_snapshot = repository.root().signed().signed.consistent_snapshot;
+        Ok(TargetFiles::new(targets, consistent_snapshot))
     }
 
     // The digest that is listed under the name.

@@ -3,12 +3,13 @@
 ghost use Rattle.std.specs.Prelude.{◌≡◌, ℕ, List, [], ◌∷◌, Bool, true, IfOk, map, string_bytes};
 ghost use Rattle.tough_signed.specs.Standing.{roles_of};
 ghost use Rattle.tough_write.specs.Steps.{IfMemory, MakesFolders, Resolves};
-ghost use Rattle.tough_write.specs.Writing.{FileDoc, file_doc, Writes, WritesRole, WritesAll, role_file, role_files, roles_file};
+ghost use Rattle.tough_write.specs.Writing.{FileDoc, file_doc, Writes, WritesRole, WritesAll, role_file, role_files, roles_file, repository_files};
 
 use crate::error::{OutputError, Step, refusal};
 use std::alloc::{AllocError, Global};
 use std::path::Path;
 use tough_files::Files;
+use tough_release::SignedRepository;
 use tough_roles::Role;
 use tough_save::write_file;
 use tough_signed::{SignedDelegatedTargets, SignedRole};
@@ -175,6 +176,27 @@ impl WriteSigned for SignedDelegatedTargets {
             let file = named_file(role, alloc, consistent_snapshot)?;
             files.push(file)?;
         }
+        Ok(files)
+    }
+}
+
+impl WriteSigned for SignedRepository {
+    ghost written = { λ r consistent. repository_files consistent r };
+
+    fn named_files(
+        &self,
+        alloc: Global,
+        consistent_snapshot: bool,
+    ) -> Result<Vec<NamedFile<'_>>, AllocError> {
+        let mut files = Vec::new(alloc);
+        files.push(named_file(self.root(), alloc, consistent_snapshot)?)?;
+        files.push(named_file(self.targets(), alloc, consistent_snapshot)?)?;
+        files.push(named_file(self.snapshot(), alloc, consistent_snapshot)?)?;
+        files.push(named_file(self.timestamp(), alloc, consistent_snapshot)?)?;
+        let mut delegated = self
+            .delegated_targets()
+            .named_files(alloc, consistent_snapshot)?;
+        files.append(&mut delegated)?;
         Ok(files)
     }
 }

@@ -31,6 +31,8 @@ use std::{env, fs};
 use trials_calls::case::text;
 use trials_calls::judge::misses;
 use trials_calls::table::{CALLS, fault_of, place_of};
+use trials_editor::{editing, publishing, putting};
+use trials_world::{schedule, shared};
 
 // What a call on updates or errors answers.
 fn of_updates(rt: &HostRuntime, call: &str, case: &Value) -> Result<String> {
@@ -50,6 +52,18 @@ fn of_updates(rt: &HostRuntime, call: &str, case: &Value) -> Result<String> {
     }
 }
 
+// What a call on editors, on what they write, or on several updates answers.
+fn of_editors(rt: &HostRuntime, call: &str, case: &Value) -> Result<Option<String>> {
+    Ok(match call {
+        "TargetsEditor" => Some(editing::play(rt, case)?),
+        "RepositoryEditor" => Some(publishing::play(rt, case)?),
+        "TargetFiles" => Some(putting::play(rt.alloc(), case)?),
+        "write_roles" => Some(putting::write(rt.alloc(), case)?),
+        "World" => Some(schedule::play(rt.alloc(), case)?),
+        _ => None,
+    })
+}
+
 // What the call of a case answers. The program waits by the second runtime.
 fn answer<R>(rt: &HostRuntime, waiting: &R, case: &Value) -> Result<String>
 where
@@ -60,6 +74,8 @@ where
         + Clock
         + RandomSource
         + AllocGlobal
+        + Sync
+        + Send
         + Clone
         + Drop,
 {
@@ -67,9 +83,13 @@ where
     match call {
         "tough" => return program::play(rt, waiting, case),
         "fetch over HTTP" => return exchange::play(rt, waiting, case),
+        "SharedStore" => return shared::play(waiting, case),
         _ => {}
     }
     if let Some(told) = trials_calls::answer(rt, call, case)? {
+        return Ok(told);
+    }
+    if let Some(told) = of_editors(rt, call, case)? {
         return Ok(told);
     }
     of_updates(rt, call, case)
@@ -85,6 +105,8 @@ where
         + Clock
         + RandomSource
         + AllocGlobal
+        + Sync
+        + Send
         + Clone
         + Drop,
 {
@@ -115,6 +137,8 @@ where
         + Clock
         + RandomSource
         + AllocGlobal
+        + Sync
+        + Send
         + Clone
         + Drop,
 {

@@ -8,7 +8,7 @@ use std::alloc::{AllocError, Global};
 const COMMON: &str = "call,name,answer,words";
 
 /// Each call, with the members of its cases, beside those of every case, and the members of the objects in their lists.
-pub const CALLS: [(&str, &str, &str); 80] = [
+pub const CALLS: [(&str, &str, &str); 85] = [
     ("TargetName::new", "input", ""),
     ("encode_filename", "input", ""),
     ("TargetName::cmp", "input,other", ""),
@@ -121,6 +121,27 @@ pub const CALLS: [(&str, &str, &str); 80] = [
         "role,steps,signers",
         "op,name,version,content,path,keys,key,role,signers,pattern,threshold,recursive,limits,served,at,url",
     ),
+    (
+        "RepositoryEditor",
+        "files,steps,signers,consistent",
+        "op,name,version,content,path,signers,pattern,threshold",
+    ),
+    (
+        "TargetFiles",
+        "op,folders,files,links,targets,consistent,input,outdir,exists,target",
+        "",
+    ),
+    (
+        "World",
+        "trusted,loads,files,turns,whole,unsafe,max_timestamp_size",
+        "load,kind,now,file",
+    ),
+    (
+        "SharedStore",
+        "trusted,files,older,now,manner,times,steps",
+        "op,clone,file,listed",
+    ),
+    ("write_roles", "folders,files,links,names,outdir", ""),
     ("tough", "files,steps", "step,words,path,text,blanks"),
     (
         "save_target",

@@ -1,0 +1,3 @@
+pub mod Editors
+pub mod Files
+pub mod Roots

@@ -1,0 +1,17 @@
+pub mod Inserting
+pub mod Names
+pub mod Encoding
+pub mod Serving
+pub mod Escaping
+pub mod Listing
+pub mod Rising
+pub mod Words
+pub mod Trees
+pub mod Placing
+pub mod Reading
+pub mod Rooting
+pub mod Standings
+pub mod Filed
+pub mod Loadables
+pub mod Signing
+pub mod Released

@@ -1,0 +1,3 @@
+pub mod Roles
+pub mod Files
+pub mod Loading

@@ -1,0 +1,70 @@
+//! A signed repository, and a load of its files.
+
+ghost use Rattle.std.specs.Prelude.{◌≡◌, ℤ, List, Ok, true, Result};
+ghost use Rattle.tough_keys.specs.Same.{Verifies};
+ghost use Rattle.tough_sign.specs.Making.{SignWell};
+ghost use Rattle.tough_trust.specs.Failure.{Failure};
+ghost use Rattle.tough_trust.specs.Vaults.{vault_keeps};
+ghost use Rattle.tough_vault.specs.Vault.{parts_of};
+ghost use Rattle.tough_update.specs.Loadable.{Loadable};
+ghost use Rattle.tough_update.specs.Stages.{SettingDoc, LoadedDoc};
+ghost use Rattle.tough_load.specs.Loader.{IsBegun, first_core, settings_of, transport_of, verifier_of, clock_of, keeper_of};
+ghost use Rattle.tough_load.specs.Advancing.{Finishes};
+ghost use Rattle.tough_load.specs.Words as part;
+ghost use Rattle.tough_honest.specs.Fresh.{Untouched, IsFineOutcome};
+ghost use Rattle.tough_honest.specs.Loads.{ServesAll, ShowsOnly};
+ghost use Rattle.tough_release.specs.Edits.{ReleaseDoc};
+ghost use Rattle.tough_release.specs.Release.{IsReleased};
+ghost use Rattle.tough_release.specs.declared.repository.SignedRepository.{SignedRepository};
+ghost use Rattle.tough_round.specs.Files.{files_of, loaded_of};
+ghost use Rattle.tough_round.specs.Loading.{MayLoad};
+
+use tough_keys::Sign;
+use tough_load::{Clock, Load, RepositoryLoader, Store, Vault};
+use tough_net::Transport;
+use tough_roles::{Snapshot, Timestamp, Verify};
+use tough_schema::DelegatedTargets;
+
+/// The files of a repository that `RepositoryEdits::sign` made, under the names that a client asks for, are loadable: by signers whose
+/// signatures verify, where the documents that were taken over are signed, nothing has expired, and what `MayLoad` names besides (TUF
+/// specification 1.0, section 5).
+pub fn released_is_loadable<S: Sign>()
+    ensures { (verifies : Verifies) (s : SettingDoc) (start : ℤ) (signers : List S)
+        (e : ReleaseDoc) (r : SignedRepository) → SignWell verifies S.key S.signs signers
+        → IsReleased S.key S.signs signers e r → MayLoad verifies s start e r
+        → Loadable verifies (files_of r) s (loaded_of s start r) }
+{
+    tough_names::encodes_apart();
+    tough_signed::laws::signed_reaches::<Snapshot, S>();
+    tough_signed::laws::signed_reaches::<Timestamp, S>();
+    tough_signed::laws::signed_reaches::<DelegatedTargets, S>();
+}
+
+/// What was signed is loaded equal: root, timestamp, snapshot, and the targets with the documents of all delegated roles. The load is one
+/// that a loader made, as `honest_loads` has it: over a transport that serves the repository's files under their names, by a lent vault over
+/// a store that held nothing, and by a clock that shows one moment. Where it ends, that is its outcome, unless it tells that the store's
+/// device failed or that a request for memory was refused (TUF specification 1.0, section 5).
+pub fn released_loads<T: Transport, V: Verify + Drop, C: Clock + Drop, D: Store, S: Sign>(
+    loader: &RepositoryLoader<'_, T, V, C, &mut Vault<D>>,
+    load: &Load<T, &mut Vault<D>, C, V>,
+    ended: &Load<T, &mut Vault<D>, C, V>,
+)
+    ensures { (start : ℤ) (signers : List S) (e : ReleaseDoc) (r : SignedRepository)
+        (outcome : Result LoadedDoc Failure) → IsBegun loader.now load.now → D.tells ≡ true
+        → Untouched D.files 0 (parts_of (keeper_of loader.now).now)
+        → ShowsOnly C.may_give (clock_of loader.now) start
+        → ServesAll T.refuses T.serves (V.verifies (verifier_of loader.now))
+        (part.base_of load.now) (transport_of loader.now)
+        (first_core (settings_of loader.now)) (files_of r)
+        → SignWell (V.verifies (verifier_of loader.now)) S.key S.signs signers
+        → IsReleased S.key S.signs signers e r
+        → MayLoad (V.verifies (verifier_of loader.now))
+        (first_core (settings_of loader.now)).setting start e r
+        → Finishes T.refuses T.serves (vault_keeps D.tells D.files D.count) C.may_give
+        T.Stream.yields V.verifies load.now outcome ended.now
+        → IsFineOutcome outcome
+        → outcome ≡ Ok (loaded_of (first_core (settings_of loader.now)).setting start r) }
+{
+    tough_honest::laws::honest_loads(loader, load, ended);
+    released_is_loadable::<S>();
+}

@@ -1,0 +1,6 @@
+mod Fronts
+mod Adding
+mod Lined
+mod Going
+mod Telling
+mod Rising

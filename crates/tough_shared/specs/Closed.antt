@@ -1,0 +1,10 @@
+-- The parts of a closed store.
+use Rattle.tough_vault.specs.declared.store.Store.{Ghosts as StoreGhosts}
+use Rattle.tough_vault.specs.declared.vault.Vault.{Vault}
+use Rattle.tough_shared.specs.declared.front.Naming.{Ghosts}
+use Rattle.tough_shared.specs.declared.closed.ClosedStore.{ClosedStore}
+
+module _ {S J : Type 0} {g : StoreGhosts S} {h : Ghosts J} where
+  -- its vault, to which nothing is added any more
+  abbrev pub vault_of : ClosedStore S J g h → Vault S g
+  vault_of c = c.vault

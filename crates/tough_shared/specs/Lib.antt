@@ -1,0 +1,10 @@
+pub mod Lines
+pub mod Rules
+pub mod Opened
+pub mod Receipts
+pub mod Shares
+pub mod Checking
+pub mod Keeping
+pub mod Closed
+pub mod Telling
+pub mod Rising

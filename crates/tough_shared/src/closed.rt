@@ -1,0 +1,78 @@
+//! A store that no thread has any more.
+
+ghost use Rattle.std.specs.Prelude.{◌≡◌, ◌++◌, ◌∷◌, [], true, false, IsSome, IfSome, IfOk, IfErr, Some, slice_get};
+ghost use Rattle.tough_vault.specs.Journal.{Legal, NothingGoesBack, has_broken, note_of, number_of, entry_of};
+ghost use Rattle.tough_vault.specs.Parts.{Holds};
+ghost use Rattle.tough_vault.specs.Vault.{store_of, journal_of, notes_in, tip_in};
+ghost use Rattle.tough_shared.specs.Lines.{lines};
+ghost use Rattle.tough_shared.specs.declared.line.Line.TheVariants.{End};
+
+use crate::front::{Front, Head, Naming};
+use crate::line::Addition;
+use crate::locked::Locked;
+use crate::receipt::Receipt;
+use tough_vault::{Entry, Store, Vault};
+
+/// A closed store, whose journal is final.
+#[derive(Drop)]
+pub struct ClosedStore<S: Store, J: Naming> {
+    vault: Vault<S>,
+    front: Front<J>,
+    ghost ended: { front.seen.log ≡ lines (notes_in vault) ++ End ∷ [] },
+}
+
+impl<S: Store, J: Naming> ClosedStore<S, J> {
+    ghost use Rattle.tough_shared.specs.Closed.{vault_of};
+    ghost use Rattle.tough_shared.specs.Receipts.{plain_of};
+
+    /// Ends the history, so that nothing is added to the journal any more. It always can, though no proof says so.
+    pub(crate) fn seal(
+        locked: Locked<S, J>,
+        head: &Head<J>,
+    ) -> Result<ClosedStore<S, J>, Locked<S, J>>
+        ensures ok { IfOk result (λ c. vault_of c ≡ locked.vault) }
+        ensures err { IfErr result (λ l. l.vault ≡ locked.vault) }
+    {
+        let (vault, mut front) = locked.into_parts();
+        let me = front.again();
+        if front.count() < u64::MAX && front.try_add(head, &me, &Addition::End) {
+            return Ok(ClosedStore { vault, front });
+        }
+        Err(Locked::from_parts(vault, front))
+    }
+
+    /// All entries, the first one first. Replaying them gives what was accepted last, no entry is below what those before
+    /// it leave, and of two accepted documents with no clearing between them the later isn't older.
+    pub fn journal(&self) -> &[Entry]
+        ensures entries { result.now ≡ journal_of (vault_of self.now) }
+        ensures legal { Legal (notes_in (vault_of self.now)) (tip_in (vault_of self.now)) }
+        ensures rising { NothingGoesBack (notes_in (vault_of self.now)) }
+    {
+        self.vault.journal()
+    }
+
+    /// The entry of a receipt that a clone of this store gave. The journal has it at the receipt's number.
+    pub fn entry(&self, receipt: &Receipt<J>) -> Option<&Entry>
+        ensures stands { slice_get (notes_in (vault_of self.now))
+            (number_of (plain_of receipt.now))
+            ≡ Some (note_of (entry_of (plain_of receipt.now))) }
+        ensures some { IsSome result }
+        ensures value { IfSome result
+            (λ entry. note_of entry.now ≡ note_of (entry_of (plain_of receipt.now))) }
+    {
+        self.front
+            .has_entry(receipt.front(), receipt.number(), receipt.plain());
+        self.vault.journal().get(receipt.number() as usize)
+    }
+
+    /// The store. Where no write failed, the files of a store that tells them hold what was accepted last.
+    pub fn into_store(self) -> S
+        ensures store { result ≡ store_of (vault_of self) }
+        ensures holds { S.tells ≡ true → has_broken (notes_in (vault_of self)) ≡ false
+            → ∥ Holds (S.files result) (notes_in (vault_of self)) (tip_in (vault_of self)) ∥₁ }
+    {
+        let ClosedStore { vault, front: _ } = self;
+        let _ = vault.tip();
+        vault.into_store()
+    }
+}

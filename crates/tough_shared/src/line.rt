@@ -1,0 +1,27 @@
+//! Lines of the history: what the proofs remember of each entry.
+
+use std::collections::LinkedList;
+use tough_vault::Receipt;
+
+/// A line of the history: an entry as plain data, or that the store was closed. No value of it is made.
+pub(crate) enum Line {
+    Noted(i128),
+    Root(u64),
+    Timestamp(u64, u64, bool),
+    Snapshot(u64, LinkedList<(LinkedList<u8>, u64)>, bool),
+    Cleared,
+    Document(LinkedList<u8>),
+    Broken,
+    End,
+}
+
+/// What is added to the history.
+#[derive(Drop)]
+pub(crate) enum Addition {
+    /// The entry that a receipt tells.
+    Told(Receipt),
+    /// That a write or a removal failed.
+    Broken,
+    /// That the store was closed.
+    End,
+}

@@ -1,0 +1,72 @@
+//! A signed repository is loaded, and compared with what was signed.
+
+use anyhow::Result;
+use std::alloc::{AllocGlobal, Global};
+use std::random::RandomSource;
+use tough_client::{FixedClock, MemoryStore, RepositoryLoader, Vault, drive};
+use tough_json::Form;
+use tough_net::MemoryTransport;
+use tough_release::SignedRepository;
+use tough_roles::{Role, Signed};
+use tough_schema::{DemoVerify, Targets};
+use url::Url;
+
+// Whether two documents have one text.
+fn is_same<T: Role>(alloc: Global, one: &Signed<T>, other: &Signed<T>) -> Result<bool> {
+    let (one, other) = (
+        one.text(alloc, Form::Compact)?,
+        other.text(alloc, Form::Compact)?,
+    );
+    Ok(one == other)
+}
+
+// Whether each document of a role that was signed was loaded, under its role.
+fn has_documents(alloc: Global, made: &SignedRepository, targets: &Targets) -> Result<bool> {
+    for role in made.delegated_targets().roles() {
+        let document = role.signed();
+        let found = targets.delegated_role(alloc, document.signed.name.as_str())?;
+        let Some(loaded) = &found.targets else {
+            return Ok(false);
+        };
+        if !is_same(alloc, document, loaded)? {
+            return Ok(false);
+        }
+    }
+    Ok(true)
+}
+
+/// What a load of the repository by its first root comes to, from below `http://h/`, and whether it gives what was signed.
+pub(crate) fn load_back<R>(
+    rt: &R,
+    made: &SignedRepository,
+    transport: MemoryTransport,
+) -> Result<String>
+where
+    R: RandomSource + AllocGlobal,
+{
+    let alloc = rt.alloc();
+    let base = Url::parse(alloc, "http://h/")?;
+    let targets = Url::parse(alloc, "http://h/")?;
+    let mut vault = Vault::new(alloc, MemoryStore::new(alloc));
+    let load = RepositoryLoader::new(alloc, made.root().buffer().as_slice(), base, targets)
+        .transport(transport)
+        .verifier(DemoVerify)
+        .clock(FixedClock(jiff::Timestamp::UNIX_EPOCH))
+        .keeper(&mut vault)
+        .load()?;
+    let loaded = match drive(rt, load)? {
+        Ok(repository) => repository,
+        Err(error) => return Ok(format!(in alloc; "{error}")?),
+    };
+    let is_equal = is_same(alloc, made.root().signed(), loaded.root())?
+        && is_same(alloc, made.timestamp().signed(), loaded.timestamp())?
+        && is_same(alloc, made.snapshot().signed(), loaded.snapshot())?
+        && is_same(alloc, made.targets().signed(), loaded.targets())?
+        && has_documents(alloc, made, &loaded.targets().signed)?;
+    let told = if is_equal {
+        "loads equal"
+    } else {
+        "loads otherwise"
+    };
+    Ok(String::from_str(alloc, told)?)
+}
