@@ -83,31 +83,42 @@ fn take_all<R: Wait, J: Naming>(
     Ok((receipts, refused))
 }
 
-// How many receipts there are, whether their numbers are those of the journal, each once, and whether each one's entry stands at its number.
+// Marks the receipts' numbers, and tells whether each was unmarked and has its entry at its number.
+fn mark<J: Naming>(
+    closed: &ClosedStore<MemoryStore, J>,
+    receipts: &[Receipt<J>],
+    seen: &mut Vec<bool>,
+) -> bool {
+    let mut stands = true;
+    for receipt in receipts {
+        let place = usize::try_from(receipt.number()).unwrap_or(usize::MAX);
+        match seen.get_mut(place) {
+            Some(mark) if !*mark => *mark = true,
+            _ => stands = false,
+        }
+        stands = match closed.entry(receipt) {
+            Some(entry) => stands && is_entry(entry, receipt.entry()),
+            None => false,
+        };
+    }
+    stands
+}
+
+// How many entries and receipts there are, and whether each number is that of one receipt, whose entry stands there.
 fn stand<J: Naming>(
     alloc: Global,
     closed: &ClosedStore<MemoryStore, J>,
-    receipts: &[&[Receipt<J>]],
+    first: &[Receipt<J>],
+    second: &[Receipt<J>],
 ) -> Result<String> {
     let count = closed.journal().len();
+    let total = first.len().saturating_add(second.len());
     let mut seen = Vec::from_elem(alloc, false, count)?;
-    let (mut total, mut stands) = (0usize, true);
-    for list in receipts {
-        for receipt in list.iter() {
-            total = total.saturating_add(1);
-            let place = usize::try_from(receipt.number()).unwrap_or(usize::MAX);
-            match seen.get_mut(place) {
-                Some(mark) if !*mark => *mark = true,
-                _ => stands = false,
-            }
-            let Some(entry) = closed.entry(receipt) else {
-                stands = false;
-                continue;
-            };
-            stands = stands && is_entry(entry, receipt.entry());
-        }
-    }
-    let stands = stands && total == count;
+    let (one, other) = (
+        mark(closed, first, &mut seen),
+        mark(closed, second, &mut seen),
+    );
+    let stands = one && other && total == count;
     Ok(format!(in alloc; "{count} entries, {total} receipts, each at its number: {stands}")?)
 }
 
@@ -334,7 +345,7 @@ where
     let ((first, refused), (second, also)) = (first?, second?);
     match three.close() {
         Ok(closed) => {
-            let told = stand(alloc, &closed, &[first.as_slice(), second.as_slice()])?;
+            let told = stand(alloc, &closed, first.as_slice(), second.as_slice())?;
             Ok(format!(in alloc; "{told}{refused}{also}")?)
         }
         Err(_) => Ok(String::from_str(alloc, "a clone lives")?),
