@@ -1,2 +1,7 @@
 mod Pieces
 mod Beginnings
+mod Fetches
+mod Addings
+mod Firsts
+mod Verdicts
+mod Updatings
