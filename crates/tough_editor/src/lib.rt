@@ -6,8 +6,7 @@ mod error;
 mod fetch;
 mod targets;
 
-pub use add_role::{AddRole, NewRole, signing_keys};
+pub use add_role::AddRole;
 pub use error::wide;
-pub use fetch::{begin_role, document, fault};
 pub use targets::TargetsEditor;
 pub use tough_error::{Error, Result};

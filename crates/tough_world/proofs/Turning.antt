@@ -4,7 +4,7 @@ use Rattle.std.specs.Prelude.{slice_set, slice_index_or, Vec, ⊤}
 use Rattle.std.specs.declared.alloc.Global.{Global}
 use Rattle.tough_keys.specs.Same.{Verifies}
 use Rattle.tough_vault.specs.declared.entry.Entry.{Entry}
-use Rattle.tough_vault.specs.Journal.{Note, Last, no_tip, notes_of}
+use Rattle.tough_vault.specs.Journal.{Note, no_tip, notes_of}
 use Rattle.tough_vault.specs.Step.{Parts}
 use Rattle.tough_vault.specs.Stored.{Files}
 use Rattle.tough_update.specs.declared.machine.Core.{Core}
@@ -57,14 +57,6 @@ module _ {S : Type 0} (tells : Bool) (files : S → Files) (count : S → ℕ) (
   pub refused_turn : (old : WorldDoc S) (cores : List Core) (parts : Parts S) (load : ℕ) (answer : Answer) (c : Core) (q : Question) (e : TurnError) → cores ≡ old.cores → parts ≡ old.parts → slice_get old.cores load ≡ Some c → q ≡ question (core_doc c)
       → RepliesOr tells files count verifies q answer old.parts parts (Err e) → Turned tells files count verifies load answer old (record { cores = cores; parts = parts }) (Err e)
   refused_turn old cores parts load answer c q e same kept there is r = refused old cores parts load answer c e same kept there (subst (λ (x : Question). RepliesOr tells files count verifies x answer old.parts parts (Err e)) is r)
-
-  made : S → List Note → Last → Parts S
-  made store notes tip = record { store = store; notes = notes; tip = tip }
-
-  -- the parts of a new vault
-  pub fresh_parts : (p : Parts S) (store : S) → p.store ≡ store → p.notes ≡ [] → p.tip ≡ no_tip → p ≡ record { store = store; notes = []; tip = no_tip }
-  unfolding made
-  fresh_parts p store a b c = ap (λ (s : S). made s p.notes p.tip) a ∙ (ap (λ (ns : List Note). made store ns p.tip) b ∙ ap (λ (t : Last). made store [] t) c)
 
   pub lived_by : (w end : WorldDoc S) (l : Life) (j : List Note) (old new : S) → w.cores ≡ l.cores.items → w.parts ≡ record { store = old; notes = []; tip = no_tip } → Runs tells files count verifies w l.schedule.items end → end.parts.notes ≡ j → end.parts.store ≡ new → Lived tells files count verifies old l j new
   lived_by w end l j old new cores parts run notes store =
