@@ -20,7 +20,8 @@ use tough_update::{Answer, Ask, Core, Fault, Limits, Loaded, Request, UpdateErro
 use tough_vault::{Clock, ExpirationEnforcement};
 use url::Url;
 
-// The answers that one poll hands to the machine, before it lets other tasks run.
+// The answers that one poll hands to the machine, before it lets other tasks run. Of these one is that of a fetch, of which a poll takes
+// at most 64 pieces: so a poll of a load takes no more.
 const BUDGET: u32 = 64;
 
 /// A load that runs: the future of what an update comes to (TUF specification 5). It does what its machine asks for, and nothing else.
@@ -247,9 +248,14 @@ impl<T: Transport, K: Keeper, C: Clock + Drop, V: Verify + Drop> Future for Load
             (λ f. T.Stream.needs (collected f) s))) }
         ensures kept { Keeps cx.old cx.new }
     {
+        let mut collected = false;
         for _ in 0..BUDGET {
             if self.fetch.is_some() {
+                if collected {
+                    return cx.yield_now();
+                }
                 ready!(self.collect(cx));
+                collected = true;
             } else if let Some(outcome) = self.advance() {
                 return Poll::Ready(outcome);
             }

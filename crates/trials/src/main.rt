@@ -30,8 +30,9 @@ use std::thread::Threads;
 use std::{env, fs};
 use trials_calls::case::text;
 use trials_calls::judge::misses;
-use trials_calls::table::{CALLS, fault_of, place_of};
 use trials_editor::{editing, publishing, putting};
+use trials_hostile::{loading, stops};
+use trials_table::{CALLS, fault_of, place_of};
 use trials_world::{schedule, shared};
 
 // What a call on updates or errors answers.
@@ -64,6 +65,17 @@ fn of_editors(rt: &HostRuntime, call: &str, case: &Value) -> Result<Option<Strin
     })
 }
 
+// What a call on hostile servers or on stops answers.
+fn of_hostiles(rt: &HostRuntime, call: &str, case: &Value) -> Result<Option<String>> {
+    Ok(match call {
+        "Load::poll" => Some(loading::play(rt, case)?),
+        "Load::poll in pieces" => Some(loading::cut(rt, case)?),
+        "IntoVec::into_vec" => Some(loading::whole(rt, case)?),
+        "World::turn and a stop" => Some(stops::play(rt.alloc(), case)?),
+        _ => None,
+    })
+}
+
 // What the call of a case answers. The program waits by the second runtime.
 fn answer<R>(rt: &HostRuntime, waiting: &R, case: &Value) -> Result<String>
 where
@@ -90,6 +102,9 @@ where
         return Ok(told);
     }
     if let Some(told) = of_editors(rt, call, case)? {
+        return Ok(told);
+    }
+    if let Some(told) = of_hostiles(rt, call, case)? {
         return Ok(told);
     }
     of_updates(rt, call, case)

@@ -19,7 +19,6 @@ mod patterns;
 mod retries;
 pub mod shelf;
 mod streams;
-pub mod table;
 mod told;
 mod trees;
 pub mod vault;

@@ -29,6 +29,8 @@ pub enum Fault {
     LacksMemory,
     /// It fails, and so do all after it, as where the process has ended.
     Ends,
+    /// It fails, and the calls after it don't; where it is a write, it leaves the first byte of a document.
+    Spoils,
 }
 
 /// Files in memory. Where the timestamp is stuck, reading it gives the same bytes whatever was written.
@@ -49,6 +51,9 @@ fn fault_of(case: &Value) -> (Fault, u64) {
     }
     if let Some(left) = number(case, "lacks memory after") {
         return (Fault::LacksMemory, left);
+    }
+    if let Some(left) = number(case, "spoils after") {
+        return (Fault::Spoils, left);
     }
     (
         Fault::Fails,
@@ -190,6 +195,9 @@ impl Store for Shelf {
 
     fn write(&mut self, name: &str, bytes: &[u8]) -> Result<(), StoreError> {
         if let Err(error) = self.fail() {
+            if self.fault == Fault::Spoils {
+                let _ = self.files.write(name, b"{");
+            }
             return Err(error);
         }
         match self.files.write(name, bytes) {

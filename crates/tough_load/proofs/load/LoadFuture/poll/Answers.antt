@@ -3,7 +3,7 @@ use Rattle.tough_update.specs.View.{core_doc, outcome_doc}
 use Rattle.tough_load.specs.Words.{held_of}
 use Rattle.tough_load.proofs.Loads.{advances-trans, finishes-after, gives-after}
 use Rattle.tough_load.proofs.load.LoadFuture.poll.Goals as goal
-use Rattle.tough_load.proofs.load.LoadFuture.poll.Goals.{then-is_some+in-Ready-ready, else-is_some+in_default}
+use Rattle.tough_load.proofs.load.LoadFuture.poll.Goals.{then-is_some+else-collected+in-Ready-ready, else-is_some+in_default}
 
 pub returns-then-is_some-clause-goes : goal.returns-then-is_some-clause-goes
 returns-then-is_some-clause-goes g c = advances-trans g.T.Transport.refuses g.T.Transport.serves g.K.Keeper.keeps g.C.Clock.may_give g.T.Stream.Stream.yields g.V.Verify.verifies c.args.self.now c.loop.self c.collect.new.self c.loop.invariant.2 c.collect.ensures.goes
@@ -19,7 +19,7 @@ returns-in-Some-clause-done g c = finishes-after g.T.Transport.refuses g.T.Trans
 pub loop-preserved : goal.loop-preserved
 loop-preserved g c =
     elim c.if-is_some.branch [
-      | then-is_some+in-Ready-ready w ↦ (search rules, search rules, advances-trans g.T.Transport.refuses g.T.Transport.serves g.K.Keeper.keeps g.C.Clock.may_give g.T.Stream.Stream.yields g.V.Verify.verifies c.args.self.now c.loop.self c.if-is_some.self c.loop.invariant.2 (rw w.self-is w.collect.ensures.goes))
+      | then-is_some+else-collected+in-Ready-ready w ↦ (search rules, search rules, advances-trans g.T.Transport.refuses g.T.Transport.serves g.K.Keeper.keeps g.C.Clock.may_give g.T.Stream.Stream.yields g.V.Verify.verifies c.args.self.now c.loop.self c.if-is_some.self c.loop.invariant.2 (rw w.self-is w.collect.ensures.goes))
       | else-is_some+in_default w ↦ (search rules, search rules, advances-trans g.T.Transport.refuses g.T.Transport.serves g.K.Keeper.keeps g.C.Clock.may_give g.T.Stream.Stream.yields g.V.Verify.verifies c.args.self.now c.loop.self c.if-is_some.self c.loop.invariant.2 (rw w.self-is (w.advance.ensures.goes (search rules))))
     ]
 
@@ -29,5 +29,9 @@ returns-then-is_some-clause-same g c =
     λ r h. gives-after g.T.Transport.refuses g.T.Transport.serves g.K.Keeper.keeps g.C.Clock.may_give g.T.Stream.Stream.yields g.V.Verify.verifies c.args.self.now c.collect.new.self c.collect.new.self (outcome_doc r) went h
 
 pub returns-clause-same : goal.returns-clause-same
-returns-clause-same g c = rw c.yield_now.ensures.pending
+returns-clause-same g c = rw c.yield_now-2.ensures.pending
+    (λ r h. gives-after g.T.Transport.refuses g.T.Transport.serves g.K.Keeper.keeps g.C.Clock.may_give g.T.Stream.Stream.yields g.V.Verify.verifies c.args.self.now c.loop.self c.loop.self (outcome_doc r) c.loop.invariant.2 h)
+
+pub returns-then-collected-clause-same : goal.returns-then-collected-clause-same
+returns-then-collected-clause-same g c = rw c.yield_now.ensures.pending
     (λ r h. gives-after g.T.Transport.refuses g.T.Transport.serves g.K.Keeper.keeps g.C.Clock.may_give g.T.Stream.Stream.yields g.V.Verify.verifies c.args.self.now c.loop.self c.loop.self (outcome_doc r) c.loop.invariant.2 h)

@@ -1,14 +1,15 @@
-//! The calls that cases try.
+//! The calls that the cases of `trials` try.
+#![tactic(auto)]
 
-use crate::case::text;
 use serde_json::Value;
 use std::alloc::{AllocError, Global};
+use trials_calls::case::text;
 
 // The members of every case.
 const COMMON: &str = "call,name,answer,words";
 
 /// Each call, with the members of its cases, beside those of every case, and the members of the objects in their lists.
-pub const CALLS: [(&str, &str, &str); 85] = [
+pub const CALLS: [(&str, &str, &str); 89] = [
     ("TargetName::new", "input", ""),
     ("encode_filename", "input", ""),
     ("TargetName::cmp", "input,other", ""),
@@ -104,7 +105,7 @@ pub const CALLS: [(&str, &str, &str); 85] = [
     (
         "load",
         "loads,store,stuck,root,base,now,files,documents,find,scheme",
-        "now,base,root,files,unsafe,max_root_updates,max_timestamp_size,max_targets_size,keeps the vault,fails after,lacks memory after,ends after",
+        "now,base,root,files,unsafe,max_root_updates,max_timestamp_size,max_targets_size,keeps the vault,fails after,lacks memory after,ends after,spoils after",
     ),
     (
         "update over files",
@@ -116,6 +117,14 @@ pub const CALLS: [(&str, &str, &str); 85] = [
         "trusted,max_root_updates,answers,unsafe,now,files",
         "",
     ),
+    (
+        "Load::poll",
+        "root,now,files,len,polls,max_timestamp_size",
+        "pieces,piece,endless",
+    ),
+    ("Load::poll in pieces", "root,now,files,lengths", ""),
+    ("IntoVec::into_vec", "files,len,polls,url", ""),
+    ("World::turn and a stop", "root,now,files,older", ""),
     (
         "TargetsEditor",
         "role,steps,signers",
