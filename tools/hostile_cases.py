@@ -61,7 +61,7 @@ def cases():
     yield whole("of 100 pieces", "x" * 100, "100 bytes; 100 pieces, at most 64 in a poll; 2 polls, 0 of them asleep", len=1)
     yield whole("of empty pieces without end", endless(""), "waits; 192 pieces, at most 64 in a poll; 3 polls, 0 of them asleep", polls=3)
     load = "Load::poll"
-    yield polls(load, "of pieces of 1,000 bytes without end", ["maximum size 3000", "4 pieces, at most 4 in a poll"],
+    yield polls(load, "of pieces of 1,000 bytes without end", ["Maximum size 3000", "4 pieces, at most 4 in a poll"],
                 **EVER, files={**plain, "timestamp.json": endless("x" * 1000)}, max_timestamp_size=3000)
     yield polls(load, "of empty pieces without end", ["waits", "320 pieces, at most 64 in a poll; 5 polls, 0 of them asleep"],
                 **EVER, files={**plain, "timestamp.json": endless("")}, polls=5)
@@ -76,12 +76,12 @@ def cases():
     odd["timestamp.json"] = signed("timestamp", meta={"snapshot.json": {"version": 1, **file_of(snapshot)}}).decode()
     odd["snapshot.json"] = [snapshot.decode(), role]
     yield polls(load, "of roles named as other documents", ["targets 1", "3 delegated documents, kept 3, of 3 roles"], **EVER, files=odd)
-    for depth, words in ((127, ["targets 1"]), (128, ["timestamp"])):
+    for depth, words in ((127, ["targets 1"]), (128, ["Failed to parse timestamp metadata"])):
         files = repository(extra=nested(depth - 2))
         yield polls(load, f"of a timestamp that nests {depth} deep", words, **EVER, files=files)
     entry = {"version": 1}
-    yield polls(load, "of a timestamp with two entries", ["timestamp"], **EVER, files=repository(meta={"snapshot.json": entry, "x.json": entry}))
-    yield polls(load, "of a timestamp with another entry", ["timestamp"], **EVER, files=repository(meta={"x.json": entry}))
+    yield polls(load, "of a timestamp with two entries", ["Timestamp version 1 meta length 2 is not exactly one"], **EVER, files=repository(meta={"snapshot.json": entry, "x.json": entry}))
+    yield polls(load, "of a timestamp with another entry", ["No snapshot meta in timestamp.json version 1"], **EVER, files=repository(meta={"x.json": entry}))
     line = "\n  root 1 timestamp 1 snapshot 1 targets 1"
     yield {"call": "Load::poll in pieces", "name": "of 1, 2, 7 and 100 bytes", **EVER, "files": three, "lengths": [1, 2, 7, 100], "answer": line * 4}
     calls = ("open latest_known_time", "write latest_known_time", "write root", "open timestamp", "write timestamp", "open snapshot", "write snapshot", "write targets")
@@ -97,7 +97,7 @@ def cases():
     yield polls("load", "of an older timestamp after a write that spoiled the newer one, in the same life and in the next", words,
                 **EVER, base="http://h/m/", loads=lives)
     newer, older = repository(3, {"targets": "A", "A": "B", "B": ""}), repository(2, {"targets": "A", "A": "B", "B": ""})
-    yield polls("World::turn and a stop", "after each turn", ["turns", "timestamp 3 snapshot 3 targets 3, then ", "timestamp"],
+    yield polls("World::turn and a stop", "after each turn", ["timestamp 3 snapshot 3 targets 3, then Found version 2 of timestamp metadata when we had previously fetched version 3"],
                 **EVER, files=newer, older=older)
 
 
