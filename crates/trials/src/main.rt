@@ -6,17 +6,12 @@
 //! doesn't know is refused. At the end it prints which calls had no case.
 #![tactic(auto)]
 
-mod errors;
 mod exchange;
 mod fetch;
 mod gateway;
 mod http;
-mod load;
-mod outcome;
 mod program;
-mod saves;
 mod script;
-mod update;
 
 use anyhow::{Result, anyhow};
 use serde_json::Value;
@@ -32,6 +27,7 @@ use trials_calls::case::text;
 use trials_calls::judge::misses;
 use trials_editor::{editing, publishing, putting};
 use trials_hostile::{loading, stops};
+use trials_loads::{errors, load, saves, update};
 use trials_table::{CALLS, fault_of, place_of};
 use trials_world::{schedule, shared};
 

@@ -6,12 +6,11 @@ use bytes::Bytes;
 use jiff::Timestamp as Instant;
 use serde_json::Value;
 use std::alloc::Global;
-use tough::schema::{DemoVerify, Targets, Verify};
-use tough::{
-    Error, FixedClock, Keeper, Limits, MemoryTransport, Repository, RepositoryLoader, TargetName,
-    Transport, Vault, drive,
-};
+use tough_client::{Error, FixedClock, Keeper, Limits, Repository, RepositoryLoader, Vault, drive};
 use tough_ed25519::Ed25519Verify;
+use tough_names::TargetName;
+use tough_net::{MemoryTransport, Transport};
+use tough_schema::{DemoVerify, Targets, Verify};
 use trials_calls::case::{flag, list, number, text, text_of_either};
 use trials_calls::shelf::Shelf;
 use trials_calls::vault::enforcement;
@@ -38,7 +37,7 @@ fn served(alloc: Global, case: &Value, load: &Value) -> anyhow::Result<MemoryTra
 }
 
 /// The default limits, but for those that the case states.
-pub(crate) fn limits(case: &Value) -> Limits {
+pub fn limits(case: &Value) -> Limits {
     let mut limits = Limits::default();
     if let Some(updates) = number(case, "max_root_updates") {
         limits.max_root_updates = updates;
@@ -79,7 +78,7 @@ fn open_by<T: Transport, K: Keeper, V: Verify + Drop>(
 }
 
 /// The same by the scheme of the case: Ed25519 where it says so, else that for demonstrations.
-pub(crate) fn open<T: Transport, K: Keeper>(
+pub fn open<T: Transport, K: Keeper>(
     rt: &HostRuntime,
     load: &Value,
     case: &Value,
@@ -177,7 +176,7 @@ fn run_and_tell(
 /// Runs the loads of a case on one store, one after another, and tells of each what it came to and what the store then holds. Each has a
 /// vault of its own, as in a process of its own, but for those after which the case keeps the vault. A load says after how many calls its
 /// store fails, if it does.
-pub(crate) fn loads(rt: &HostRuntime, case: &Value) -> anyhow::Result<String> {
+pub fn loads(rt: &HostRuntime, case: &Value) -> anyhow::Result<String> {
     let alloc = rt.alloc();
     let mut told = String::new(alloc);
     let mut vault = Vault::new(alloc, Shelf::new(alloc, case)?);
@@ -196,7 +195,7 @@ pub(crate) fn loads(rt: &HostRuntime, case: &Value) -> anyhow::Result<String> {
 }
 
 /// What a load has counted before it runs.
-pub(crate) fn counts(alloc: Global, case: &Value) -> anyhow::Result<String> {
+pub fn counts(alloc: Global, case: &Value) -> anyhow::Result<String> {
     let mut vault = Vault::new(alloc, Shelf::new(alloc, case)?);
     let metadata = Url::parse(alloc, "http://h/m/")?;
     let targets = Url::parse(alloc, "http://h/t/")?;

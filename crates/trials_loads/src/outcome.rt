@@ -2,8 +2,9 @@
 
 use std::alloc::{AllocError, Global};
 use std::fmt::Display;
-use tough::schema::{self, Root, Signed, Snapshot, Targets, Timestamp};
-use tough::{Cause, Error, TransportError};
+use tough_client::Error;
+use tough_net::{Cause, TransportError};
+use tough_schema::{self as schema, Root, Signed, Snapshot, Targets, Timestamp};
 
 /// A value as a user reads it.
 pub(crate) fn shown<T: Display + Drop>(alloc: Global, value: T) -> Result<String, AllocError> {

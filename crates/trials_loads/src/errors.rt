@@ -4,8 +4,9 @@ use crate::outcome::shown;
 use anyhow::{Result, anyhow};
 use serde_json::Value;
 use std::alloc::Global;
-use tough::schema::{self, RoleType, Target};
-use tough::{OsFiles, TargetName};
+use tough_files::OsFiles;
+use tough_names::TargetName;
+use tough_schema::{self as schema, RoleType, Target};
 use trials_calls::case::text;
 
 // Those of documents, keys and texts.
@@ -53,7 +54,7 @@ fn of_paths(alloc: Global, name: &str) -> Result<Option<schema::Error>> {
 }
 
 /// A document's error of this name.
-pub(crate) fn told_of_schema(alloc: Global, case: &Value) -> Result<String> {
+pub fn told_of_schema(alloc: Global, case: &Value) -> Result<String> {
     let name = text(case, "name");
     if let Some(error) = of_schema(alloc, name)? {
         return Ok(shown(alloc, error)?);
@@ -65,7 +66,7 @@ pub(crate) fn told_of_schema(alloc: Global, case: &Value) -> Result<String> {
 }
 
 /// What a target of a file of the system is: its length, or why there is none.
-pub(crate) fn measured(rt: &HostRuntime, case: &Value) -> Result<String> {
+pub fn measured(rt: &HostRuntime, case: &Value) -> Result<String> {
     let alloc = rt.alloc();
     let mut files = OsFiles::new(rt.clone()?);
     let told = match Target::from_path(alloc, &mut files, text(case, "path")) {

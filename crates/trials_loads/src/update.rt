@@ -6,11 +6,9 @@ use anyhow::Result;
 use jiff::Timestamp as Instant;
 use serde_json::Value;
 use std::alloc::{AllocError, Global};
-use tough::schema::DemoVerify;
-use tough::{
-    Act, Answer, Ask, Core, Counts, Error, Fault, Limits, StepError, TransportError,
-    TransportErrorKind,
-};
+use tough_client::{Act, Answer, Ask, Core, Counts, Error, Fault, Limits, StepError};
+use tough_net::{TransportError, TransportErrorKind};
+use tough_schema::DemoVerify;
 use trials_calls::case::{list, text};
 use trials_calls::vault::enforcement;
 
@@ -115,7 +113,7 @@ fn with_end(alloc: Global, told: Result<String>, core: Core) -> Result<String> {
 }
 
 /// Plays an update: tells what it asks at first and after each answer of the case, and how it ended.
-pub(crate) fn play(alloc: Global, case: &Value) -> Result<String> {
+pub fn play(alloc: Global, case: &Value) -> Result<String> {
     let mut core = begin(alloc, case)?;
     let told = over_answers(alloc, &mut core, case);
     with_end(alloc, told, core)
@@ -156,14 +154,14 @@ fn over_files(alloc: Global, core: &mut Core, case: &Value) -> Result<String> {
 }
 
 /// Plays an update over the case's files: tells what it asks in turn, and how it ended.
-pub(crate) fn serve(alloc: Global, case: &Value) -> Result<String> {
+pub fn serve(alloc: Global, case: &Value) -> Result<String> {
     let mut core = begin(alloc, case)?;
     let told = over_files(alloc, &mut core, case);
     with_end(alloc, told, core)
 }
 
 // What an update has counted.
-pub(crate) fn counted(alloc: Global, counts: Counts) -> Result<String, AllocError> {
+pub fn counted(alloc: Global, counts: Counts) -> Result<String, AllocError> {
     format!(in alloc;
         "roots {}, delegated {}, kept {}, entries {}",
         counts.roots, counts.delegated, counts.kept, counts.entries
@@ -171,7 +169,7 @@ pub(crate) fn counted(alloc: Global, counts: Counts) -> Result<String, AllocErro
 }
 
 /// What an update over the case's files has counted at its end.
-pub(crate) fn counts(alloc: Global, case: &Value) -> Result<String> {
+pub fn counts(alloc: Global, case: &Value) -> Result<String> {
     let mut core = begin(alloc, case)?;
     let told = over_files(alloc, &mut core, case);
     let counts = core.counts();
@@ -181,7 +179,7 @@ pub(crate) fn counts(alloc: Global, case: &Value) -> Result<String> {
 }
 
 /// The limits that a load has where none are set.
-pub(crate) fn limits_by_default(alloc: Global) -> Result<String> {
+pub fn limits_by_default(alloc: Global) -> Result<String> {
     let limits = Limits::default();
     Ok(format!(in alloc;
         "{} {} {} {} {}",

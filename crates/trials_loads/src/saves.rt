@@ -6,11 +6,10 @@ use anyhow::Result;
 use bytes::Bytes;
 use serde_json::Value;
 use std::alloc::{AllocError, Global};
-use tough::files::{Call, Request};
-use tough::{
-    Clock, Error, Files, Keeper, MemoryFiles, MemoryTransport, Prefix, Receipt, Repository,
-    TargetName, Transport, Vault, finish,
-};
+use tough_client::{Clock, Error, Keeper, Prefix, Receipt, Repository, Vault, finish};
+use tough_files::{Call, Files, MemoryFiles, Request};
+use tough_names::TargetName;
+use tough_net::{MemoryTransport, Transport};
 use trials_calls::case::{flag, list, number, text};
 use trials_calls::shelf::Shelf;
 
@@ -278,7 +277,7 @@ fn play_by<K: Keeper<Receipt = Receipt>>(
 }
 
 /// Loads the repository of the case, saves a target of it or caches it, and tells what that came to, and which calls the files were given.
-pub(crate) fn play(rt: &HostRuntime, case: &Value) -> Result<String> {
+pub fn play(rt: &HostRuntime, case: &Value) -> Result<String> {
     let mut vault = Vault::new(rt.alloc(), Shelf::new(rt.alloc(), case)?);
     let told = play_by(rt, case, &mut vault);
     drop(vault);
