@@ -2,3 +2,4 @@ pub mod Wide
 pub mod Editors
 pub mod Fetched
 pub mod Adding
+pub mod Taking

@@ -4,6 +4,7 @@
 mod add_role;
 mod error;
 mod fetch;
+mod parts;
 mod targets;
 
 pub use add_role::AddRole;
