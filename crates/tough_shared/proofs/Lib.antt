@@ -1,6 +1,6 @@
 mod Fronts
 mod Adding
 mod Lined
-mod Going
+pub mod Going
 mod Telling
-mod Rising
+pub mod Rising

@@ -1,10 +1,10 @@
 -- Updates by their numbers, and runs and lives one turn and one life longer.
-use Rattle.std.proofs.Common.{◌≡◌, ℕ, zero, suc, List, [], ◌∷◌, ◌++◌, Option, Some, None, Bool, Result, Ok, Err, slice_get, ◌<◌, length, arith, refl, sym, ap, ◌∙◌, subst}
+use Rattle.std.proofs.Common.{◌≡◌, ℕ, zero, suc, List, [], ◌∷◌, ◌++◌, Option, Some, None, Bool, Result, Ok, Err, slice_get, ◌<◌, length, arith, refl, sym, ap, ◌∙◌, subst, append_assoc}
 use Rattle.std.specs.Prelude.{slice_set, slice_index_or, Vec, ⊤}
 use Rattle.std.specs.declared.alloc.Global.{Global}
 use Rattle.tough_keys.specs.Same.{Verifies}
 use Rattle.tough_vault.specs.declared.entry.Entry.{Entry}
-use Rattle.tough_vault.specs.Journal.{Note, no_tip, notes_of}
+use Rattle.tough_vault.specs.Journal.{Note, Last, no_tip, notes_of}
 use Rattle.tough_vault.specs.Step.{Parts}
 use Rattle.tough_vault.specs.Stored.{Files}
 use Rattle.tough_update.specs.declared.machine.Core.{Core}
@@ -58,6 +58,14 @@ module _ {S : Type 0} (tells : Bool) (files : S → Files) (count : S → ℕ) (
       → RepliesOr tells files count verifies q answer old.parts parts (Err e) → Turned tells files count verifies load answer old (record { cores = cores; parts = parts }) (Err e)
   refused_turn old cores parts load answer c q e same kept there is r = refused old cores parts load answer c e same kept there (subst (λ (x : Question). RepliesOr tells files count verifies x answer old.parts parts (Err e)) is r)
 
+  made : S → List Note → Last → Parts S
+  made store notes tip = record { store = store; notes = notes; tip = tip }
+
+  -- the parts of a new vault
+  pub fresh_parts : (p : Parts S) (store : S) → p.store ≡ store → p.notes ≡ [] → p.tip ≡ no_tip → p ≡ record { store = store; notes = []; tip = no_tip }
+  unfolding made
+  fresh_parts p store a b c = ap (λ (s : S). made s p.notes p.tip) a ∙ (ap (λ (ns : List Note). made store ns p.tip) b ∙ ap (λ (t : Last). made store [] t) c)
+
   pub lived_by : (w end : WorldDoc S) (l : Life) (j : List Note) (old new : S) → w.cores ≡ l.cores.items → w.parts ≡ record { store = old; notes = []; tip = no_tip } → Runs tells files count verifies w l.schedule.items end → end.parts.notes ≡ j → end.parts.store ≡ new → Lived tells files count verifies old l j new
   lived_by w end l j old new cores parts run notes store =
       (end, subst (λ (x : WorldDoc S). Runs tells files count verifies x l.schedule.items end) (same_world (begun l old) w.cores w.parts cores parts) run, notes, store)
@@ -74,3 +82,7 @@ module _ {S : Type 0} (tells : Bool) (files : S → Files) (count : S → ℕ) (
 pub journals_push : (js : List (Vec Entry Global)) (j : Vec Entry Global) → journals_of (js ++ j ∷ []) ≡ journals_of js ++ notes_of j.items ∷ []
 journals_push [] j = refl
 journals_push (x ∷ js) j = ap (λ (ys : List (List Note)). notes_of x.items ∷ ys) (journals_push js j)
+
+-- the lives that were, and those that are left, after one more
+pub life_more : (all seen left rest : List Life) (l : Life) → all ≡ seen ++ left → left ≡ l ∷ rest → all ≡ (seen ++ l ∷ []) ++ rest
+life_more all seen left rest l h e = h ∙ (ap (λ (ls : List Life). seen ++ ls) e ∙ sym (append_assoc seen (l ∷ []) rest))

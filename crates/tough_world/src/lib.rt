@@ -6,7 +6,7 @@ mod lives;
 mod turns;
 mod world;
 
-pub use lives::Life;
+pub use lives::{Life, run_lives};
 pub use tough_update::{Core, Entry, Fault, Store, Vault};
 pub use turns::{Answer, Turn, TurnError};
 pub use world::World;

@@ -1,0 +1,4 @@
+//! The receipts of a load: laws alone.
+#![tactic(auto)]
+
+pub mod laws;
