@@ -119,6 +119,7 @@ pub use tough_world::Life;
 pub use tough_world::Turn;
 pub use tough_world::TurnError;
 pub use tough_world::World;
+pub use tough_world::run_lives;
 pub use url::ParseError;
 pub use url::Url;
 pub use waiting::drive_on;

@@ -46,8 +46,8 @@ use Rattle.tough_release.specs.Documents.{Metas, with_role_meta, with_role_metas
 use Rattle.tough_release.specs.Edits.{ReleaseDoc}
 use Rattle.tough_release.specs.Repository.{root_of, targets_of, snapshot_of, timestamp_of, delegated_of}
 use Rattle.tough_release.specs.declared.repository.SignedRepository.{SignedRepository}
-use Rattle.tough_round.specs.Files.{root_in_it, timestamp_in_it, snapshot_in_it, tree_in_it, targets_version, files_of, known_of, loaded_of}
-use Rattle.tough_round.specs.Roles.{role_name, role_version}
+use Rattle.tough_round.specs.Files.{root_in_it, timestamp_in_it, snapshot_in_it, tree_in_it, targets_version, written, files_of, known_of, loaded_of}
+use Rattle.tough_round.specs.Roles.{role_name, role_version, role_file}
 use Rattle.tough_round.specs.Loading.{IsRoleName, Vouch, IsSound, MayLoad}
 use Rattle.tough_round.proofs.Escaping.{escapes}
 use Rattle.tough_round.proofs.Filed.{IsFiled}
@@ -55,7 +55,7 @@ use Rattle.tough_round.proofs.Listing.{with_json, listed, listed-one, listed-fir
 use Rattle.tough_round.proofs.Names.{same-bytes}
 use Rattle.tough_round.proofs.Reading.{snapshot-small, targets-read, root-read}
 use Rattle.tough_round.proofs.Rooting.{root-stored}
-use Rattle.tough_round.proofs.Serving.{Page, Repo, IsOk, IsProper, IsServed as AreServed, served, map-all}
+use Rattle.tough_round.proofs.Serving.{Page, Repo, IsOk, IsProper, IsServed as AreServed, served, map-all, all-mapped}
 use Rattle.tough_round.proofs.Standings.{IsKept, standing-names, standing-among, standing-all, distinct-roles, page-read, page-stored, page-version}
 use Rattle.tough_round.proofs.Trees.{weaker-below, both-below, Both, all-entries, below-entries, named-entries}
 
@@ -177,6 +177,10 @@ module _ (apart : EncodesApart) (v : Verifies) (s : SettingDoc) (start : ℤ) (e
 
   there : AreServed IsUtf8 filename_of role_name page repo
   there = served IsUtf8 filename_of role_name page (escapes apart) repo proper
+
+  -- each file is found under its name
+  pub all-found : AllByRecursion (λ f. files_of r f.0 ≡ Some f.1) (written r)
+  all-found = (there.root, (there.targets, (there.snapshot, (there.timestamp, all-mapped (role_file c) (λ f. files_of r f.0 ≡ Some f.1) ds there.roles))))
 
   -- ---- what is listed
 

@@ -1,5 +1,6 @@
 -- A repository that was signed is loadable.
-use Rattle.std.proofs.Common.{ℕ, ℤ, List}
+use Rattle.std.proofs.Common.{◌≡◌, ℕ, ℤ, List, Some}
+use Rattle.std.specs.List.{AllByRecursion}
 use Rattle.tough_names.specs.Apart.{EncodesApart}
 use Rattle.tough_keys.specs.Key.{KeyDoc}
 use Rattle.tough_keys.specs.Same.{Verifies}
@@ -13,10 +14,10 @@ use Rattle.tough_release.specs.Edits.{ReleaseDoc}
 use Rattle.tough_release.specs.Release.{json_of_snapshot, json_of_timestamp, IsReleased}
 use Rattle.tough_release.specs.Repository.{root_of}
 use Rattle.tough_release.specs.declared.repository.SignedRepository.{SignedRepository}
-use Rattle.tough_round.specs.Files.{root_in_it, files_of, loaded_of}
+use Rattle.tough_round.specs.Files.{root_in_it, written, files_of, loaded_of}
 use Rattle.tough_round.specs.Loading.{MayLoad}
 use Rattle.tough_round.proofs.Filed.{made-filed}
-use Rattle.tough_round.proofs.Loadables.{keys-rise-below, keys-rise-top, loadable}
+use Rattle.tough_round.proofs.Loadables.{all-found, keys-rise-below, keys-rise-top, loadable}
 use Rattle.tough_round.proofs.Reading.{root-read}
 use Rattle.tough_round.proofs.Signing.{ReachesRoot, ReachesBelow, targets-reach, vouched-below, snapshot-reaches, timestamp-reaches}
 
@@ -35,3 +36,8 @@ released-loads key_of signs apart snapshots timestamps roots belows v s start si
     (snapshot-reaches key_of signs signers v well released.closed r made sorted snapshots)
     (targets-reach key_of signs signers v well roots belows s start e released.closed r may released.closes made sorted top below)
     (vouched-below key_of signs signers v well roots belows s start e released.closed r may released.closes made sorted top below)
+
+pub released-found : {S : Type 0} (key_of : S → KeyDoc) (signs : S → List ℕ → List ℕ → Type 0) → EncodesApart
+    → (v : Verifies) (s : SettingDoc) (start : ℤ) (signers : List S) (e : ReleaseDoc) (r : SignedRepository) → IsReleased key_of signs signers e r → MayLoad v s start e r
+    → AllByRecursion (λ f. files_of r f.0 ≡ Some f.1) (written r)
+released-found key_of signs apart v s start signers e r released may = all-found apart v s start e r may (made-filed key_of signs signers released.closed r released.made)

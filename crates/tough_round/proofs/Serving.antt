@@ -20,6 +20,10 @@ pub map-all : {X : Type 0} (P Q : X → Type 0) (es : List X) → ((e : X) → P
 map-all P Q [] f a = tt
 map-all P Q (e ∷ es) f a = (f e a.0, map-all P Q es f a.1)
 
+pub all-mapped : {X Y : Type 0} (f : X → Y) (P : Y → Type 0) (es : List X) → ((e : X) → IsAmong e es → P (f e)) → AllByRecursion P (map f es)
+all-mapped f P [] h = tt
+all-mapped f P (e ∷ es) h = (h e (inl refl), all-mapped f P es (λ x i. h x (inr i)))
+
 -- no name stands twice
 abbrev pub AreDistinct : {D : Type 0} → (D → List ℕ) → List D → Type 0
 AreDistinct name [] = Unit {0}
@@ -139,6 +143,7 @@ module _ {D : Type 0} (IsName : List ℕ → Type 0) (enc : List ℕ → List �
 
   -- each file is found under its name, and none under that of the next root
   pub record IsServed (r : Repo D) : Type 0 where
+    pub root : lookup (bytes_eq (versioned r.root.version (codes "root.json"))) (files_in r) ≡ Some r.root.bytes
     pub next : lookup (bytes_eq (versioned (r.root.version + 1) (codes "root.json"))) (files_in r) ≡ None
     pub timestamp : lookup (bytes_eq (codes "timestamp.json")) (files_in r) ≡ Some r.timestamp.bytes
     pub snapshot : lookup (bytes_eq (file_name r.consistent r.snapshot.version (codes "snapshot.json"))) (files_in r) ≡ Some r.snapshot.bytes
@@ -226,6 +231,7 @@ module _ {D : Type 0} (IsName : List ℕ → Type 0) (enc : List ℕ → List �
 
     pub served : IsServed r
     served = record {
+      root = here root_name (root_name, r.root.bytes) after_root refl;
       next = next_none;
       timestamp =
           skip (codes "timestamp.json") (root_name, r.root.bytes) after_root (λ h. root_not_timestamp r.root.version root_small (sym h))

@@ -1,6 +1,7 @@
 //! A signed repository, and a load of its files.
 
-ghost use Rattle.std.specs.Prelude.{◌≡◌, ℤ, List, Ok, true, Result};
+ghost use Rattle.std.specs.Prelude.{◌≡◌, ℤ, List, Ok, Some, true, Result};
+ghost use Rattle.std.specs.List.{AllByRecursion};
 ghost use Rattle.tough_keys.specs.Same.{Verifies};
 ghost use Rattle.tough_sign.specs.Making.{SignWell};
 ghost use Rattle.tough_trust.specs.Failure.{Failure};
@@ -16,7 +17,7 @@ ghost use Rattle.tough_honest.specs.Loads.{ServesAll, ShowsOnly};
 ghost use Rattle.tough_release.specs.Edits.{ReleaseDoc};
 ghost use Rattle.tough_release.specs.Release.{IsReleased};
 ghost use Rattle.tough_release.specs.declared.repository.SignedRepository.{SignedRepository};
-ghost use Rattle.tough_round.specs.Files.{files_of, loaded_of};
+ghost use Rattle.tough_round.specs.Files.{written, files_of, loaded_of};
 ghost use Rattle.tough_round.specs.Loading.{MayLoad};
 
 use tough_keys::Sign;
@@ -38,6 +39,17 @@ pub fn released_is_loadable<S: Sign>()
     tough_signed::laws::signed_reaches::<Snapshot, S>();
     tough_signed::laws::signed_reaches::<Timestamp, S>();
     tough_signed::laws::signed_reaches::<DelegatedTargets, S>();
+}
+
+/// Each file of a repository that `RepositoryEdits::sign` made is found under its name, where `MayLoad` holds: no two
+/// have one name and different bytes.
+pub fn released_is_found<S: Sign>()
+    ensures { (verifies : Verifies) (s : SettingDoc) (start : ℤ) (signers : List S)
+        (e : ReleaseDoc) (r : SignedRepository) → IsReleased S.key S.signs signers e r
+        → MayLoad verifies s start e r
+        → AllByRecursion (λ f. files_of r f.0 ≡ Some f.1) (written r) }
+{
+    tough_names::encodes_apart();
 }
 
 /// What was signed is loaded equal: root, timestamp, snapshot, and the targets with the documents of all delegated roles. The load is one

@@ -7,12 +7,12 @@ use Rattle.tough_save.specs.Scripts.{Script}
 use Rattle.tough_write.specs.declared.error.OutputError.{OutputError}
 use Rattle.tough_write.specs.Steps.{Done, EachOf}
 
-module _ {X : Type 0} (does : X → Done → Script) where
-  front : (xs : List X) (i : ℕ) (x : X) → i < length xs → x ≡ get_or xs i x → drop i xs ≡ x ∷ drop (i + 1) xs
-  front xs i x less is =
-      let P : X → Type 0 = λ y. drop i xs ≡ y ∷ drop (i + 1) xs in
-      subst P (sym is) (rw (add-one, drop-cons xs i x less) refl)
+pub front : {X : Type 0} (xs : List X) (i : ℕ) (x : X) → i < length xs → x ≡ get_or xs i x → drop i xs ≡ x ∷ drop (i + 1) xs
+front {X} xs i x less is =
+    let P : X → Type 0 = λ y. drop i xs ≡ y ∷ drop (i + 1) xs in
+    subst P (sym is) (rw (add-one, drop-cons xs i x less) refl)
 
+module _ {X : Type 0} (does : X → Done → Script) where
   -- none is left
   pub each_end : (xs : List X) (i : ℕ) (old : List Told) → length xs ≤ i → EachOf does (drop i xs) (Ok tt) old old
   each_end xs i old past = rw (drop_all i xs past) (refl, tt)

@@ -1,6 +1,8 @@
 mod Telling
 mod Each
 mod Wrote
+mod Filled
+mod ReadBack
 mod Choosing
 mod Listings
 mod Walked

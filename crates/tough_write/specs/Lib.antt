@@ -2,6 +2,7 @@ pub mod Errors
 pub mod Steps
 pub mod Existing
 pub mod Writing
+pub mod Filling
 pub mod Listed
 pub mod Putting
 pub mod Walking

@@ -2,6 +2,7 @@
 #![tactic(auto)]
 
 mod error;
+pub mod laws;
 mod path_exists;
 mod put;
 mod target_files;

@@ -1,8 +1,13 @@
 //! Signed roles are written into a folder.
 
 ghost use Rattle.std.specs.Prelude.{◌≡◌, ℕ, List, [], ◌∷◌, Bool, true, IfOk, map, string_bytes};
+ghost use Rattle.tough_files.specs.Calls.{create_at, append_to, done};
+ghost use Rattle.tough_files.specs.Changes as changes;
+ghost use Rattle.tough_files.specs.Contents.{Same, followed};
 ghost use Rattle.tough_signed.specs.Standing.{roles_of};
-ghost use Rattle.tough_write.specs.Steps.{IfMemory, MakesFolders, Resolves};
+ghost use Rattle.tough_write.specs.Filling as fill;
+ghost use Rattle.tough_write.specs.Steps.{Does, IfMemory, MakesFolders, Resolves};
+ghost use Rattle.tough_write.specs.declared.error.OutputError.TheVariants as error;
 ghost use Rattle.tough_write.specs.Writing.{FileDoc, file_doc, Writes, WritesRole, WritesAll, role_file, role_files, roles_file, repository_files};
 
 use crate::error::{OutputError, Step, refusal};
@@ -11,7 +16,6 @@ use std::path::Path;
 use tough_files::Files;
 use tough_release::SignedRepository;
 use tough_roles::Role;
-use tough_save::write_file;
 use tough_signed::{SignedDelegatedTargets, SignedRole};
 
 /// A file to be written: its name, and its bytes.
@@ -27,8 +31,10 @@ pub(crate) fn make_folders<F: Files>(
     files: &mut F,
     path: &str,
 ) -> Result<(), OutputError>
-    ensures { F.tells ≡ true
+    ensures calls { F.tells ≡ true
         → MakesFolders path.now result (F.calls files.old) (F.calls files.new) }
+    ensures contents { F.tells ≡ true → IfOk result (λ u. changes.MakesFolders path.now
+        (F.contents files.old) done (F.contents files.new)) }
 {
     match files.make_folders(path) {
         Ok(()) => Ok(()),
@@ -42,12 +48,48 @@ pub(crate) fn resolve<F: Files>(
     files: &mut F,
     path: &str,
 ) -> Result<String, OutputError>
-    ensures { F.tells ≡ true
+    ensures calls { F.tells ≡ true
         → Resolves path.now result (F.calls files.old) (F.calls files.new) }
+    ensures contents { F.tells ≡ true
+        → IfOk result (λ real. (string_bytes real ≡ followed (F.contents files.old) path.now)
+        × Same (F.contents files.old) (F.contents files.new)) }
 {
     match files.canonical(path) {
         Ok(path) => Ok(path),
         Err(error) => Err(refusal(alloc, Step::Resolve, path, error)),
+    }
+}
+
+// Makes an empty file, or empties the one that is there.
+fn create<F: Files>(alloc: Global, files: &mut F, path: &str) -> Result<(), OutputError>
+    ensures calls { F.tells ≡ true → Does (create_at path.now) error.FileWrite path.now result
+        (F.calls files.old) (F.calls files.new) }
+    ensures contents { F.tells ≡ true → IfOk result (λ u. changes.Gives
+        (changes.create_outcome path.now (F.contents files.old)) (F.contents files.old) done
+        (F.contents files.new)) }
+{
+    match files.create(path) {
+        Ok(()) => Ok(()),
+        Err(error) => Err(refusal(alloc, Step::Write, path, error)),
+    }
+}
+
+// Appends the bytes to the file.
+fn append<F: Files>(
+    alloc: Global,
+    files: &mut F,
+    path: &str,
+    bytes: &[u8],
+) -> Result<(), OutputError>
+    ensures calls { F.tells ≡ true → Does (append_to path.now bytes.now) error.FileWrite path.now
+        result (F.calls files.old) (F.calls files.new) }
+    ensures contents { F.tells ≡ true → IfOk result (λ u. changes.Gives
+        (changes.append_outcome path.now bytes.now (F.contents files.old)) (F.contents files.old)
+        done (F.contents files.new)) }
+{
+    match files.append(path, bytes) {
+        Ok(()) => Ok(()),
+        Err(error) => Err(refusal(alloc, Step::Write, path, error)),
     }
 }
 
@@ -58,17 +100,18 @@ fn write<F: Files>(
     path: &str,
     bytes: &[u8],
 ) -> Result<(), OutputError>
-    ensures { F.tells ≡ true
+    ensures calls { F.tells ≡ true
         → Writes path.now bytes.now result (F.calls files.old) (F.calls files.new) }
+    ensures contents { F.tells ≡ true → IfOk result (λ u. fill.IsPut path.now bytes.now
+        (F.contents files.old) (F.contents files.new)) }
 {
-    match write_file(files, path, bytes) {
-        Ok(()) => Ok(()),
-        Err(error) => Err(refusal(alloc, Step::Write, path, error)),
-    }
+    create(alloc, files, path)?;
+    append(alloc, files, path, bytes)
 }
 
-/// Writes the file of a signed role into the folder, under this name. The refusals, in this order: `DirCreate` where the folder can't be made;
-/// `AbsolutePath` where its canonical path can't be found; `FileWrite`.
+/// Writes the file of a signed role into the folder, under this name. On files that tell their contents the file then holds the buffer, and
+/// nothing else is changed but that the folder and those above it are there. The refusals, in this order: `DirCreate` where the folder can't
+/// be made; `AbsolutePath` where its canonical path can't be found; `FileWrite`.
 pub fn write_role<F: Files>(
     alloc: Global,
     files: &mut F,
@@ -76,9 +119,11 @@ pub fn write_role<F: Files>(
     name: &str,
     buffer: &[u8],
 ) -> Result<(), OutputError>
-    ensures { F.tells ≡ true
+    ensures calls { F.tells ≡ true
         → WritesRole outdir.now (name.now, buffer.now) result (F.calls files.old)
         (F.calls files.new) }
+    ensures contents { F.tells ≡ true → IfOk result (λ u. fill.IsPutIn outdir.now
+        (name.now, buffer.now) (F.contents files.old) (F.contents files.new)) }
 {
     make_folders(alloc, files, outdir)?;
     let folder = resolve(alloc, files, outdir)?;
@@ -93,9 +138,11 @@ pub fn write_roles<F: Files>(
     outdir: &str,
     roles: &[NamedFile<'_>],
 ) -> Result<(), OutputError>
-    ensures { F.tells ≡ true
+    ensures calls { F.tells ≡ true
         → WritesAll outdir.now (map file_doc roles.now) result (F.calls files.old)
         (F.calls files.new) }
+    ensures contents { F.tells ≡ true → IfOk result (λ u. fill.Fills outdir.now
+        (map file_doc roles.now) (F.contents files.old) (F.contents files.new)) }
 {
     for role in roles {
         write_role(alloc, files, outdir, role.name.as_str(), role.bytes)?;
@@ -125,9 +172,12 @@ pub trait WriteSigned {
         outdir: &str,
         consistent_snapshot: bool,
     ) -> Result<(), OutputError>
-        ensures { F.tells ≡ true
+        ensures calls { F.tells ≡ true
             → IfMemory (WritesAll outdir.now (written self.now consistent_snapshot)) result
             (F.calls files.old) (F.calls files.new) }
+        ensures contents { F.tells ≡ true
+            → IfOk result (λ u. fill.Fills outdir.now (written self.now consistent_snapshot)
+            (F.contents files.old) (F.contents files.new)) }
     {
         let roles = self.named_files(alloc, consistent_snapshot)?;
         write_roles(alloc, files, outdir, &roles)

@@ -7,8 +7,8 @@ pub returns-in_err-folder : goal.returns-in_err-folder
 returns-in_err-folder g c = λ tells. inr (
   c.in_ok-make_folders.field-0,
   g.F.Files.calls c.make_folders.new.files,
-  c.in_ok-make_folders.ensures tells,
-  inl (c.in_err-folder.field-0.0, c.in_err-folder.ensures tells, search rules),
+  c.in_ok-make_folders.ensures.calls tells,
+  inl (c.in_err-folder.field-0.0, c.in_err-folder.ensures.calls tells, search rules),
 )
 
 pub returns : goal.returns
@@ -18,6 +18,6 @@ returns g c = λ tells.
     inr (
       c.in_ok-make_folders.field-0,
       g.F.Files.calls c.make_folders.new.files,
-      c.in_ok-make_folders.ensures tells,
-      inr (c.in_ok-folder.folder, mid, c.in_ok-folder.ensures tells, subst P c.as_str-root.ensures.value (c.walk.ensures tells)),
+      c.in_ok-make_folders.ensures.calls tells,
+      inr (c.in_ok-folder.folder, mid, c.in_ok-folder.ensures.calls tells, subst P c.as_str-root.ensures.value (c.walk.ensures tells)),
     )

@@ -1,0 +1,3 @@
+mod RelativeNames
+mod AskedNames
+mod LatestFiles
