@@ -57,6 +57,7 @@ fn of_editors(rt: &HostRuntime, call: &str, case: &Value) -> Result<Option<Strin
         "TargetFiles" => Some(putting::play(rt.alloc(), case)?),
         "write_roles" => Some(putting::write(rt.alloc(), case)?),
         "World" => Some(schedule::play(rt.alloc(), case)?),
+        "run_lives" => Some(schedule::live(rt.alloc(), case)?),
         _ => None,
     })
 }

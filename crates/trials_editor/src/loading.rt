@@ -2,8 +2,10 @@
 
 use anyhow::Result;
 use std::alloc::{AllocGlobal, Global};
+use std::num::NonZeroU64;
 use std::random::RandomSource;
-use tough_client::{FixedClock, MemoryStore, RepositoryLoader, Vault, drive};
+use tough_client::{FixedClock, MemoryStore, RepositoryLoader, RepositoryParts, Vault, drive};
+use tough_editor::TargetsEditor;
 use tough_json::Form;
 use tough_net::MemoryTransport;
 use tough_release::SignedRepository;
@@ -35,11 +37,31 @@ fn has_documents(alloc: Global, made: &SignedRepository, targets: &Targets) -> R
     Ok(true)
 }
 
-/// What a load of the repository by its first root comes to, from below `http://h/`, and whether it gives what was signed.
+// What an editor of a role of a loaded repository builds under version 9.
+fn opened(alloc: Global, parts: RepositoryParts<MemoryTransport>, role: &str) -> Result<String> {
+    let mut editor = match TargetsEditor::from_repo(alloc, parts, role) {
+        Ok(editor) => editor,
+        Err(error) => return Ok(format!(in alloc; "{error}")?),
+    };
+    let next = NonZeroU64::new(9).unwrap_or(NonZeroU64::MIN);
+    editor.version(next).expires(tough_demo::expires()?);
+    match editor.build_targets() {
+        Ok(document) => {
+            let count = document.targets.targets.len();
+            let (name, version) = (document.name.as_str(), document.targets.version);
+            Ok(format!(in alloc; "{name} {version} opens with {count} targets")?)
+        }
+        Err(error) => Ok(format!(in alloc; "{error}")?),
+    }
+}
+
+/// What a load of the repository by its first root comes to, from below `http://h/`, and whether it gives what was signed; or what an editor of this role of
+/// the loaded repository builds.
 pub(crate) fn load_back<R>(
     rt: &R,
     made: &SignedRepository,
     transport: MemoryTransport,
+    role: Option<&str>,
 ) -> Result<String>
 where
     R: RandomSource + AllocGlobal,
@@ -58,6 +80,9 @@ where
         Ok(repository) => repository,
         Err(error) => return Ok(format!(in alloc; "{error}")?),
     };
+    if let Some(role) = role {
+        return opened(alloc, loaded.into_parts(), role);
+    }
     let is_equal = is_same(alloc, made.root().signed(), loaded.root())?
         && is_same(alloc, made.timestamp().signed(), loaded.timestamp())?
         && is_same(alloc, made.snapshot().signed(), loaded.snapshot())?

@@ -195,8 +195,14 @@ where
     };
     let consistent = flag(case, "consistent");
     let files = written(alloc, &made, consistent)?;
-    let loaded = load_back(rt, &made, served(alloc, &made, consistent)?)?;
-    Ok(format!(in alloc; "{files}\n  {loaded}")?)
+    let loaded = load_back(rt, &made, served(alloc, &made, consistent)?, None)?;
+    let mut told = format!(in alloc; "{files}\n  {loaded}")?;
+    for role in list(case, "opens") {
+        let transport = served(alloc, &made, consistent)?;
+        let line = load_back(rt, &made, transport, role.as_str())?;
+        told.push_str(format!(in alloc; "\n  {line}")?.as_str())?;
+    }
+    Ok(told)
 }
 
 /// What each step of a case answers on an editor over the root at `/root.json`, and then what signing comes to.

@@ -9,7 +9,7 @@ use trials_calls::case::text;
 const COMMON: &str = "call,name,answer,words";
 
 /// Each call, with the members of its cases, beside those of every case, and the members of the objects in their lists.
-pub const CALLS: [(&str, &str, &str); 89] = [
+pub const CALLS: [(&str, &str, &str); 90] = [
     ("TargetName::new", "input", ""),
     ("encode_filename", "input", ""),
     ("TargetName::cmp", "input,other", ""),
@@ -122,6 +122,7 @@ pub const CALLS: [(&str, &str, &str); 89] = [
         "root,now,files,len,polls,max_timestamp_size",
         "pieces,piece,endless",
     ),
+    ("run_lives", "trusted,files,lives", "loads,turns"),
     ("Load::poll in pieces", "root,now,files,lengths", ""),
     ("IntoVec::into_vec", "files,len,polls,url", ""),
     ("World::turn and a stop", "root,now,files,older", ""),
@@ -132,7 +133,7 @@ pub const CALLS: [(&str, &str, &str); 89] = [
     ),
     (
         "RepositoryEditor",
-        "files,steps,signers,consistent",
+        "files,steps,signers,consistent,opens",
         "op,name,version,content,path,signers,pattern,threshold",
     ),
     (

@@ -9,16 +9,16 @@ use tough_net::{Limits, TransportError, TransportErrorKind};
 use tough_schema::DemoVerify;
 use tough_update::{Ask, Core, Fault};
 use tough_vault::{MemoryStore, Vault};
-use tough_world::{Answer, Turn, World};
+use tough_world::{Answer, Life, Turn, World, run_lives};
 use trials_calls::case::{flag, list, number, text};
 use trials_calls::vault::enforcement;
 
 type Memory = World<MemoryStore, DemoVerify>;
 
-// Updates by the root of the case, as many as it says.
-fn updates(alloc: Global, case: &Value) -> Result<Vec<Core>> {
+// Updates by the root of the case, as many as a life says.
+fn updates(alloc: Global, case: &Value, life: &Value) -> Result<Vec<Core>> {
     let mut cores = Vec::new(alloc);
-    for _ in 0..number(case, "loads").unwrap_or(1) {
+    for _ in 0..number(life, "loads").unwrap_or(1) {
         let trusted = Vec::from_slice(alloc, text(case, "trusted").as_bytes())?;
         cores.push(Core::new(trusted, limits(case), enforcement(case)))?;
     }
@@ -87,24 +87,56 @@ fn turn_by_turn(alloc: Global, world: &mut Memory, case: &Value) -> Result<Strin
     Ok(told)
 }
 
-// Runs the turns as one schedule.
-fn run(alloc: Global, world: &mut Memory, case: &Value) -> Result<String> {
+// The turns of a life as one schedule.
+fn schedule_of(alloc: Global, case: &Value, life: &Value) -> Result<Vec<Turn>> {
     let mut schedule = Vec::new(alloc);
-    for turn in list(case, "turns") {
+    for turn in list(life, "turns") {
         let answer = answer(alloc, case, turn)?;
         schedule.push(Turn {
             load: load_of(turn),
             answer,
         })?;
     }
+    Ok(schedule)
+}
+
+// Runs the turns as one schedule.
+fn run(alloc: Global, world: &mut Memory, case: &Value) -> Result<String> {
+    let schedule = schedule_of(alloc, case, case)?;
     world.run(schedule);
     Ok(String::new(alloc))
+}
+
+// The lives of the case.
+fn lives_of(alloc: Global, case: &Value) -> Result<Vec<Life>> {
+    let mut lives = Vec::new(alloc);
+    for life in list(case, "lives") {
+        let cores = updates(alloc, case, life)?;
+        let schedule = schedule_of(alloc, case, life)?;
+        lives.push(Life { cores, schedule })?;
+    }
+    Ok(lives)
+}
+
+/// The journals of the lives of a case on one store, one after another.
+pub fn live(alloc: Global, case: &Value) -> Result<String> {
+    let lives = lives_of(alloc, case)?;
+    let journals = match run_lives(alloc, MemoryStore::new(alloc), DemoVerify, lives) {
+        Ok((_, journals)) => journals,
+        Err((error, _)) => return Err(error.into()),
+    };
+    let mut told = String::new(alloc);
+    for entries in &journals {
+        let line = journal(alloc, entries.as_slice())?;
+        told.push_str(format!(in alloc; "\n  {line}")?.as_str())?;
+    }
+    Ok(told)
 }
 
 /// What the turns of a case answer, the journal after them, and what each update asks for then.
 pub fn play(alloc: Global, case: &Value) -> Result<String> {
     let vault = Vault::new(alloc, MemoryStore::new(alloc));
-    let mut world = World::new(alloc, vault, DemoVerify, updates(alloc, case)?);
+    let mut world = World::new(alloc, vault, DemoVerify, updates(alloc, case, case)?);
     let told = if flag(case, "whole") {
         run(alloc, &mut world, case)?
     } else {
