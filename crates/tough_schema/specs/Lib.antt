@@ -13,6 +13,8 @@ pub mod Verify
 pub mod Entries
 pub mod Strays
 pub mod Gather
+pub mod Numbered
+pub mod Nodes
 pub mod Seek
 pub mod Seeking
 pub mod Fresh
