@@ -9,6 +9,7 @@ use Rattle.tough_schema.specs.Tree.{Listing}
 use Rattle.tough_schema.specs.Whole.{TreeDoc, tree, Branches, no_branches, unloaded, loaded}
 use Rattle.tough_schema.specs.Preorder.{Occurrence, stop, preorder, preorder_below}
 use Rattle.tough_schema.specs.Search.{Names, is_new, add, reached_from, earlier, first_end, is_before, searched, listed, first_listed, listings, listing_at}
+use Rattle.tough_schema.specs.Found.{last_end}
 use Rattle.tough_schema.specs.Walk.{Answer, found, stopped, passed, at_end, ends}
 use Rattle.tough_names.specs.Named.{Named}
 
@@ -230,6 +231,10 @@ end_of-permissive (o ∷ xs) = elim o.role.0.terminating as (λ (b : Bool). (if 
 end_of-strict : (xs : List Occurrence) → end_of false xs ≡ first_end xs
 end_of-strict [] = refl
 end_of-strict (o ∷ xs) = rw (end_of-strict xs) (elim o.role.0.terminating as (λ (b : Bool). (if b && true then earlier (stop o) (first_end xs) else first_end xs) ≡ (if b then earlier (stop o) (first_end xs) else first_end xs)) [ true ↦ refl | false ↦ refl ])
+
+pub end_of-last : (permissive : Bool) (xs : List Occurrence) → end_of permissive xs ≡ last_end permissive xs
+end_of-last true xs = end_of-permissive xs
+end_of-last false xs = end_of-strict xs
 
 pub before_end-searched : (permissive : Bool) (xs : List Occurrence) → before_end permissive xs ≡ searched permissive xs
 before_end-searched true xs = rw (end_of-permissive xs) (filter-all xs)

@@ -15,6 +15,9 @@ pub mod Strays
 pub mod Gather
 pub mod Numbered
 pub mod Nodes
+pub mod Found
+pub mod Visited
+pub mod Rest
 pub mod Seek
 pub mod Seeking
 pub mod Fresh

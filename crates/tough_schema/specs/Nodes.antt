@@ -6,3 +6,7 @@ use Rattle.tough_schema.specs.Numbered.{Span, node_spans}
 
 abbrev pub nodes_doc : Nodes → TreeDoc × List Span
 nodes_doc n = (tree_doc n.top.now, node_spans n.entries.items)
+
+-- the document with those of its roles
+abbrev pub tree_of : Nodes → TreeDoc
+tree_of n = (nodes_doc n).0

@@ -35,7 +35,7 @@ pub use copy::copy_listing;
 pub use delegations::{DelegatedRole, Delegations, PathSet};
 pub use file_digest::FileError;
 pub use key_holder::KeyHolder;
-pub use nodes::Nodes;
+pub use nodes::{Found, Nodes};
 pub use target::Target;
 pub use targets::{DelegatedTargets, Targets};
 pub use tough_json::{CjsonError, canonical};
