@@ -8,7 +8,7 @@ pub mod Whole
 pub mod Preorder
 pub mod Search
 pub mod Marks
-pub mod Walk
+pub mod Visited
 pub mod Verify
 pub mod Entries
 pub mod Strays
@@ -16,7 +16,6 @@ pub mod Gather
 pub mod Numbered
 pub mod Nodes
 pub mod Found
-pub mod Visited
 pub mod Rest
 pub mod Seek
 pub mod Seeking

@@ -10,6 +10,7 @@ ghost use Rattle.tough_schema.specs.Found.{lists, document_of};
 ghost use Rattle.tough_schema.specs.Rest.{sight, names_then, end_then, past_to, into_from, course_then, IsOn};
 
 use crate::delegations::DelegatedRole;
+use crate::target::Target;
 use crate::targets::Targets;
 use std::alloc::{AllocError, Global};
 use std::collections::BTreeSet;
@@ -227,11 +228,13 @@ impl Course {
 impl<'a> Nodes<'a> {
     ghost use Rattle.std.specs.Prelude.{◌≡◌, length, option_map, IfOk, IfErr};
     ghost use Rattle.tough_roles.specs.declared.error.Error.TheVariants as errors;
+    ghost use Rattle.tough_schema.specs.Target.{target_doc};
     ghost use Rattle.tough_schema.specs.Whole.{tree_doc};
     ghost use Rattle.tough_schema.specs.Preorder.{preorder_below};
     ghost use Rattle.tough_schema.specs.Numbered.{spans};
     ghost use Rattle.tough_schema.specs.Nodes.{nodes_doc, tree_of};
-    ghost use Rattle.tough_schema.specs.Found.{found_at, tested, document_at};
+    ghost use Rattle.tough_schema.specs.Search.{search};
+    ghost use Rattle.tough_schema.specs.Found.{found_at, tested, document_at, listed_at};
     ghost use Rattle.tough_schema.specs.Rest.{whole};
 
     /// Numbers a document and the delegated roles of its tree (section 4.5). `Memory` is the only refusal.
@@ -314,6 +317,35 @@ impl<'a> Nodes<'a> {
         match self.entries.get(number - 1) {
             Some(node) => document_of(node.role),
             None => None,
+        }
+    }
+
+    // What the document of a number lists under the name.
+    pub(crate) fn target(&self, number: usize, name: &TargetName) -> Option<&'a Target>
+        ensures { option_map (λ t. target_doc t.now) result
+            ≡ listed_at number name.now (tree_of self.now) }
+    {
+        match self.document(number) {
+            Some(document) => document.targets.get(name),
+            None => None,
+        }
+    }
+
+    // The target that a search finds.
+    pub(crate) fn find(
+        &self,
+        alloc: Global,
+        name: &TargetName,
+        permissive: bool,
+    ) -> Result<Option<&'a Target>, Error>
+        ensures found { IfOk result (λ o. option_map (λ t. target_doc t.now) o
+            ≡ search permissive name.now (tree_of self.now)) }
+        ensures refused { IfErr result (λ e. e ≡ errors.Memory) }
+    {
+        let found = self.search(alloc, name, permissive)?;
+        match found.node {
+            Some(number) => Ok(self.target(number, name)),
+            None => Ok(None),
         }
     }
 }
