@@ -21,7 +21,7 @@ pub within-weaker : (a b c d : ℕ) (xs : List Occurrence) → c ≤ a → b ≤
 within-weaker a b c d [] l h x = tt
 within-weaker a b c d (o ∷ xs) l h x = (omega (arith, x.0), omega (arith, x.1), within-weaker a b c d xs l h x.2)
 
-within-cond : (a b : ℕ) (t : Bool) (xs ys : List Occurrence) → Within a b xs → Within a b ys → Within a b (if t then xs else ys)
+pub within-cond : (a b : ℕ) (t : Bool) (xs ys : List Occurrence) → Within a b xs → Within a b ys → Within a b (if t then xs else ys)
 within-cond a b true xs ys x y = x
 within-cond a b false xs ys x y = y
 

@@ -295,6 +295,12 @@ tests-are p name end zero seen k b (o ∷ os) st w =
 
 -- ---- the whole search
 
+-- all of them stand within the tree
+bounds-below : (t : TreeDoc) → Within 0 (length (preorder_below 0 t)) (preorder_below 0 t)
+bounds-below t =
+    let os = preorder_below 0 t in
+    let same : 0 + length os ≡ length os = omega arith in subst (λ (n : ℕ). Within 0 n os) same (within-below 0 t)
+
 not_top : (p : Bool) (name : Named) (t : TreeDoc) → is_some (listed name (listing_of t)) ≡ false → first_number name (searched p (reached name t)) ≡ found_at p name t
 not_top p name t h = rw h refl
 
@@ -304,7 +310,7 @@ whole-node p name t h =
     let os = preorder_below 0 t in
     let n = length os in
     let xs = reached name t in
-    let bounds = within-below 0 t in
+    let bounds = bounds-below t in
     let inner = within-reached 0 n name 0 no_names os bounds in
     node-is p name n 0 no_names 0 n os (starts-below 0 t) bounds
     ∙ ap (first_number name) (caps n (end_of p xs) xs inner (end-within p 0 n xs inner) ∙ before_end-searched p xs)
@@ -320,7 +326,7 @@ whole-tests p name t h =
     let n = length os in
     let xs = reached name t in
     let cs = compared name t in
-    let bounds = within-below 0 t in
+    let bounds = bounds-below t in
     let inner = within-reached 0 n name 0 no_names os bounds in
     tests-are p name n 0 no_names 0 n os (starts-below 0 t) bounds
     ∙ end-cases n (whole p name t).node (end_of p xs) (last_end p xs) cs (within-compared 0 n name 0 no_names os bounds) (end-within p 0 n xs inner) (end_of-last p xs)
@@ -335,7 +341,7 @@ top-tests p name t h =
     let n = length (preorder_below 0 t) in
     let cs = compared name t in
     sym (ap (λ (node : Option ℕ). length (filter (is_before (option_or node (last_end p (reached name t)))) cs)) (sym (top-node p name t h))
-    ∙ ap length (filter-drops 0 n 0 cs (within-compared 0 n name 0 no_names (preorder_below 0 t) (within-below 0 t)) (omega arith)))
+    ∙ ap length (filter-drops 0 n 0 cs (within-compared 0 n name 0 no_names (preorder_below 0 t) (bounds-below t)) (omega arith)))
 
 -- ---- how far a search has come
 
