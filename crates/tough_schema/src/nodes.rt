@@ -187,40 +187,39 @@ fn end_then(role: &DelegatedRole, stop: usize, end: usize, permissive: bool) -> 
 }
 
 impl Course {
-    // Past the subtree of a role.
-    fn past(self, node: Node<'_>, tests: u64) -> Course
-        ensures { result ≡ past_to node.end tests self }
+    // Past a subtree, which ends at this place.
+    fn past(self, end: usize, tests: u64) -> Course
+        ensures { result ≡ past_to end tests self }
     {
         Course {
-            at: node.end,
+            at: end,
             end: self.end,
             tests,
         }
     }
 
     // Into the subtree of a role, whose path set was compared.
-    fn into(self, node: Node<'_>, permissive: bool) -> Course
-        requires { IsOn self node.end }
-        ensures { result ≡ into_from permissive (role_tree node.role.now).0 node.end self }
+    fn into(self, role: &DelegatedRole, end: usize, permissive: bool) -> Course
+        requires { IsOn self end }
+        ensures { result ≡ into_from permissive (role_tree role.now).0 end self }
     {
         Course {
             at: self.at + 1,
-            end: end_then(node.role, node.end, self.end, permissive),
+            end: end_then(role, end, self.end, permissive),
             tests: self.tests + 1,
         }
     }
 
-    // How far a search has come that goes on after a role.
-    fn then(self, sight: Sight, node: Node<'_>, permissive: bool) -> Course
-        requires { IsOn self node.end }
-        ensures { result
-            ≡ course_then permissive sight (role_tree node.role.now).0 node.end self }
+    // How far a search has come that goes on after a role, whose subtree ends at this place.
+    fn then(self, sight: Sight, role: &DelegatedRole, end: usize, permissive: bool) -> Course
+        requires { IsOn self end }
+        ensures { result ≡ course_then permissive sight (role_tree role.now).0 end self }
     {
         match sight {
-            Sight::Known => self.past(node, self.tests),
-            Sight::Other => self.past(node, self.tests + 1),
-            Sight::Lists => self.into(node, permissive),
-            Sight::Open => self.into(node, permissive),
+            Sight::Known => self.past(end, self.tests),
+            Sight::Other => self.past(end, self.tests + 1),
+            Sight::Lists => self.into(role, end, permissive),
+            Sight::Open => self.into(role, end, permissive),
         }
     }
 }
@@ -278,7 +277,7 @@ impl<'a> Nodes<'a> {
                         tests: course.tests + 1,
                     });
                 }
-                sight => course = course.then(sight, node, permissive),
+                sight => course = course.then(sight, node.role, node.end, permissive),
             }
         }
         Ok(Found {
