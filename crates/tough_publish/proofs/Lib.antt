@@ -1,2 +1,4 @@
 mod Pieces
 mod Beginnings
+mod Fetches
+mod Addings

@@ -1,3 +1,5 @@
 pub mod Editors
 pub mod Files
 pub mod Roots
+pub mod Fetching
+pub mod Adding
