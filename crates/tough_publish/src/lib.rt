@@ -5,11 +5,15 @@ mod add_role;
 mod close;
 mod fetch;
 mod file;
+mod place;
 mod repository;
 mod root;
 mod targets;
+mod update;
+mod verify;
 
 pub use add_role::AddRole;
 pub use repository::RepositoryEditor;
 pub use tough_error::{Error, Result};
 pub use tough_release::{RepositoryEdits, SignedRepository};
+pub use update::UpdateDelegatedTargets;

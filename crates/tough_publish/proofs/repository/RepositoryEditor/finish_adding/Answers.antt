@@ -12,3 +12,6 @@ returns-in-Ok-clause-ended g c =
 
 pub returns-clause-ended : goal.returns-clause-ended
 returns-clause-ended g c = unread (role_doc c.args.role.now) c.args.outcome c.read_document.result c.in-Err.error (editor_doc c.args.self.now).edits c.in-Err.is c.read_document.ensures
+
+pub returns-in-Err-clause-ended : goal.returns-in-Err-clause-ended
+returns-in-Err-clause-ended g c = unread (role_doc c.args.role.now) c.args.outcome c.read_document.result c.in-Err.error (editor_doc c.args.self.now).edits c.in-Err.is c.read_document.ensures
