@@ -125,7 +125,7 @@ module _ {T S : Type 0} (refuses : T → Parts → TransportError → Type 0) (s
 
   -- ---- a poll
 
-  pub unbegun : (u : Option UpdateDoc) (w : Error) → IsUnbegun refuses serves yields v e text name w → Updates refuses serves yields v e text name None u e.edits (Err w)
+  pub unbegun : (u : Option UpdateDoc) (w : Error) → IsUnbegun refuses serves yields e text name w → Updates refuses serves yields v e text name None u e.edits (Err w)
   unbegun u w (inl h) = inl (w, h, refl, refl)
   unbegun u w (inr h) = inr (Err w, inl h, refl, refl)
 
@@ -142,7 +142,7 @@ module _ {T S : Type 0} (refuses : T → Parts → TransportError → Type 0) (s
 
   -- ---- from where the future stands
 
-  pub polled_unbegun : (o : Option (Collect S)) (u : Option UpdateDoc) → o ≡ None → (w : Error) → IsUnbegun refuses serves yields v e text name w → Updates refuses serves yields v e text name o u e.edits (Err w)
+  pub polled_unbegun : (o : Option (Collect S)) (u : Option UpdateDoc) → o ≡ None → (w : Error) → IsUnbegun refuses serves yields e text name w → Updates refuses serves yields v e text name o u e.edits (Err w)
   polled_unbegun o u is w h = subst (λ z. Updates refuses serves yields v e text name z u e.edits (Err w)) (sym is) (unbegun u w h)
 
   pub polled : (o : Option (Collect S)) (f : Collect S) (u : Option UpdateDoc) (out : Result (Vec ℕ Global) TransportError) (new : ReleaseDoc) (r : Result (Unit {0}) Error) → o ≡ Some f → Collects (bounds_of f) (yields (collected f)) (held_by f) out

@@ -91,6 +91,16 @@ abbrev pub Takes : Verifies → ReleaseDoc → List ℕ → SignedDoc TreeDoc �
 Takes v e n role (Err w) goes new result = IsRefused w e new result
 Takes v e n role (Ok s) goes new result = ((w : Error) × IsUntakable v role.role n s w × IsRefused w e new result) ⊎ (IsTakable v role.role n s × goes (with_new n s role))
 
+module _ {T : Type 0} where
+  -- there are no limits, or no transport, or no targets
+  abbrev pub IsUnready : EditorDoc ReleaseDoc T → Error → Type 0
+  IsUnready e w = IsUnable e w ⊎ (IsAble e × (w ≡ wide.NoTargets) × (e.edits.targets ≡ None))
+
+module _ {T S : Type 0} (refuses : T → Parts → TransportError → Type 0) (serves : T → Parts → Runs Item) (yields : S → Runs Item) where
+  -- or the fetch of the role's document can't begin
+  abbrev pub IsUnbegun : EditorDoc ReleaseDoc T → List ℕ → List ℕ → Error → Type 0
+  IsUnbegun e text name w = IsUnready e w ⊎ IsUnfetchable refuses serves yields e text name w
+
 module _ {T S : Type 0} (refuses : T → Parts → TransportError → Type 0) (serves : T → Parts → Runs Item) (yields : S → Runs Item) (v : Verifies) (e : EditorDoc ReleaseDoc T) (text name : List ℕ) where
   -- the documents of these new roles are fetched, one after another, and the role's document takes its place
   abbrev pub Completes : List (List ℕ) → SignedDoc TreeDoc → ReleaseDoc → Result (Unit {0}) Error → Type 0
@@ -110,18 +120,10 @@ module _ {T S : Type 0} (refuses : T → Parts → TransportError → Type 0) (s
   Gains None read new result = Follows read new result
   Gains (Some u) read new result = Takes v e.edits u.name u.role read (λ next. Completes u.names next new result) new result
 
-  -- there are no limits, or no transport, or no targets
-  abbrev pub IsUnready : Error → Type 0
-  IsUnready w = IsUnable e w ⊎ (IsAble e × (w ≡ wide.NoTargets) × (e.edits.targets ≡ None))
-
-  -- or the fetch of the role's document can't begin
-  abbrev pub IsUnbegun : Error → Type 0
-  IsUnbegun w = IsUnready w ⊎ IsUnfetchable refuses serves yields e text name w
-
   -- what comes of the update: from its start, or once a fetch has begun
   abbrev pub Updates : Option (Collect S) → Option UpdateDoc → ReleaseDoc → Result (Unit {0}) Error → Type 0
   Updates None u new result =
-      ((w : Error) × IsUnready w × IsRefused w e.edits new result) ⊎ ((read : Result (Signed Targets) Error) × Fetches refuses serves yields None e text name read × Follows read new result)
+      ((w : Error) × IsUnready e w × IsRefused w e.edits new result) ⊎ ((read : Result (Signed Targets) Error) × Fetches refuses serves yields None e text name read × Follows read new result)
   Updates (Some f) u new result = (read : Result (Signed Targets) Error) × Fetches refuses serves yields (Some f) e text name read × Gains u read new result
 
   -- ---- words of private clauses
@@ -132,16 +134,16 @@ module _ {T S : Type 0} (refuses : T → Parts → TransportError → Type 0) (s
   Steps may new (Err w) = may new (Err w)
   Steps may new (Ok (Some p)) = (new ≡ e.edits) × ((after : ReleaseDoc) (r : Result (Unit {0}) Error) → Updates (Some p.0) (Some (update_doc p.1)) after r → may after r)
 
-  -- the fetch that has begun, if one has, can be polled
-  abbrev pub CanGoOn : (S → Type 0) → Result (Option (Collect S × Update)) Error → Type 0
-  CanGoOn can_poll (Ok o) = IfSome o (λ p. CanPoll can_poll p.0)
-  CanGoOn can_poll (Err w) = ⊤
-
   -- by what was fetched
   abbrev pub GainsBy : Option UpdateDoc → Result (Vec ℕ Global) TransportError → ReleaseDoc → Result (Unit {0}) Error → Type 0
   GainsBy u outcome new result = (read : Result (Signed Targets) Error) × Reads outcome read × Gains u read new result
 
 module _ {S : Type 0} where
+  -- the fetch that has begun, if one has, can be polled
+  abbrev pub CanGoOn : (S → Type 0) → Result (Option (Collect S × Update)) Error → Type 0
+  CanGoOn can_poll (Ok o) = IfSome o (λ p. CanPoll can_poll p.0)
+  CanGoOn can_poll (Err w) = ⊤
+
   -- the step is the last, and it ended so
   abbrev pub HasEnded : Result (Option (Collect S × Update)) Error → Result (Unit {0}) Error → Type 0
   HasEnded (Ok None) r = r ≡ Ok tt
