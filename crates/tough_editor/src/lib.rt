@@ -7,8 +7,7 @@ mod fetch;
 mod parts;
 mod targets;
 
-pub use add_role::{AddRole, NewRole, signing_keys};
+pub use add_role::AddRole;
 pub use error::wide;
-pub use fetch::{begin_role, document, fault};
 pub use targets::TargetsEditor;
 pub use tough_error::{Error, Result};
