@@ -58,7 +58,7 @@ impl From<ExpirationEnforcement> for bool {
 #[derive(Debug, Drop, thiserror::Error)]
 pub enum Refusal {
     /// A later time than this moment was noted before.
-    #[error("System time stepped backward: {sys_time} is before {latest_known_time}")]
+    #[error("System time stepped backward: {sys_time} is before {latest_known_time} (latest_known_time.json)")]
     SystemTimeSteppedBackward {
         /// This moment.
         sys_time: Instant,

@@ -217,7 +217,7 @@ impl Display for Cause {
                 specifier,
             } => write!(
                 f,
-                "Maximum size {max_size} (specified by {specifier}) exceeded"
+                "Maximum size of {max_size} bytes (specified by {specifier}) exceeded"
             ),
             Cause::HashMismatch {
                 context,
@@ -241,7 +241,10 @@ impl Error for Cause {}
 impl Display for TransportError {
     fn fmt<W: fmt::Write>(&self, f: &mut Formatter<W>) -> fmt::Result {
         let (kind, url) = (self.kind, Shown(self.url()));
-        write!(f, "Transport '{kind}' error fetching '{url}'")?;
+        match kind {
+            TransportErrorKind::Other => write!(f, "Transport error fetching '{url}'")?,
+            kind => write!(f, "Transport '{kind}' error fetching '{url}'")?,
+        }
         match &self.cause {
             Some(cause) => write!(f, ": {cause}"),
             None => Ok(()),

@@ -34,7 +34,7 @@ pub(crate) fn tell<W: Write>(error: &Error, f: &mut Formatter<W>) -> fmt::Result
             specifier,
         } => write!(
             f,
-            "Maximum size {max_size} (specified by {specifier}) exceeded"
+            "Maximum size of {max_size} bytes (specified by {specifier}) exceeded"
         ),
         Error::FileUrl { path } => write!(f, "Can't build URL from relative path '{path}'"),
         _ => unreachable!(),

@@ -15,7 +15,7 @@ pub(crate) fn tell<W: Write>(error: &Error, f: &mut Formatter<W>) -> fmt::Result
             latest_known_time,
         } => write!(
             f,
-            "System time stepped backward: {sys_time} is before {latest_known_time}"
+            "System time stepped backward: {sys_time} is before {latest_known_time} (latest_known_time.json)"
         ),
         Error::OlderMetadata {
             role,
