@@ -1,16 +1,18 @@
 -- What a search finds is what the document of its number lists.
 use Rattle.std.proofs.Common.{◌≡◌, ◌↔◌, ℕ, zero, suc, ◌+◌, ◌≤◌, List, [], ◌∷◌, ◌++◌, length, filter, cond, slice_get, Bool, true, false, Option, Some, None, is_some, option_map, option_and_then, refl, sym, ap, subst, ◌∙◌, arith, append_assoc, length-append, if◌then◌else◌}
 use Rattle.std.proofs.lemmas.List.{length-map}
+use Rattle.std.proofs.lemmas.Option.{slice_get-map}
 use Rattle.std.specs.List.{cons_option}
 use Rattle.std.specs.Option.{option_or}
 use Rattle.tough_names.specs.Named.{Named}
 use Rattle.tough_schema.specs.Target.{TargetDoc}
 use Rattle.tough_schema.specs.Tree.{Listing}
 use Rattle.tough_schema.specs.Whole.{TreeDoc, tree, HeldDoc, RoleTree, listing_of}
-use Rattle.tough_schema.specs.Preorder.{Occurrence, preorder_below}
+use Rattle.tough_schema.specs.Preorder.{Occurrence, stop, preorder_below}
 use Rattle.tough_schema.specs.Search.{Names, no_names, add, matches, is_new, reached_from, reached, is_before, first_end, searched, listed, first_listed, listing_at, listings, search}
 use Rattle.tough_schema.specs.Entries.{entries}
-use Rattle.tough_schema.specs.Found.{lists, lists_in, first_number, found_at, document_of, document_at, listed_at, compared_from, compared, end_of_search, tested, FindsByNumber}
+use Rattle.tough_schema.specs.Numbered.{Span}
+use Rattle.tough_schema.specs.Found.{lists, lists_in, first_number, found_at, document_of, listed_at, compared_from, compared, end_of_search, tested, FindsByNumber}
 use Rattle.tough_schema.proofs.Rests.{Starts, starts-below}
 
 -- ---- each role stands at its place
@@ -55,17 +57,18 @@ placed-searched all false xs x = placed-filter all (is_before (first_end xs)) xs
 
 -- ---- the first that lists the name
 
-abbrev listed_in : Named → Option Listing → Option TargetDoc
-listed_in name o = option_and_then (listed name) o
+abbrev listed_by : Named → Option Listing → Option TargetDoc
+listed_by name o = option_and_then (listed name) o
 
 listing_found : (name : Named) (h : Option HeldDoc) → option_and_then (listed name) (option_map (λ d. listing_of d.below) h) ≡ option_and_then (λ d. listed name (listing_of d)) (option_map (λ (d : HeldDoc). d.below) h)
 listing_found name None = refl
 listing_found name (Some h) = refl
 
-document-at : (t : TreeDoc) (name : Named) (o : Occurrence) (k : ℕ) → slice_get (preorder_below 0 t) o.start ≡ Some o → k ≡ suc o.start → listed_at k name t ≡ listed_in name (listing_at o)
+document-at : (t : TreeDoc) (name : Named) (o : Occurrence) (k : ℕ) → slice_get (preorder_below 0 t) o.start ≡ Some o → k ≡ suc o.start → listed_at k name t ≡ listed_by name (listing_at o)
 document-at t name o k h e =
+    let span : Occurrence → Span = λ y. (y.role, stop y) in
     ap (λ (i : ℕ). listed_at i name t) e
-    ∙ ap (λ (x : Option Occurrence). option_and_then (λ d. listed name (listing_of d)) (option_and_then (λ (y : Occurrence). document_of y.role) x)) h
+    ∙ ap (λ (x : Option Span). option_and_then (λ d. listed name (listing_of d)) (option_and_then (λ (s : Span). document_of s.0) x)) (slice_get-map span (preorder_below 0 t) o.start ∙ ap (option_map span) h)
     ∙ sym (listing_found name o.role.1)
 
 first-here : (x rest found : Option TargetDoc) (n : Option ℕ) (start k : ℕ) → (n ≡ Some k → rest ≡ found) → (k ≡ suc start → x ≡ found) → (if is_some x then Some (start + 1) else n) ≡ Some k → option_or x rest ≡ found
@@ -77,7 +80,7 @@ first-at : (name : Named) (t : TreeDoc) (o : Occurrence) (k : ℕ) (l : Option L
     → (n ≡ Some k → first_listed name ls ≡ listed_at k name t) → (if lists_in name l then Some (o.start + 1) else n) ≡ Some k → first_listed name (cons_option l ls) ≡ listed_at k name t
 first-at name t o k None ls n e h rest is = rest is
 first-at name t o k (Some l) ls n e h rest is =
-    first-here (listed name l) (first_listed name ls) (listed_at k name t) n o.start k rest (λ place. sym (document-at t name o k h place ∙ ap (listed_in name) e)) is
+    first-here (listed name l) (first_listed name ls) (listed_at k name t) n o.start k rest (λ place. sym (document-at t name o k h place ∙ ap (listed_by name) e)) is
 
 first-number : (name : Named) (t : TreeDoc) (os : List Occurrence) (k : ℕ) → Placed (preorder_below 0 t) os → first_number name os ≡ Some k → first_listed name (listings os) ≡ listed_at k name t
 first-number name t [] k p is = cc

@@ -20,8 +20,8 @@ use Rattle.tough_schema.specs.Preorder.{Occurrence, stop, preorder_below}
 use Rattle.tough_schema.specs.Search.{listed, IsNotFound}
 use Rattle.tough_schema.specs.Entries.{first_missing, IsInvalid}
 use Rattle.tough_schema.specs.Visited.{names_in}
-use Rattle.tough_schema.specs.Found.{lists, lists_in, document_of, document_at, listed_at}
-use Rattle.tough_schema.specs.Numbered.{Span, spans, node_spans}
+use Rattle.tough_schema.specs.Found.{lists, lists_in, document_of, document_in, listed_in}
+use Rattle.tough_schema.specs.Numbered.{Span, node_spans}
 use Rattle.tough_schema.proofs.lemmas.Walks.{listed-get}
 use Rattle.tough_schema.proofs.Listings.{listing-tree}
 use Rattle.tough_schema.proofs.lemmas.Wholes.{role-held, role-named, held-below}
@@ -51,40 +51,21 @@ seen-name set r b h = ap (names_in set) (role-named r) ∙ h
 
 -- ---- the document of a number
 
-role-of : (x : Option Occurrence) → option_map (λ (s : Span). s.0) (option_map (λ (o : Occurrence). (o.role, stop o)) x) ≡ option_map (λ (o : Occurrence). o.role) x
-role-of None = refl
-role-of (Some o) = refl
-
-role-of_node : (x : Option Node) → option_map (λ (s : Span). s.0) (option_map (λ (n : Node). (role_tree n.role.now, n.end)) x) ≡ option_map (λ (n : Node). role_tree n.role.now) x
-role-of_node None = refl
-role-of_node (Some n) = refl
-
--- the role at a place
-role-at : (os : List Occurrence) (k : ℕ) → option_map (λ (s : Span). s.0) (slice_get (spans os) k) ≡ option_map (λ (o : Occurrence). o.role) (slice_get os k)
-role-at os k = ap (option_map (λ (s : Span). s.0)) (slice_get-map (λ (o : Occurrence). (o.role, stop o)) os k) ∙ role-of (slice_get os k)
-
-role-at_node : (ns : List Node) (k : ℕ) → option_map (λ (s : Span). s.0) (slice_get (node_spans ns) k) ≡ option_map (λ (n : Node). role_tree n.role.now) (slice_get ns k)
-role-at_node ns k = ap (option_map (λ (s : Span). s.0)) (slice_get-map (λ (n : Node). (role_tree n.role.now, n.end)) ns k) ∙ role-of_node (slice_get ns k)
-
-through : (x : Option Occurrence) → option_and_then (λ (o : Occurrence). document_of o.role) x ≡ option_and_then document_of (option_map (λ (o : Occurrence). o.role) x)
-through None = refl
-through (Some o) = refl
-
-document-node : (ns : List Node) (t : TreeDoc) (m : ℕ) (x : Option Node) → node_spans ns ≡ spans (preorder_below 0 t) → (m ≡ 0 → ⊥) → slice_get ns (m - 1) ≡ x → document_at m t ≡ option_and_then document_of (option_map (λ (n : Node). role_tree n.role.now) x)
-document-node ns t m x h positive is =
-    let os = preorder_below 0 t in
+document-node : (ns : List Node) (t : TreeDoc) (m : ℕ) (x : Option Node) → (m ≡ 0 → ⊥) → slice_get ns (m - 1) ≡ x → document_in m (t, node_spans ns) ≡ option_and_then (λ (s : Span). document_of s.0) (option_map (λ (n : Node). (role_tree n.role.now, n.end)) x)
+document-node ns t m x positive is =
+    let shown : Node → Span = λ n. (role_tree n.role.now, n.end) in
     let k = m - 1 in
     let number : m ≡ suc k = omega (arith, positive) in
-    ap (λ (i : ℕ). document_at i t) number ∙ through (slice_get os k)
-    ∙ ap (option_and_then document_of) (sym (role-at os k) ∙ ap (λ (l : List Span). option_map (λ (s : Span). s.0) (slice_get l k)) (sym h) ∙ role-at_node ns k ∙ ap (option_map (λ (n : Node). role_tree n.role.now)) is)
+    ap (λ (i : ℕ). document_in i (t, node_spans ns)) number
+    ∙ ap (option_and_then (λ (s : Span). document_of s.0)) (slice_get-map shown ns k ∙ ap (option_map shown) is)
 
-pub document-there : (ns xs : List Node) (t : TreeDoc) (m : ℕ) (n : Node) → node_spans ns ≡ spans (preorder_below 0 t) → (m ≡ 0 → ⊥) → xs ≡ ns → m - 1 < length xs → n ≡ get_or xs (m - 1) n → document_of (role_tree n.role.now) ≡ document_at m t
-document-there ns xs t m n h positive is lt there =
-    sym (document-node ns t m (Some n) h positive (ap (λ (l : List Node). slice_get l (m - 1)) (sym is) ∙ slice_get_read xs (length xs) (m - 1) n refl lt there))
+pub document-there : (ns xs : List Node) (t : TreeDoc) (m : ℕ) (n : Node) → (m ≡ 0 → ⊥) → xs ≡ ns → m - 1 < length xs → n ≡ get_or xs (m - 1) n → document_of (role_tree n.role.now) ≡ document_in m (t, node_spans ns)
+document-there ns xs t m n positive is lt there =
+    sym (document-node ns t m (Some n) positive (ap (λ (l : List Node). slice_get l (m - 1)) (sym is) ∙ slice_get_read xs (length xs) (m - 1) n refl lt there))
 
-pub document-past : (ns xs : List Node) (t : TreeDoc) (m : ℕ) → node_spans ns ≡ spans (preorder_below 0 t) → (m ≡ 0 → ⊥) → xs ≡ ns → length xs ≤ m - 1 → None ≡ document_at m t
-document-past ns xs t m h positive is past =
-    sym (document-node ns t m None h positive (ap (λ (l : List Node). slice_get l (m - 1)) (sym is) ∙ slice_get_past xs (m - 1) past))
+pub document-past : (ns xs : List Node) (t : TreeDoc) (m : ℕ) → (m ≡ 0 → ⊥) → xs ≡ ns → length xs ≤ m - 1 → None ≡ document_in m (t, node_spans ns)
+document-past ns xs t m positive is past =
+    sym (document-node ns t m None positive (ap (λ (l : List Node). slice_get l (m - 1)) (sym is) ∙ slice_get_past xs (m - 1) past))
 
 pub document-some : (r : DelegatedRole) (s : Signed DelegatedTargets) → (out-DelegatedRole r).targets ≡ Some s → Some (tree_doc (out-DelegatedTargets s.signed).targets) ≡ document_of (role_tree r)
 document-some r s e = sym (ap (option_map (λ (d : HeldDoc). d.below)) (role-held r ∙ ap (option_map held_doc) e) ∙ ap Some (held-below s))
@@ -93,11 +74,11 @@ pub document-none : (r : DelegatedRole) → (out-DelegatedRole r).targets ≡ No
 document-none r e = sym (ap (option_map (λ (d : HeldDoc). d.below)) (role-held r ∙ ap (option_map held_doc) e))
 
 -- what it lists
-pub target-none : (name : Named) (t : TreeDoc) (m : ℕ) → document_at m t ≡ None → listed_at m name t ≡ None
-target-none name t m h = ap (option_and_then (λ (d : TreeDoc). listed name (listing_of d))) h
+pub target-none : (name : Named) (d : TreeDoc × List Span) (m : ℕ) → document_in m d ≡ None → listed_in m name d ≡ None
+target-none name d m h = ap (option_and_then (λ (x : TreeDoc). listed name (listing_of x))) h
 
-pub target-some : (name : Named) (t : TreeDoc) (m : ℕ) (d : Targets) → document_at m t ≡ Some (tree_doc d) → listed_at m name t ≡ option_map target_doc (lookup (is_at (by_raw_then_resolved name)) (out-Targets d).targets.entries)
-target-some name t m d h = ap (option_and_then (λ (x : TreeDoc). listed name (listing_of x))) h ∙ listed-tree name d
+pub target-some : (name : Named) (d : TreeDoc × List Span) (m : ℕ) (t : Targets) → document_in m d ≡ Some (tree_doc t) → listed_in m name d ≡ option_map target_doc (lookup (is_at (by_raw_then_resolved name)) (out-Targets t).targets.entries)
+target-some name d m t h = ap (option_and_then (λ (x : TreeDoc). listed name (listing_of x))) h ∙ listed-tree name t
 
 -- a target that was looked up
 pub copied-target : (o : Option (Bor Target)) (x : Option Target) → option_copied o ≡ x → option_map (λ t. target_doc t.now) o ≡ option_map target_doc x

@@ -1,5 +1,6 @@
 -- What is left of a search, and what the whole search finds and compares.
 use Rattle.std.proofs.Common.{◌≡◌, ℕ, zero, suc, ◌+◌, ◌<◌, ◌≤◌, List, [], ◌∷◌, ◌++◌, length, get_or, map, drop, filter, min, Bool, true, false, ◌&&◌, not, nat_lt, nat_cmp, String, Global, string_bytes, Option, Some, None, is_some, refl, sym, ap, subst, ◌∙◌, arith, if◌then◌else◌}
+use Rattle.std.proofs.Props.{props}
 use Rattle.std.proofs.lemmas.Bool.{lt-ltb, le-ltb, ltb-true, ltb-false}
 use Rattle.std.proofs.lemmas.List.{drop_more, drop-drop, get_or-map}
 use Rattle.std.specs.Option.{option_or}
@@ -359,6 +360,9 @@ pub record IsCourse (p : Bool) (name : Named) (c : Course) (seen : Names) (t : T
   pub few : c.tests ≤ c.at
   pub node : (left p name c seen t).node ≡ (whole p name t).node
   pub tests : c.tests + (left p name c seen t).tests ≡ (whole p name t).tests
+
+pub course-prop : (p : Bool) (name : Named) (c : Course) (seen : Names) (t : TreeDoc) (n : ℕ) → IsProp (IsCourse p name c seen t n)
+course-prop p name c seen t n = Prim.hlevel props
 
 -- the occurrence that a node shows
 record Here (n : Node) (k : ℕ) (xs ys : List Occurrence) : Type 0 where

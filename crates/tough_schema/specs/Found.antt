@@ -7,6 +7,7 @@ use Rattle.tough_schema.specs.Target.{TargetDoc}
 use Rattle.tough_schema.specs.Tree.{Listing}
 use Rattle.tough_schema.specs.Whole.{TreeDoc, HeldDoc, RoleTree, listing_of}
 use Rattle.tough_schema.specs.Preorder.{Occurrence, preorder_below}
+use Rattle.tough_schema.specs.Numbered.{Span, spans}
 use Rattle.tough_schema.specs.Search.{Names, no_names, add, matches, reached, first_end, is_before, searched, listed, search}
 
 abbrev pub lists_in : Named → Option Listing → Bool
@@ -30,14 +31,18 @@ found_at permissive name t = if is_some (listed name (listing_of t)) then Some 0
 abbrev pub document_of : RoleTree → Option TreeDoc
 document_of r = option_map (λ (h : HeldDoc). h.below) r.1
 
--- the document of the number
-abbrev pub document_at : ℕ → TreeDoc → Option TreeDoc
-document_at zero t = Some t
-document_at (suc k) t = option_and_then (λ (o : Occurrence). document_of o.role) (slice_get (preorder_below 0 t) k)
+-- the document of the number, among a document and roles
+abbrev pub document_in : ℕ → TreeDoc × List Span → Option TreeDoc
+document_in zero n = Some n.0
+document_in (suc k) n = option_and_then (λ (s : Span). document_of s.0) (slice_get n.1 k)
 
 -- what it lists under the name
+abbrev pub listed_in : ℕ → Named → TreeDoc × List Span → Option TargetDoc
+listed_in k name n = option_and_then (λ d. listed name (listing_of d)) (document_in k n)
+
+-- what the document of the number lists in a tree
 abbrev pub listed_at : ℕ → Named → TreeDoc → Option TargetDoc
-listed_at k name t = option_and_then (λ d. listed name (listing_of d)) (document_at k t)
+listed_at k name t = listed_in k name (t, spans (preorder_below 0 t))
 
 -- The entries whose parent is reached, and whose name no earlier reached entry has.
 -- `seen` are the names reached so far; the next `skip` entries are below one that is not reached.

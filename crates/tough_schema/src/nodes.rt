@@ -29,7 +29,7 @@ struct Node<'a> {
 pub struct Nodes<'a> {
     top: &'a Targets,
     entries: Vec<Node<'a>>,
-    ghost whole: { node_spans entries.items ≡ spans (preorder_below 0 (tree_doc top.now)) },
+    ghost whole: { ∥ node_spans entries.items ≡ spans (preorder_below 0 (tree_doc top.now)) ∥₁ },
 }
 
 /// What a search ends with.
@@ -231,9 +231,9 @@ impl<'a> Nodes<'a> {
     ghost use Rattle.tough_schema.specs.Whole.{tree_doc};
     ghost use Rattle.tough_schema.specs.Preorder.{preorder_below};
     ghost use Rattle.tough_schema.specs.Numbered.{spans};
-    ghost use Rattle.tough_schema.specs.Nodes.{nodes_doc, tree_of};
+    ghost use Rattle.tough_schema.specs.Nodes.{nodes_doc, tree_of, AreWhole};
     ghost use Rattle.tough_schema.specs.Search.{search};
-    ghost use Rattle.tough_schema.specs.Found.{found_at, tested, document_at, listed_at};
+    ghost use Rattle.tough_schema.specs.Found.{found_at, tested, document_in, listed_in};
     ghost use Rattle.tough_schema.specs.Rest.{whole};
 
     /// Numbers a document and the delegated roles of its tree (section 4.5). `Memory` is the only refusal.
@@ -308,7 +308,7 @@ impl<'a> Nodes<'a> {
 
     /// The document of a number, if there is one: that of node 0, or of a role.
     pub fn document(&self, number: usize) -> Option<&'a Targets>
-        ensures { option_map (λ d. tree_doc d.now) result ≡ document_at number (tree_of self.now) }
+        ensures { option_map (λ d. tree_doc d.now) result ≡ document_in number (nodes_doc self.now) }
     {
         if number == 0 {
             return Some(self.top);
@@ -322,7 +322,7 @@ impl<'a> Nodes<'a> {
     // What the document of a number lists under the name.
     pub(crate) fn target(&self, number: usize, name: &TargetName) -> Option<&'a Target>
         ensures { option_map (λ t. target_doc t.now) result
-            ≡ listed_at number name.now (tree_of self.now) }
+            ≡ listed_in number name.now (nodes_doc self.now) }
     {
         match self.document(number) {
             Some(document) => document.targets.get(name),
@@ -337,6 +337,7 @@ impl<'a> Nodes<'a> {
         name: &TargetName,
         permissive: bool,
     ) -> Result<Option<&'a Target>, Error>
+        requires { AreWhole self.now }
         ensures found { IfOk result (λ o. option_map (λ t. target_doc t.now) o
             ≡ search permissive name.now (tree_of self.now)) }
         ensures refused { IfErr result (λ e. e ≡ errors.Memory) }

@@ -15,8 +15,8 @@ returns-then-contains-clause-sight c =
     let there : contains_text c.args.reached.now (string_bytes (out-DelegatedRole c.args.role.now).name) ≡ true = search rules in
     sym (sight-known c.args.name.now (names_in c.args.reached.now) (role_tree c.args.role.now) (seen-name c.args.reached.now c.args.role.now true there))
 
-pub returns-then-matches-clause-sight : goal.returns-then-matches-clause-sight
-returns-then-matches-clause-sight c =
+pub returns-then-not-matches-clause-sight : goal.returns-then-not-matches-clause-sight
+returns-then-not-matches-clause-sight c =
     let absent : contains_text c.args.reached.now (string_bytes (out-DelegatedRole c.args.role.now).name) ≡ false = search rules in
     let other : matches c.args.name.now (role_tree c.args.role.now).0 ≡ false = search rules in
     sym (sight-other c.args.name.now (names_in c.args.reached.now) (role_tree c.args.role.now) (seen-name c.args.reached.now c.args.role.now false absent) other)

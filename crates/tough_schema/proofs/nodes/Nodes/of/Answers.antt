@@ -5,7 +5,7 @@ use Rattle.tough_schema.proofs.Numbers.{from-none}
 use Rattle.tough_schema.proofs.nodes.Nodes.of.Goals as goal
 
 pub invariant_of-result : goal.invariant_of-result
-invariant_of-result c = from-none c.new-entries.result.items c.add_below.new.found.items (tree_doc c.args.targets.now) c.new-entries.ensures.items c.in_ok-add_below.ensures
+invariant_of-result c = record { whole = ∣ from-none c.new-entries.result.items c.add_below.new.found.items (tree_doc c.args.targets.now) c.new-entries.ensures.items c.in_ok-add_below.ensures ∣₁ }
 
 pub returns-clause-nodes : goal.returns-clause-nodes
 returns-clause-nodes c =

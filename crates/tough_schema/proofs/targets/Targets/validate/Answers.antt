@@ -15,8 +15,8 @@ returns-then-is_none-clause-refused c =
     let ns = c.deref-name-items.result.now in
     let i = c.loop-name.name-index in
     let n = c.name-item.result in
-    let none : is_none c.in_ok-found.field-0 ≡ true = search rules in
-    let missing = ap (search true n.now) (sym (ap (λ d. d.0) c.in_ok-nodes.ensures.nodes)) ∙ shown-none c.in_ok-found.field-0 _ c.in_ok-found.ensures.found none in
+    let none : is_none c.in_ok-found.found ≡ true = Prim.search rules in
+    let missing = ap (search true n.now) (sym (ap (λ d. d.0) c.in_ok-nodes.ensures.nodes)) ∙ shown-none c.in_ok-found.found _ c.in_ok-found.ensures.found none in
     invalid-missing t n.now c.in_ok-not_found.field-0 c.in_ok-not_found.ensures (sym c.loop-name.invariant ∙ stray-here t ns i n c.loop-name-test.true c.name-item.is missing)
 
 pub loop-name-init : goal.loop-name-init
@@ -30,6 +30,6 @@ loop-name-preserved c =
     let ns = c.deref-name-items.result.now in
     let i = c.loop-name.name-index in
     let n = c.name-item.result in
-    let some : is_none c.in_ok-found.field-0 ≡ false = search rules in
-    let there : is_found t n.now ≡ true = ap (λ d. is_found d n.now) (sym (ap (λ d. d.0) c.in_ok-nodes.ensures.nodes)) ∙ shown-some c.in_ok-found.field-0 _ c.in_ok-found.ensures.found some in
+    let some : is_none c.in_ok-found.found ≡ false = Prim.search rules in
+    let there : is_found t n.now ≡ true = ap (λ d. is_found d n.now) (sym (ap (λ d. d.0) c.in_ok-nodes.ensures.nodes)) ∙ shown-some c.in_ok-found.found _ c.in_ok-found.ensures.found some in
     sym (stray-later t ns i n c.loop-name-test.true c.name-item.is there) ∙ c.loop-name.invariant
