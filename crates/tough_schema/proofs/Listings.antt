@@ -1,8 +1,7 @@
 -- What the documents of a tree list, one after another.
-use Rattle.std.proofs.Common.{◌≡◌, ℕ, ◌+◌, ◌<◌, List, [], ◌∷◌, ◌++◌, map, take, drop, length, get_or, Option, Some, None, is_some, true, not, option_map, Bor, Ordering, Less, Equal, Greater, refl, sym, ap, ◌∙◌, append_assoc, append-nil}
+use Rattle.std.proofs.Common.{◌≡◌, ℕ, ◌+◌, ◌<◌, List, [], ◌∷◌, ◌++◌, map, take, drop, length, get_or, Option, Some, None, option_map, Bor, Ordering, Less, Equal, Greater, refl, sym, ap, ◌∙◌, append_assoc, append-nil}
 use Rattle.std.proofs.lemmas.List.{map-append, take_more, drop_more}
 use Rattle.std.specs.BTreeMap.{insert_entry}
-use Rattle.std.specs.List.{find}
 use Rattle.std.specs.Ordering.{match_ordering}
 use Rattle.tough_names.specs.Named.{Named, by_raw_then_resolved}
 use Rattle.tough_roles.specs.declared.signed.Signed.{Signed}
@@ -14,10 +13,7 @@ use Rattle.tough_schema.specs.Target.{TargetDoc, target_doc}
 use Rattle.tough_schema.specs.Targets.{listing_doc}
 use Rattle.tough_schema.specs.Tree.{Listing}
 use Rattle.tough_schema.specs.Whole.{TreeDoc, RoleTree, listing_of, tree_doc, role_tree, held_doc}
-use Rattle.tough_roles.specs.declared.error.Error.{Error}
-use Rattle.tough_roles.specs.declared.error.Error.TheVariants as errors
-use Rattle.tough_schema.specs.Search.{search, IsNotFound}
-use Rattle.tough_schema.specs.Entries.{listed_of, listed_in, merged_into, is_found, first_missing, IsInvalid}
+use Rattle.tough_schema.specs.Entries.{listed_of, listed_in, merged_into}
 use Rattle.tough_schema.specs.Gather.{shown, listed_docs, map_docs}
 use Rattle.tough_schema.proofs.lemmas.Wholes.{tree-out, role-held, held-below}
 
@@ -67,14 +63,3 @@ docs-more es i e h is =
 pub merged-more : (found : Listing) (es : List (Bor Named × Bor Target)) (i : ℕ) (e : Bor Named × Bor Target) → i < length es → e ≡ get_or es i e
     → merged_into found (listed_docs (take (i + 1) es)) ≡ insert_entry by_raw_then_resolved (merged_into found (listed_docs (take i es))) e.0.now (target_doc e.1.now)
 merged-more found es i e h is = ap (merged_into found) (docs-more es i e h is) ∙ merged-last found (listed_docs (take i es)) (e.0.now, target_doc e.1.now)
-
--- ---- the first that is missing
-
-pub is_some-some : {A : Type 0} (o : Option A) (a : A) → o ≡ Some a → is_some o ≡ true
-is_some-some None a h = cc
-is_some-some (Some b) a h = refl
-
-pub invalid-from : (d : TreeDoc) (name : Named) (e : Error) → (search true name d ≡ None → first_missing d ≡ Some name) → IsNotFound name (search true name d) e → IsInvalid d e
-invalid-from d name (errors.TargetNotFound n) here h = here h.1 ∙ ap Some (sym h.0)
-invalid-from d name errors.Memory here h = h
-invalid-from d name _ here h = absurd h

@@ -1,4 +1,4 @@
--- The walk answers what the search over the reached entries does.
+-- What is reached of roles, one run after another.
 use Rattle.std.proofs.Common.{◌≡◌, ℕ, ◌+◌, List, [], ◌∷◌, ◌++◌, length, Bool, true, false, Some, None, refl, sym, ap, append_assoc}
 use Rattle.tough_schema.specs.Whole.{TreeDoc, tree, Branches, no_branches, unloaded, loaded}
 use Rattle.tough_schema.specs.Preorder.{Occurrence, preorder, preorder_below}

@@ -15,7 +15,7 @@ use Rattle.tough_schema.specs.Paths.{paths_doc}
 use Rattle.tough_schema.specs.Matching.{paths_match}
 use Rattle.tough_schema.specs.Whole.{Branches, RoleTree, HeldDoc, put_branch, tree_doc, role_tree, role_branches, held_doc}
 use Rattle.tough_schema.specs.Search.{Names, add, matches}
-use Rattle.tough_schema.specs.Walk.{names_in}
+use Rattle.tough_schema.specs.Visited.{names_in}
 use Rattle.tough_schema.specs.Strays.{Test, narrowed, strays_of, names_past, names_below, strays, strays_below, names_at, strays_at, all_match, way}
 use Rattle.tough_schema.proofs.lemmas.Walks.{names_in-insert}
 use Rattle.tough_schema.proofs.lemmas.Wholes.{tree-leaf, tree-inner, role-named, role-out, role-held, held-below, branches-drop}

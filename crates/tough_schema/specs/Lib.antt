@@ -8,11 +8,15 @@ pub mod Whole
 pub mod Preorder
 pub mod Search
 pub mod Marks
-pub mod Walk
+pub mod Visited
 pub mod Verify
 pub mod Entries
 pub mod Strays
 pub mod Gather
+pub mod Numbered
+pub mod Nodes
+pub mod Found
+pub mod Rest
 pub mod Seek
 pub mod Seeking
 pub mod Fresh

@@ -1,6 +1,6 @@
 //! Theorems about the definitions.
 
-ghost use Rattle.std.specs.Prelude.{◌≡◌, ◌↔◌, ℕ, List, None, Some, true, chars, option_and_then};
+ghost use Rattle.std.specs.Prelude.{◌≡◌, ◌↔◌, ◌≤◌, ℕ, Bool, List, length, None, Some, true, chars, option_and_then};
 ghost use Rattle.jiff_core.specs.Timestamp.{IsTimestampNanos};
 ghost use Rattle.serde_json.specs.Data as Data;
 ghost use Rattle.tough_json.specs.Pieces.{text_in};
@@ -10,7 +10,8 @@ ghost use Rattle.tough_names.specs.Named.{Named};
 ghost use Rattle.tough_names.specs.Spelling.{Matches};
 ghost use Rattle.tough_roles.specs.Readable.{IsReadable};
 ghost use Rattle.tough_roles.specs.Signature.{SignedDoc, signed_at, signed_json};
-ghost use Rattle.tough_schema.specs.Entries.{first_missing, IsValid};
+ghost use Rattle.tough_schema.specs.Entries.{entries, first_missing, IsValid};
+ghost use Rattle.tough_schema.specs.Found.{tested, FindsByNumber};
 ghost use Rattle.tough_schema.specs.Marks.{ReachesExactly};
 ghost use Rattle.tough_schema.specs.Matching.{pattern_matches};
 ghost use Rattle.tough_schema.specs.Targets.{TargetsDoc, KeysAreOwn, AreSorted, targets_at, targets_json};
@@ -44,4 +45,15 @@ pub fn valid_where_none_is_missing()
 /// no role has that was reached before.
 pub fn searches_reach_exactly()
     ensures { (name : Named) (t : TreeDoc) → ReachesExactly name t }
+{}
+
+/// A search compares at most as many path sets as the tree has delegated roles.
+pub fn searches_test_few()
+    ensures { (permissive : Bool) (name : Named) (t : TreeDoc)
+        → length (tested permissive name t) ≤ length (entries t) }
+{}
+
+/// A search finds what the document of the number lists that a search by number ends with.
+pub fn searches_find_by_number()
+    ensures { (permissive : Bool) (name : Named) (t : TreeDoc) → FindsByNumber permissive name t }
 {}

@@ -1,6 +1,7 @@
 //! The targets that the documents of a tree list.
 
 ghost use Rattle.std.specs.Prelude.{◌≡◌, ◌++◌, [], None, IfOk, IfErr, OnOk, map};
+ghost use Rattle.tough_roles.specs.declared.error.Error.TheVariants as errors;
 ghost use Rattle.tough_schema.specs.Target.{target_doc};
 ghost use Rattle.tough_schema.specs.Targets.{listing_doc};
 ghost use Rattle.tough_schema.specs.Whole.{tree_doc, role_tree};
@@ -8,6 +9,7 @@ ghost use Rattle.tough_schema.specs.Entries.{all_listed, listed_of, merged_into,
 ghost use Rattle.tough_schema.specs.Gather.{listed_docs, map_docs};
 
 use crate::delegations::DelegatedRole;
+use crate::nodes::Nodes;
 use crate::target::Target;
 use crate::targets::Targets;
 use std::alloc::{AllocError, Global};
@@ -41,6 +43,15 @@ fn add_document<'a>(
         add_listing(&signed.signed.targets.targets, found)?;
     }
     Ok(())
+}
+
+// No document lists the name.
+fn not_found(name: &TargetName) -> Result<Error, AllocError>
+    ensures { IfOk result (λ e. e ≡ errors.TargetNotFound name.now) }
+{
+    Ok(Error::TargetNotFound {
+        name: name.clone()?,
+    })
 }
 
 impl Targets {
@@ -79,10 +90,11 @@ impl Targets {
         ensures refused { IfErr result (λ e. IsInvalid (tree_doc self.now) e) }
     {
         let strays = self.strays(alloc)?;
+        let nodes = Nodes::of(alloc, self)?;
         for name in &strays {
-            match self.find_target(alloc, name, true) {
-                Ok(_) => {}
-                Err(error) => return Err(error),
+            let found = nodes.find(alloc, name, true)?;
+            if found.is_none() {
+                return Err(not_found(name)?);
             }
         }
         Ok(())

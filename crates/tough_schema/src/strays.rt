@@ -5,7 +5,7 @@ ghost use Rattle.tough_names.specs.Named.{Named};
 ghost use Rattle.tough_schema.specs.Paths.{paths_doc};
 ghost use Rattle.tough_schema.specs.Targets.{listing_doc};
 ghost use Rattle.tough_schema.specs.Search.{matches, no_names};
-ghost use Rattle.tough_schema.specs.Walk.{names_in};
+ghost use Rattle.tough_schema.specs.Visited.{names_in};
 ghost use Rattle.tough_schema.specs.Whole.{tree_doc, role_tree, role_branches};
 ghost use Rattle.tough_schema.specs.Strays.{any_name, strays_of, names_past, names_below, strays, strays_below, names_at, strays_at, all_match, way, names_of};
 

@@ -5,7 +5,7 @@ use Rattle.tough_schema.specs.declared.delegations.Delegations.{out-Delegations}
 use Rattle.tough_schema.specs.declared.targets.Targets.{out-Targets}
 use Rattle.tough_schema.specs.Targets.{listing_doc}
 use Rattle.tough_schema.specs.Search.{Names, matches}
-use Rattle.tough_schema.specs.Walk.{names_in}
+use Rattle.tough_schema.specs.Visited.{names_in}
 use Rattle.tough_schema.specs.Whole.{role_tree, role_branches}
 use Rattle.tough_schema.specs.Strays.{strays, strays_of, names_past, names_at, strays_at, all_match, way, names_of}
 use Rattle.tough_schema.proofs.Straying.{past-next, strays-next, below-inner, strays-leaf, strays-inner, added, at-leaf, at-inner, strays_at-inner, way-pushed, way-same}

@@ -3,7 +3,7 @@ use Rattle.std.specs.BTreeSet.{BTreeSet}
 use Rattle.tough_names.specs.Named.{Named}
 use Rattle.tough_schema.specs.declared.delegations.DelegatedRole.{DelegatedRole}
 use Rattle.tough_schema.specs.Whole.{role_branches}
-use Rattle.tough_schema.specs.Walk.{names_in}
+use Rattle.tough_schema.specs.Visited.{names_in}
 use Rattle.tough_schema.specs.Strays.{names_past, strays, way, names_of}
 use Rattle.tough_schema.proofs.strays.+stray.Given as goal
 

@@ -1,18 +1,17 @@
-use Rattle.std.proofs.Common.{◌≡◌, ◌∙◌, ap, rules}
-use Rattle.tough_schema.specs.Walk.{answer_of}
+use Rattle.std.proofs.Common.{rules, ◌≡◌, option_map, sym, ap, ◌∙◌}
+use Rattle.tough_schema.specs.Target.{target_doc}
 use Rattle.tough_schema.specs.Whole.{tree_doc}
-use Rattle.tough_schema.proofs.Ends.{found_in}
-use Rattle.tough_schema.proofs.Agrees.{search-answer_of, not_found}
+use Rattle.tough_schema.specs.Search.{search}
 use Rattle.tough_schema.proofs.targets.Targets.find_target.Goals as goal
 
-pub returns-in-Listed-clause-found : goal.returns-in-Listed-clause-found
-returns-in-Listed-clause-found c =
-    search-answer_of c.args.permissive c.args.name.now (tree_doc c.args.self.now) c.new-visited.result c.in_ok-target.field-0 c.new-visited.ensures.empty c.in_ok-target.ensures.0 ∙ ap (λ f. found_in (answer_of f)) c.in-Listed.is
+pub returns-in-Some-clause-found : goal.returns-in-Some-clause-found
+returns-in-Some-clause-found c =
+    ap (search c.args.permissive c.args.name.now) (sym (ap (λ d. d.0) c.in_ok-nodes.ensures.nodes)) ∙ sym c.in_ok-target.ensures.found ∙ ap (option_map (λ t. target_doc t.now)) c.in-Some.is
 
 pub returns : goal.returns
 returns c =
-    let same : c.in_ok-clone-in_default.field-0 ≡ c.args.name.now = search rules in
+    let same : c.in_ok-clone-in-None.field-0 ≡ c.args.name.now = Prim.search rules in
     record {
       found = tt;
-      missing = (same, search-answer_of c.args.permissive c.args.name.now (tree_doc c.args.self.now) c.new-visited.result c.in_ok-target.field-0 c.new-visited.ensures.empty c.in_ok-target.ensures.0 ∙ not_found c.in_ok-target.field-0 c.in_default.not-Listed);
+      missing = (same, ap (search c.args.permissive c.args.name.now) (sym (ap (λ d. d.0) c.in_ok-nodes.ensures.nodes)) ∙ sym c.in_ok-target.ensures.found ∙ ap (option_map (λ t. target_doc t.now)) c.in-None.is);
     }
