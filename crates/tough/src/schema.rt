@@ -11,8 +11,8 @@ pub use tough_json::Form;
 pub use tough_net::{FilesystemTransport, Transport};
 pub use tough_schema::{
     CjsonError, DelegatedRole, DelegatedTargets, Delegations, DemoSign, DemoVerify, EcdsaKey,
-    EcdsaScheme, Ed25519Key, Ed25519Scheme, Error, FileError, Hashes, Key, KeyHolder,
-    KeyParseError, KeysIter, Metafile, PathSet, ReadError, Result, Role, RoleId, RoleKeys,
+    EcdsaScheme, Ed25519Key, Ed25519Scheme, Error, FileError, Found, Hashes, Key, KeyHolder,
+    KeyParseError, KeysIter, Metafile, Nodes, PathSet, ReadError, Result, Role, RoleId, RoleKeys,
     RoleType, Root, RsaKey, RsaScheme, Sign, SignError, Signature, Signed, Snapshot, Target,
     Targets, Timestamp, Verify, WriteError, canonical,
 };

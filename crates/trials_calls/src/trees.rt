@@ -6,7 +6,9 @@ use anyhow::Result;
 use serde_json::Value;
 use std::alloc::Global;
 use tough_names::TargetName;
-use tough_schema::{DelegatedTargets, Delegations, Error, PathSet, Signed, Target, Targets};
+use tough_schema::{
+    DelegatedTargets, Delegations, Error, Nodes, PathSet, Signed, Target, Targets,
+};
 
 // The document, where each role whose mark is `1` has the last of the documents that were made.
 fn with_documents(
@@ -58,6 +60,56 @@ fn chain(alloc: Global, document: &str, times: u64) -> Result<String> {
         made.push(targets)?;
     }
     Ok(format!(in alloc; "{}", made.len())?)
+}
+
+// What stands before and after the number of a role in the document that delegates to it alone, for all names.
+const BEFORE: &str = "{\"spec_version\":\"1\",\"version\":1,\"expires\":\"2030-01-01T00:00:00Z\",\"targets\":{},\
+    \"delegations\":{\"keys\":{},\"roles\":[{\"name\":\"";
+
+const BEHIND: &str =
+    "\",\"keyids\":[],\"threshold\":1,\"terminating\":false,\"paths\":[\"*\"]}]}}";
+
+// A chain of so many roles, each below the one before it, over this last document.
+fn deep(alloc: Global, last: &str, times: u64) -> Result<Option<Targets>> {
+    let mut made = Vec::new(alloc);
+    made.push(Targets::read(alloc, last.as_bytes())?)?;
+    for number in 0..times {
+        let document = format!(in alloc; "{BEFORE}{number}{BEHIND}")?;
+        let targets = with_documents(alloc, "1", document.as_str(), &mut made)?;
+        made.push(targets)?;
+    }
+    Ok(made.pop())
+}
+
+// What searches for the name `x` come to in such a chain.
+fn search_deep(alloc: Global, last: &str, times: u64) -> Result<String> {
+    match deep(alloc, last, times)? {
+        Some(targets) => searched(alloc, &targets, "x"),
+        None => Ok(String::from_str(alloc, "no documents")?),
+    }
+}
+
+// The number of the document that a search ends at, and how many path sets it compares.
+fn found_by(
+    alloc: Global,
+    nodes: &Nodes<'_>,
+    name: &TargetName,
+    permissive: bool,
+) -> Result<String> {
+    let found = nodes.search(alloc, name, permissive)?;
+    match found.node {
+        Some(number) => Ok(format!(in alloc; "{number}/{}", found.tests)?),
+        None => Ok(format!(in alloc; "-/{}", found.tests)?),
+    }
+}
+
+// What the search comes to by numbers, and what the permissive one does.
+fn searched(alloc: Global, targets: &Targets, name: &str) -> Result<String> {
+    let name = TargetName::from_str(alloc, name)?;
+    let nodes = Nodes::of(alloc, targets)?;
+    let strict = found_by(alloc, &nodes, &name, false)?;
+    let permissive = found_by(alloc, &nodes, &name, true)?;
+    Ok(format!(in alloc; "{strict} {permissive}")?)
 }
 
 // The name of a refusal.
@@ -174,6 +226,7 @@ fn listed(alloc: Global, targets: &Targets, which: &str) -> Result<String> {
 fn query(alloc: Global, targets: &Targets, asked: &str, name: &str) -> Result<String> {
     match asked {
         "find" => found(alloc, targets, name),
+        "search" => searched(alloc, targets, name),
         "role" => sought(alloc, targets, name),
         "names" => Ok(targets.role_names(alloc)?.as_slice().join(alloc, ",")?),
         "documents" => documents(alloc, targets),
@@ -270,6 +323,11 @@ pub(crate) fn answer(alloc: Global, call: &str, case: &Value) -> Result<Option<S
     Ok(match call {
         "tree" => Some(steps(alloc, case)?),
         "chain" => Some(chain(
+            alloc,
+            text(case, "document"),
+            number(case, "times").unwrap_or(0),
+        )?),
+        "Nodes::search" => Some(search_deep(
             alloc,
             text(case, "document"),
             number(case, "times").unwrap_or(0),

@@ -9,7 +9,7 @@ use trials_calls::case::text;
 const COMMON: &str = "call,name,answer,words";
 
 /// Each call, with the members of its cases, beside those of every case, and the members of the objects in their lists.
-pub const CALLS: [(&str, &str, &str); 90] = [
+pub const CALLS: [(&str, &str, &str); 91] = [
     ("TargetName::new", "input", ""),
     ("encode_filename", "input", ""),
     ("TargetName::cmp", "input,other", ""),
@@ -69,6 +69,7 @@ pub const CALLS: [(&str, &str, &str); 90] = [
     ("DelegatedRole::keys", "targets", ""),
     ("tree", "documents,steps", ""),
     ("chain", "document,times", ""),
+    ("Nodes::search", "document,times", ""),
     ("Target::from_path", "path,content,times", ""),
     ("repository", "count,consistent,file,kind,tells", ""),
     ("fetch_max_size", "files,piece,url,limit", ""),
