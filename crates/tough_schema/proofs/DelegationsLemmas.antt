@@ -1,17 +1,17 @@
 -- What is written for delegations is read as them.
-use Rattle.std.proofs.Common.{◌≡◌, ℕ, List, [], ◌∷◌, is_none, codes, Option, Some, None, option_map, chars, refl, ap, subst}
+use Rattle.std.proofs.Common.{◌≡◌, ℕ, List, is_none, codes, Option, Some, None, option_map, chars, refl, subst}
 use Rattle.std.specs.List.Sorted.{IsStrictlySortedBy}
 use Rattle.std.specs.Map.{keys_of}
-use Rattle.serde_json.specs.Data.{Data, boolean, string, array, object, Members, no_members, Items, no_items, item}
-use Rattle.serde_json.specs.Find.{get_member, as_object}
+use Rattle.serde_json.specs.Data.{Data, boolean, string, array, object, Members, no_members}
+use Rattle.serde_json.specs.Find.{as_object}
 use Rattle.tough_names.specs.Glob.{Part}
 use Rattle.tough_names.specs.Grammar.{parts_in}
-use Rattle.tough_json.specs.Reading.{◌>>=◌, required, text, positive, truth, hexadecimal, listing, all_at, as_items, unless_null, without}
+use Rattle.tough_json.specs.Reading.{◌>>=◌, required, text, positive, truth, hexadecimal, listing, unless_null}
 use Rattle.tough_json.specs.Writing.{with, positive_json, hexadecimal_json, all_json}
 use Rattle.tough_json.proofs.lemmas.Write.{bind_ok, some-inj, required-with, hexadecimal-back, positive-back, all-back}
 use Rattle.tough_keys.specs.Key.{key_json}
 use Rattle.tough_roles.specs.Root.{by_bytes, key_entry_at, id_name, keys_at, keys_json, AreOwn}
-use Rattle.tough_roles.proofs.lemmas.Entry.{own_keys, required_ok, and_then_ok, map_ok}
+use Rattle.tough_roles.proofs.lemmas.Entry.{own_keys, required_ok}
 use Rattle.tough_roles.proofs.lemmas.Root.{by_bytes_total, keys_back}
 use Rattle.tough_roles.proofs.lemmas.Tables.{table-back}
 use Rattle.tough_schema.specs.Paths.{PathsDoc, patterns, prefixes, pattern, paths_at, text_json, pattern_json, with_paths}

@@ -7,12 +7,12 @@ use Rattle.std.specs.Option.{option_or}
 use Rattle.tough_names.specs.Named.{Named}
 use Rattle.tough_schema.specs.Target.{TargetDoc}
 use Rattle.tough_schema.specs.Tree.{Listing}
-use Rattle.tough_schema.specs.Whole.{TreeDoc, tree, HeldDoc, RoleTree, listing_of}
+use Rattle.tough_schema.specs.Whole.{TreeDoc, HeldDoc, RoleTree, listing_of}
 use Rattle.tough_schema.specs.Preorder.{Occurrence, stop, preorder_below}
-use Rattle.tough_schema.specs.Search.{Names, no_names, add, matches, is_new, reached_from, reached, is_before, first_end, searched, listed, first_listed, listing_at, listings, search}
+use Rattle.tough_schema.specs.Search.{Names, no_names, add, matches, is_new, reached_from, reached, is_before, first_end, searched, listed, first_listed, listing_at, listings}
 use Rattle.tough_schema.specs.Entries.{entries}
 use Rattle.tough_schema.specs.Numbered.{Span}
-use Rattle.tough_schema.specs.Found.{lists, lists_in, first_number, found_at, document_of, listed_at, compared_from, compared, end_of_search, tested, FindsByNumber}
+use Rattle.tough_schema.specs.Found.{lists_in, first_number, document_of, listed_at, compared_from, compared, end_of_search, tested, FindsByNumber}
 use Rattle.tough_schema.proofs.Rests.{Starts, starts-below}
 
 -- ---- each role stands at its place

@@ -1,14 +1,13 @@
 -- Documents that were read have no documents below them.
 use Rattle.std.proofs.Common.{◌≡◌, List, [], ◌∷◌, ◌++◌, map, Option, Some, None, option_map, string_bytes, refl, ap, ◌∙◌}
-use Rattle.std.specs.List.{AllByRecursion}
 use Rattle.tough_schema.specs.declared.delegations.DelegatedRole.{DelegatedRole, out-DelegatedRole}
 use Rattle.tough_schema.specs.declared.delegations.Delegations.{Delegations, out-Delegations}
 use Rattle.tough_schema.specs.declared.targets.DelegatedTargets.{DelegatedTargets, roll-DelegatedTargets}
 use Rattle.tough_schema.specs.declared.targets.Targets.{Targets, roll-Targets}
 use Rattle.tough_schema.specs.declared.delegations.DelegatedRole.TheOpen.{DelegatedTargets-F}
 use Rattle.tough_schema.specs.Delegations.{delegated_role_doc}
-use Rattle.tough_schema.specs.Whole.{Branches, HeldDoc, RoleTree, NamedTree, DelegationsTree, put_branch, branches_from, branches_of, tree_doc, delegations_tree, named_tree, role_tree, held_doc}
-use Rattle.tough_schema.specs.Fresh.{carriers, carriers_below, IsUnloaded, IsFresh, IsFreshDelegated, AreUnloaded, DelegateUnloaded, MayDelegateUnloaded}
+use Rattle.tough_schema.specs.Whole.{Branches, HeldDoc, RoleTree, NamedTree, DelegationsTree, put_branch, branches_from, branches_of, delegations_tree, role_tree, held_doc}
+use Rattle.tough_schema.specs.Fresh.{carriers, carriers_below, IsFresh, IsFreshDelegated, AreUnloaded, MayDelegateUnloaded}
 use Rattle.tough_schema.proofs.lemmas.Wholes.{TargetsFields, tree-roll, delegations-out, role-out, named-roll}
 
 -- one more role

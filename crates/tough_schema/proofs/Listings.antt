@@ -1,6 +1,6 @@
 -- What the documents of a tree list, one after another.
-use Rattle.std.proofs.Common.{◌≡◌, ℕ, ◌+◌, ◌<◌, List, [], ◌∷◌, ◌++◌, map, take, drop, length, get_or, Option, Some, None, option_map, Bor, Ordering, Less, Equal, Greater, refl, sym, ap, ◌∙◌, append_assoc, append-nil}
-use Rattle.std.proofs.lemmas.List.{map-append, take_more, drop_more}
+use Rattle.std.proofs.Common.{◌≡◌, ℕ, ◌+◌, ◌<◌, List, [], ◌∷◌, ◌++◌, take, length, get_or, Some, None, option_map, Bor, Ordering, Less, Equal, Greater, refl, sym, ap, ◌∙◌, append_assoc, append-nil}
+use Rattle.std.proofs.lemmas.List.{map-append, take_more}
 use Rattle.std.specs.BTreeMap.{insert_entry}
 use Rattle.std.specs.Ordering.{match_ordering}
 use Rattle.tough_names.specs.Named.{Named, by_raw_then_resolved}
@@ -12,7 +12,7 @@ use Rattle.tough_schema.specs.declared.targets.Targets.{Targets, out-Targets}
 use Rattle.tough_schema.specs.Target.{TargetDoc, target_doc}
 use Rattle.tough_schema.specs.Targets.{listing_doc}
 use Rattle.tough_schema.specs.Tree.{Listing}
-use Rattle.tough_schema.specs.Whole.{TreeDoc, RoleTree, listing_of, tree_doc, role_tree, held_doc}
+use Rattle.tough_schema.specs.Whole.{RoleTree, listing_of, tree_doc, role_tree, held_doc}
 use Rattle.tough_schema.specs.Entries.{listed_of, listed_in, merged_into}
 use Rattle.tough_schema.specs.Gather.{shown, listed_docs, map_docs}
 use Rattle.tough_schema.proofs.lemmas.Wholes.{tree-out, role-held, held-below}

@@ -15,8 +15,7 @@ use Rattle.tough_schema.specs.declared.target.Target.{Target}
 use Rattle.tough_schema.specs.declared.targets.DelegatedTargets.{DelegatedTargets, out-DelegatedTargets}
 use Rattle.tough_schema.specs.declared.targets.Targets.{Targets, out-Targets}
 use Rattle.tough_schema.specs.Target.{TargetDoc, target_doc}
-use Rattle.tough_schema.specs.Whole.{TreeDoc, HeldDoc, RoleTree, listing_of, tree_doc, role_tree, held_doc}
-use Rattle.tough_schema.specs.Preorder.{Occurrence, stop, preorder_below}
+use Rattle.tough_schema.specs.Whole.{TreeDoc, HeldDoc, listing_of, tree_doc, role_tree, held_doc}
 use Rattle.tough_schema.specs.Search.{listed, IsNotFound}
 use Rattle.tough_schema.specs.Entries.{first_missing, IsInvalid}
 use Rattle.tough_schema.specs.Visited.{names_in}

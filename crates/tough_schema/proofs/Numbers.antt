@@ -1,5 +1,5 @@
 -- A tree as numbered nodes.
-use Rattle.std.proofs.Common.{◌≡◌, ℕ, ◌+◌, ◌<◌, List, [], ◌∷◌, ◌++◌, map, drop, length, get_or, slice_set, Option, Some, None, option_map, refl, sym, ap, ◌∙◌, arith, append_assoc, append-nil, length-append}
+use Rattle.std.proofs.Common.{◌≡◌, ℕ, ◌+◌, ◌<◌, List, [], ◌∷◌, ◌++◌, drop, length, get_or, slice_set, Some, None, option_map, refl, sym, ap, ◌∙◌, arith, append_assoc, length-append}
 use Rattle.std.proofs.lemmas.List.{map-append, length-map}
 use Rattle.std.proofs.Math.Seq.{set-append_seam}
 use Rattle.tough_roles.specs.declared.signed.Signed.{Signed}
@@ -8,7 +8,7 @@ use Rattle.tough_schema.specs.declared.delegations.DelegatedRole.{DelegatedRole,
 use Rattle.tough_schema.specs.declared.delegations.Delegations.{Delegations, out-Delegations}
 use Rattle.tough_schema.specs.declared.targets.DelegatedTargets.{DelegatedTargets, out-DelegatedTargets}
 use Rattle.tough_schema.specs.declared.targets.Targets.{Targets, out-Targets}
-use Rattle.tough_schema.specs.Whole.{TreeDoc, Branches, HeldDoc, RoleTree, put_branch, tree_doc, role_tree, role_branches, held_doc}
+use Rattle.tough_schema.specs.Whole.{TreeDoc, Branches, RoleTree, put_branch, tree_doc, role_tree, role_branches, held_doc}
 use Rattle.tough_schema.specs.Preorder.{Occurrence, stop, preorder, preorder_below}
 use Rattle.tough_schema.specs.Numbered.{Span, spans, node_spans, inside, preorder_at}
 use Rattle.tough_schema.proofs.lemmas.Wholes.{tree-leaf, tree-inner, role-held, held-below, branches-drop}

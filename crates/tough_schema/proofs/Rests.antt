@@ -1,5 +1,5 @@
 -- What is left of a search, and what the whole search finds and compares.
-use Rattle.std.proofs.Common.{◌≡◌, ℕ, zero, suc, ◌+◌, ◌<◌, ◌≤◌, List, [], ◌∷◌, ◌++◌, length, get_or, map, drop, filter, min, Bool, true, false, ◌&&◌, not, nat_lt, nat_cmp, String, Global, string_bytes, Option, Some, None, is_some, refl, sym, ap, subst, ◌∙◌, arith, if◌then◌else◌}
+use Rattle.std.proofs.Common.{◌≡◌, ℕ, zero, suc, ◌+◌, ◌<◌, ◌≤◌, List, [], ◌∷◌, ◌++◌, length, get_or, drop, filter, min, Bool, true, false, ◌&&◌, not, nat_lt, nat_cmp, String, Global, string_bytes, Option, Some, None, is_some, refl, sym, ap, subst, ◌∙◌, arith, if◌then◌else◌}
 use Rattle.std.proofs.Props.{props}
 use Rattle.std.proofs.lemmas.Bool.{lt-ltb, le-ltb, ltb-true, ltb-false}
 use Rattle.std.proofs.lemmas.List.{drop_more, drop-drop, get_or-map}
@@ -18,7 +18,7 @@ use Rattle.tough_schema.specs.Whole.{TreeDoc, tree, Branches, no_branches, unloa
 use Rattle.tough_schema.specs.Preorder.{Occurrence, stop, preorder, preorder_below}
 use Rattle.tough_schema.specs.Search.{Names, no_names, add, matches, is_new, reached_from, reached, earlier, is_before, searched, listed}
 use Rattle.tough_schema.specs.Visited.{ends, names_in}
-use Rattle.tough_schema.specs.Found.{lists, first_number, found_at, compared_from, compared, last_end, end_of_search, tested}
+use Rattle.tough_schema.specs.Found.{lists, first_number, found_at, compared_from, compared, last_end, tested}
 use Rattle.tough_schema.specs.Numbered.{Span, spans, node_spans}
 use Rattle.tough_schema.specs.Rest.{Rest, nothing, counted, sight, names_then, end_then, course_then, after, rest, whole}
 use Rattle.tough_schema.proofs.Reached.{step-new, step-old}

@@ -1,12 +1,12 @@
 -- What a document lists under a name, and the names in a set.
-use Rattle.std.proofs.Common.{◌≡◌, ℕ, List, [], ◌∷◌, Bool, true, false, Option, Some, option_map, Ordering, Less, Equal, Greater, is_eq, String, Global, string_bytes, string_cmp, refl, ◌∙◌, cond, ◌||◌, bytes_eq}
+use Rattle.std.proofs.Common.{◌≡◌, List, [], ◌∷◌, Bool, true, false, Option, Some, option_map, Ordering, Less, Equal, Greater, is_eq, String, Global, string_bytes, string_cmp, refl, ◌∙◌, cond, ◌||◌, bytes_eq}
 use Rattle.std.proofs.lemmas.Map.Text.{btree_set_updates_text}
 use Rattle.std.specs.BTreeMap.{is_at}
 use Rattle.std.specs.BTreeSet.{BTreeSet, Updates}
 use Rattle.std.specs.Map.{lookup}
 use Rattle.tough_schema.specs.Target.{TargetDoc, target_doc}
 use Rattle.tough_schema.specs.declared.target.Target.{Target}
-use Rattle.tough_schema.specs.Search.{Names, add, listed}
+use Rattle.tough_schema.specs.Search.{add, listed}
 use Rattle.tough_schema.specs.Visited.{names_in}
 use Rattle.tough_schema.specs.Targets.{listing_doc}
 use Rattle.tough_names.specs.Named.{Named, by_raw_then_resolved}

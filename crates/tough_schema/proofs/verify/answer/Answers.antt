@@ -1,6 +1,5 @@
 use Rattle.std.proofs.Common.{Err, ◌≡◌, List, map, Some, None, option_map, sym, ap, subst, ◌∙◌}
 use Rattle.tough_roles.specs.Signature.{signatures_doc}
-use Rattle.tough_roles.specs.Root.{role_keys_doc}
 use Rattle.tough_roles.specs.Policy.{policy_of}
 use Rattle.tough_roles.specs.Verdict.{RoleNotFound, verdict, Answers}
 use Rattle.tough_roles.specs.Chain.{text_by}

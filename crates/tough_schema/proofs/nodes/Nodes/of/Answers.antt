@@ -1,4 +1,4 @@
-use Rattle.std.proofs.Common.{◌≡◌, List, ap}
+use Rattle.std.proofs.Common.{List, ap}
 use Rattle.tough_schema.specs.Whole.{TreeDoc, tree_doc}
 use Rattle.tough_schema.specs.Numbered.{Span}
 use Rattle.tough_schema.proofs.Numbers.{from-none}

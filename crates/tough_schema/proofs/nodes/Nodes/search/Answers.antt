@@ -1,4 +1,4 @@
-use Rattle.std.proofs.Common.{◌≡◌, true, false, sym, ◌∙◌}
+use Rattle.std.proofs.Common.{sym, ◌∙◌}
 use Rattle.tough_schema.specs.Whole.{tree_doc}
 use Rattle.tough_schema.proofs.Rests.{top-node, top-tests, whole-node, whole-tests}
 use Rattle.tough_schema.proofs.nodes.Nodes.search.Goals as goal

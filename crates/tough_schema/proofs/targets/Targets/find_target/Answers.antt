@@ -1,6 +1,5 @@
 use Rattle.std.proofs.Common.{rules, ◌≡◌, option_map, sym, ap, ◌∙◌}
 use Rattle.tough_schema.specs.Target.{target_doc}
-use Rattle.tough_schema.specs.Whole.{tree_doc}
 use Rattle.tough_schema.specs.Search.{search}
 use Rattle.tough_schema.proofs.targets.Targets.find_target.Goals as goal
 
