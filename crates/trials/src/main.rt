@@ -4,6 +4,8 @@
 //! `trials FILE..` prints a line for each case, the call, the case's name and what was answered; below it, where that isn't what is wanted,
 //! what was wanted; and at the end of a file how many cases it has, and how many were answered otherwise. A case with a member that its call
 //! doesn't know is refused. At the end it prints which calls had no case.
+//!
+//! `trials one NAME FILE..` answers the cases of that name alone.
 #![tactic(auto)]
 
 mod exchange;
@@ -139,8 +141,14 @@ where
     }
 }
 
-// Answers the cases of a file, and marks their calls.
-fn try_file<R>(rt: &HostRuntime, waiting: &R, file: &str, tried: &mut Vec<bool>) -> Result<()>
+// Answers the cases of a file, or those of a name alone, and marks their calls.
+fn try_file<R>(
+    rt: &HostRuntime,
+    waiting: &R,
+    file: &str,
+    only: Option<&str>,
+    tried: &mut Vec<bool>,
+) -> Result<()>
 where
     R: Files<File = File>
         + Net
@@ -159,6 +167,11 @@ where
     let (mut count, mut others) = (0usize, 0usize);
     if let Some(cases) = read.as_array() {
         for case in cases {
+            if let Some(name) = only
+                && name != text(case, "name")
+            {
+                continue;
+            }
             count = count.saturating_add(1);
             if let Some(place) = place_of(text(case, "call"))
                 && let Some(mark) = tried.get_mut(place)
@@ -189,8 +202,19 @@ fn print_untried(rt: &HostRuntime, tried: &[bool]) -> Result<()> {
 
 fn main(rt: HostRuntime) -> Result<()> {
     let mut tried = Vec::from_elem(rt.alloc(), false, CALLS.len())?;
-    for file in env::args(&rt)?.skip(1) {
-        try_file(&rt, &rt, file.as_str(), &mut tried)?;
+    let mut words = Vec::new(rt.alloc());
+    for word in env::args(&rt)?.skip(1) {
+        words.push(word)?;
+    }
+    if words.first().map(String::as_str) == Some("one") {
+        let name = words.get(1).map(String::as_str);
+        for file in words.iter().skip(2) {
+            try_file(&rt, &rt, file.as_str(), name, &mut tried)?;
+        }
+        return Ok(());
+    }
+    for file in &words {
+        try_file(&rt, &rt, file.as_str(), None, &mut tried)?;
     }
     print_untried(&rt, tried.as_slice())
 }
