@@ -6,9 +6,7 @@ use anyhow::Result;
 use serde_json::Value;
 use std::alloc::Global;
 use tough_names::TargetName;
-use tough_schema::{
-    DelegatedTargets, Delegations, Error, Nodes, PathSet, Signed, Target, Targets,
-};
+use tough_schema::{DelegatedTargets, Delegations, Error, Nodes, PathSet, Signed, Target, Targets};
 
 // The document, where each role whose mark is `1` has the last of the documents that were made.
 fn with_documents(
@@ -63,11 +61,11 @@ fn chain(alloc: Global, document: &str, times: u64) -> Result<String> {
 }
 
 // What stands before and after the number of a role in the document that delegates to it alone, for all names.
-const BEFORE: &str = "{\"spec_version\":\"1\",\"version\":1,\"expires\":\"2030-01-01T00:00:00Z\",\"targets\":{},\
+const BEFORE: &str =
+    "{\"spec_version\":\"1\",\"version\":1,\"expires\":\"2030-01-01T00:00:00Z\",\"targets\":{},\
     \"delegations\":{\"keys\":{},\"roles\":[{\"name\":\"";
 
-const BEHIND: &str =
-    "\",\"keyids\":[],\"threshold\":1,\"terminating\":false,\"paths\":[\"*\"]}]}}";
+const BEHIND: &str = "\",\"keyids\":[],\"threshold\":1,\"terminating\":false,\"paths\":[\"*\"]}]}}";
 
 // A chain of so many roles, each below the one before it, over this last document.
 fn deep(alloc: Global, last: &str, times: u64) -> Result<Option<Targets>> {

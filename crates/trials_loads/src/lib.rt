@@ -2,6 +2,7 @@
 #![tactic(auto)]
 
 pub mod errors;
+mod faulty;
 pub mod load;
 mod outcome;
 pub mod saves;

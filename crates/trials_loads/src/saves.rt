@@ -1,5 +1,6 @@
 //! What a repository that was loaded answers; targets that are saved, and repositories that are cached, over files in memory.
 
+use crate::faulty::FaultyFiles;
 use crate::load::open;
 use crate::outcome::told;
 use anyhow::Result;
@@ -87,11 +88,11 @@ fn outcome(alloc: Global, answer: Result<(), Error>, saved: &str) -> Result<Stri
 }
 
 // Saves the target of the case.
-fn save<T: Transport, K: Keeper, C: Clock + Drop>(
+fn save<T: Transport, K: Keeper, C: Clock + Drop, F: Files>(
     rt: &HostRuntime,
     case: &Value,
     repository: &mut Repository<T, K, C>,
-    files: &mut MemoryFiles,
+    files: &mut F,
 ) -> Result<String> {
     let name = TargetName::from_str(rt.alloc(), text(case, "target"))?;
     let prefix = if flag(case, "prefixed") {
@@ -228,14 +229,32 @@ fn tell<T: Transport, K: Keeper<Receipt = Receipt>, C: Clock + Drop>(
     repository: &mut Repository<T, K, C>,
     files: &mut MemoryFiles,
 ) -> Result<String> {
-    let alloc = rt.alloc();
     let before = files.calls().len();
-    let mut line = act(rt, case, repository, files)?;
-    for call in files.calls().iter().skip(before) {
+    let line = act(rt, case, repository, files)?;
+    with_calls(rt.alloc(), line, files.calls(), before)
+}
+
+// The line, and below it the calls from this one on.
+fn with_calls(alloc: Global, mut line: String, calls: &[Call], first: usize) -> Result<String> {
+    for call in calls.iter().skip(first) {
         let call = named(alloc, call)?;
         line.push_str(format!(in alloc; "\n  {call}")?.as_str())?;
     }
     Ok(line)
+}
+
+// Saves the target of the case in files of which a call fails, and tells what that came to, and the calls that did not.
+fn save_over_fault<T: Transport, K: Keeper, C: Clock + Drop>(
+    rt: &HostRuntime,
+    case: &Value,
+    repository: &mut Repository<T, K, C>,
+    files: MemoryFiles,
+    left: u64,
+) -> Result<String> {
+    let before = files.calls().len();
+    let mut files = FaultyFiles::new(files, left);
+    let line = save(rt, case, repository, &mut files)?;
+    with_calls(rt.alloc(), line, files.calls(), before)
 }
 
 // The same over new files.
@@ -245,6 +264,9 @@ fn tell_anew<T: Transport, K: Keeper<Receipt = Receipt>, C: Clock + Drop>(
     repository: &mut Repository<T, K, C>,
 ) -> Result<String> {
     let mut files = files(rt.alloc(), case)?;
+    if let Some(left) = number(case, "files fail after") {
+        return save_over_fault(rt, case, repository, files, left);
+    }
     let told = tell(rt, case, repository, &mut files);
     drop(files);
     told

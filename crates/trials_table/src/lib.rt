@@ -156,7 +156,7 @@ pub const CALLS: [(&str, &str, &str); 91] = [
     ("tough", "files,steps", "step,words,path,text,blanks"),
     (
         "save_target",
-        "root,metadata,targets,now,outdir,targets_outdir,root_chain,subset,files,folders,max_timestamp_size,max_targets_size,piece,target,prefixed,links,unsafe,scheme",
+        "root,metadata,targets,now,outdir,targets_outdir,root_chain,subset,files,folders,max_timestamp_size,max_targets_size,piece,target,prefixed,links,unsafe,scheme,files fail after",
         "",
     ),
     (
