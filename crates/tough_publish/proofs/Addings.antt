@@ -13,9 +13,13 @@ use Rattle.tough_net.specs.Collecting.{Collects, collected, bounds_of, held_by}
 use Rattle.tough_net.specs.Items.{Item}
 use Rattle.tough_roles.specs.declared.signed.Signed.{Signed}
 use Rattle.tough_schema.specs.declared.targets.Targets.{Targets}
+use Rattle.tough_signed.specs.declared.error.EditError.{EditError}
+use Rattle.tough_signed.specs.declared.error.EditError.TheVariants as errors
 use Rattle.tough_error.specs.declared.error.Error.{Error}
+use Rattle.tough_error.specs.declared.error.Error.TheVariants as wide
 use Rattle.tough_editor.specs.Adding.{RoleDoc}
 use Rattle.tough_editor.specs.Editors.{EditorDoc}
+use Rattle.tough_release.specs.Changes.{IsUndelegating}
 use Rattle.tough_release.specs.Edits.{ReleaseDoc}
 use Rattle.tough_publish.specs.Fetching.{Reads, Begins, IsUnfetchable}
 use Rattle.tough_publish.specs.Adding.{Delegates, IsUndelegated, Ends, EndsBy, IsUnbegun, Adds}
@@ -25,11 +29,19 @@ use Rattle.tough_publish.proofs.Fetches.{begun_fetches}
 pub ended : (a : RoleDoc) (o : Result (Vec ℕ Global) TransportError) (read : Result (Signed Targets) Error) (s : Signed Targets) (old new : ReleaseDoc) (r : Result (Unit {0}) Error) → read ≡ Ok s → Reads o read
     → OnOk r (Delegates a s old new) → IfErr r (IsUndelegated a s old) → OnErr r (new ≡ old) → EndsBy a o old new r
 ended a o read s old new (Ok u) is reads h k n = (Ok s, subst (Reads o) is reads, h)
-ended a o read s old new (Err w) is reads h k n = (Ok s, subst (Reads o) is reads, n, k)
+ended a o read s old new (Err w) is reads h k n = (Ok s, subst (Reads o) is reads, (n, k))
 
 -- none was read
 pub unread : (a : RoleDoc) (o : Result (Vec ℕ Global) TransportError) (read : Result (Signed Targets) Error) (w : Error) (old : ReleaseDoc) → read ≡ Err w → Reads o read → EndsBy a o old old (Err w)
-unread a o read w old is reads = (Err w, subst (Reads o) is reads, refl, refl)
+unread a o read w old is reads = (Err w, subst (Reads o) is reads, (refl, refl))
+
+-- the open editor has no delegations
+undelegating : (a : RoleDoc) (s : Signed Targets) (e : ReleaseDoc) → IsUndelegating e errors.NoDelegations → IsUndelegated a s e wide.NoDelegations
+undelegating a s e (inl h) = let clash : errors.NoDelegations ≡ errors.NoTargets = h.0 in cc
+undelegating a s e (inr h) = inr (inl (refl, inr h))
+
+pub undelegated : (a : RoleDoc) (s : Signed Targets) (e : ReleaseDoc) (error : EditError) → error ≡ errors.NoDelegations → IsUndelegating e error → IsUndelegated a s e wide.NoDelegations
+undelegated a s e error is h = undelegating a s e (subst (IsUndelegating e) is h)
 
 -- what stays the same has the same edits
 pub same_edits : {T : Type 0} (old new : EditorDoc ReleaseDoc T) (r : Result (Unit {0}) Error) → OnErr r (new ≡ old) → OnErr r (new.edits ≡ old.edits)
@@ -40,7 +52,7 @@ module _ {T S : Type 0} (refuses : T → Parts → TransportError → Type 0) (s
   -- the fetch doesn't begin
   pub unbegun : (w : Error) → IsUnbegun refuses serves yields e text a.name w → Adds refuses serves yields None e text a e.edits (Err w)
   unbegun w (inl h) = inl (w, refl, refl, h)
-  unbegun w (inr (opened, h)) = inr (opened, Err w, inl h, refl, refl)
+  unbegun w (inr (opened, h)) = inr (opened, (Err w, inl h, (refl, refl)))
 
   -- the fetch has ended
   pub follows : (f : Collect S) (o : Result (Vec ℕ Global) TransportError) (new : ReleaseDoc) (r : Result (Unit {0}) Error) → Collects (bounds_of f) (yields (collected f)) (held_by f) o → EndsBy a o e.edits new r
@@ -53,7 +65,7 @@ module _ {T S : Type 0} (refuses : T → Parts → TransportError → Type 0) (s
   begun_same f o is opened begun (Ready x) = tt
   begun_same f o is opened begun Pending = λ r h.
       let m = h.1 in
-      (h.0, subst (λ z. Adds refuses serves yields z e text a h.0 r) (sym is) (inr (opened, m.0, begun_fetches refuses serves yields e text a.name f begun m.0 m.1, m.2)))
+      (h.0, subst (λ z. Adds refuses serves yields z e text a h.0 r) (sym is) (inr (opened, (m.0, begun_fetches refuses serves yields e text a.name f begun m.0 m.1, m.2))))
 
   -- ---- from where the future stands
 

@@ -83,7 +83,7 @@ module _ {T S : Type 0} (refuses : T → Parts → TransportError → Type 0) (s
 
   -- the fetch of the next document can't begin
   pub goes_unbegun : (names ns : List (List ℕ)) (n : List ℕ) (role : SignedDoc TreeDoc) (w : Error) → names ≡ n ∷ ns → IsUnfetchable refuses serves yields e text n w → Completes refuses serves yields v e text name names role e.edits (Err w)
-  goes_unbegun names ns n role w is h = subst (λ ns. Completes refuses serves yields v e text name ns role e.edits (Err w)) (sym is) (Err w, inl h, refl, refl)
+  goes_unbegun names ns n role w is h = subst (λ ns. Completes refuses serves yields v e text name ns role e.edits (Err w)) (sym is) (Err w, inl h, (refl, refl))
 
   -- it has begun
   pub goes_begun : (names : List (List ℕ)) (f : Collect S) (u : Update) (role : SignedDoc TreeDoc) → names ≡ (update_doc u).name ∷ (update_doc u).names → (update_doc u).role ≡ role → Begins refuses serves yields e text (update_doc u).name f
@@ -97,7 +97,7 @@ module _ {T S : Type 0} (refuses : T → Parts → TransportError → Type 0) (s
   -- ---- a document that was read
 
   pub follows_rejected : (s : Signed Targets) (w : Error) → IsRejected v e.edits name s w → Follows refuses serves yields v e text name (Ok s) e.edits (Err w)
-  follows_rejected s w h = inl (w, h, refl, refl)
+  follows_rejected s w h = inl (w, h, (refl, refl))
 
   pub follows_renewed : (s : Signed Targets) (role : SignedDoc TreeDoc) (names shown : List (List ℕ)) → shown ≡ names → IsRenewed v e.edits name s role names → (new : ReleaseDoc) (result : Result (Option (Collect S × Update)) Error)
       → Steps refuses serves yields v e text name (Completes refuses serves yields v e text name shown role) new result → Steps refuses serves yields v e text name (Follows refuses serves yields v e text name (Ok s)) new result
@@ -105,7 +105,7 @@ module _ {T S : Type 0} (refuses : T → Parts → TransportError → Type 0) (s
       (λ after r k. inr (role, names, h, subst (λ ns. Completes refuses serves yields v e text name ns role after r) is k)) new result
 
   pub gains_untaken : (u : UpdateDoc) (s : Signed Targets) (w : Error) → IsUntakable v u.role.role u.name s w → Gains refuses serves yields v e text name (Some u) (Ok s) e.edits (Err w)
-  gains_untaken u s w h = inl (w, h, refl, refl)
+  gains_untaken u s w h = inl (w, h, (refl, refl))
 
   pub gains_taken : (u : UpdateDoc) (s : Signed Targets) (role : SignedDoc TreeDoc) → role ≡ with_new u.name s u.role → IsTakable v u.role.role u.name s → (new : ReleaseDoc) (result : Result (Option (Collect S × Update)) Error)
       → Steps refuses serves yields v e text name (Completes refuses serves yields v e text name u.names role) new result → Steps refuses serves yields v e text name (Gains refuses serves yields v e text name (Some u) (Ok s)) new result
@@ -115,8 +115,8 @@ module _ {T S : Type 0} (refuses : T → Parts → TransportError → Type 0) (s
   -- ---- what was fetched
 
   pub gains_unread : (u : Option UpdateDoc) (o : Result (Vec ℕ Global) TransportError) (read : Result (Signed Targets) Error) (w : Error) → read ≡ Err w → Reads o read → GainsBy refuses serves yields v e text name u o e.edits (Err w)
-  gains_unread None o read w is h = (Err w, subst (Reads o) is h, refl, refl)
-  gains_unread (Some u) o read w is h = (Err w, subst (Reads o) is h, refl, refl)
+  gains_unread None o read w is h = (Err w, subst (Reads o) is h, (refl, refl))
+  gains_unread (Some u) o read w is h = (Err w, subst (Reads o) is h, (refl, refl))
 
   pub gains_read : (u shown : Option UpdateDoc) (o : Result (Vec ℕ Global) TransportError) (read : Result (Signed Targets) Error) (s : Signed Targets) → u ≡ shown → read ≡ Ok s → Reads o read → (new : ReleaseDoc) (result : Result (Option (Collect S × Update)) Error)
       → Steps refuses serves yields v e text name (Gains refuses serves yields v e text name shown (Ok s)) new result → Steps refuses serves yields v e text name (GainsBy refuses serves yields v e text name u o) new result
@@ -126,8 +126,8 @@ module _ {T S : Type 0} (refuses : T → Parts → TransportError → Type 0) (s
   -- ---- a poll
 
   pub unbegun : (u : Option UpdateDoc) (w : Error) → IsUnbegun refuses serves yields e text name w → Updates refuses serves yields v e text name None u e.edits (Err w)
-  unbegun u w (inl h) = inl (w, h, refl, refl)
-  unbegun u w (inr h) = inr (Err w, inl h, refl, refl)
+  unbegun u w (inl h) = inl (w, h, (refl, refl))
+  unbegun u w (inr h) = inr (Err w, inl h, (refl, refl))
 
   pub updates_by : (f : Collect S) (u : Option UpdateDoc) (o : Result (Vec ℕ Global) TransportError) (new : ReleaseDoc) (r : Result (Unit {0}) Error) → Collects (bounds_of f) (yields (collected f)) (held_by f) o → GainsBy refuses serves yields v e text name u o new r
       → Updates refuses serves yields v e text name (Some f) u new r

@@ -10,8 +10,5 @@ returns-in-Ok-clause-ended g c =
     ended (role_doc c.args.role.now) c.args.outcome c.read_document.result c.in-Ok.signed old.edits new.edits c.delegate.result c.in-Ok.is c.read_document.ensures
     c.delegate.ensures.delegated c.delegate.ensures.refused (same_edits old new c.delegate.result c.delegate.ensures.unchanged)
 
-pub returns-clause-ended : goal.returns-clause-ended
-returns-clause-ended g c = unread (role_doc c.args.role.now) c.args.outcome c.read_document.result c.in-Err.error (editor_doc c.args.self.now).edits c.in-Err.is c.read_document.ensures
-
 pub returns-in-Err-clause-ended : goal.returns-in-Err-clause-ended
 returns-in-Err-clause-ended g c = unread (role_doc c.args.role.now) c.args.outcome c.read_document.result c.in-Err.error (editor_doc c.args.self.now).edits c.in-Err.is c.read_document.ensures
