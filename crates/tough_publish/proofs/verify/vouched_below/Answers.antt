@@ -29,8 +29,8 @@ returns-in-Ok-verify_by-clause-vouched g c = record {
   reached = vouched_by (g.V.Verify.verifies c.args.verifier.now) c.in-Ok.parent.now c.args.name.now c.args.document.now c.in-Ok-verify_by.ensures.vouched;
 }
 
-pub returns-in-Err-verify_by-clause-refused : goal.returns-in-Err-verify_by-clause-refused
-returns-in-Err-verify_by-clause-refused g c = inr (
+pub returns-clause-refused : goal.returns-clause-refused
+returns-clause-refused g c = inr (
   delegations_tree c.in-Ok.parent.now,
   c.in-Ok.ensures.found,
   unverified_by (g.V.Verify.verifies c.args.verifier.now) c.in-Ok.parent.now c.args.name.now c.args.document.now c.in-Err-verify_by.error c.in-Err-verify_by.ensures.refused,
