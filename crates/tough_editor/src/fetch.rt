@@ -123,7 +123,8 @@ pub fn fault(source: TransportError) -> Error
     }
 }
 
-/// Begins to fetch the role's file below a URL, of at most `max_targets_size` bytes (TUF specification 1.0, section 5.6.2). The errors, in this order: `ParseUrl`, `JoinUrlEncoded`, `Transport`.
+/// Begins to fetch the role's file below a URL, of at most `max_targets_size` bytes (TUF specification 1.0, section 5.6.2). The errors, in this order:
+/// `ParseUrl`, `JoinUrlEncoded`, `Transport`.
 pub fn begin_role<T: Transport>(
     alloc: Global,
     transport: &T,

@@ -21,8 +21,8 @@ use Rattle.tough_editor.specs.Adding.{RoleDoc}
 use Rattle.tough_editor.specs.Editors.{EditorDoc}
 use Rattle.tough_release.specs.Changes.{IsUndelegating}
 use Rattle.tough_release.specs.Edits.{ReleaseDoc}
-use Rattle.tough_publish.specs.Fetching.{Reads, Begins, IsUnfetchable}
-use Rattle.tough_publish.specs.Adding.{Delegates, IsUndelegated, Ends, EndsBy, IsUnbegun, Adds}
+use Rattle.tough_publish.specs.Fetching.{Reads, Begins}
+use Rattle.tough_publish.specs.Adding.{Delegates, IsUndelegated, EndsBy, IsUnbegun, Adds}
 use Rattle.tough_publish.proofs.Fetches.{begun_fetches}
 
 -- the document that was read is delegated to, or not

@@ -1,10 +1,10 @@
 -- The role's document takes its place, or doesn't.
-use Rattle.std.specs.Prelude.{◌≡◌, ◌⊎◌, ℕ, List, Result, Ok, Err, String, string_bytes}
+use Rattle.std.specs.Prelude.{◌≡◌, ◌⊎◌, ℕ, List, Ok, Err, String, string_bytes}
 use Rattle.std.specs.declared.alloc.Global.{Global}
-use Rattle.std.proofs.Common.{sym, subst, ap, inl, refl, ◌∙◌}
-use Rattle.tough_roles.specs.Signature.{SignedDoc, signed_doc, signatures_doc}
+use Rattle.std.proofs.Common.{subst, ap, inl, refl, ◌∙◌}
+use Rattle.tough_roles.specs.Signature.{signed_doc}
 use Rattle.tough_roles.specs.declared.signed.Signed.{Signed}
-use Rattle.tough_schema.specs.Whole.{TreeDoc, HeldDoc, tree_doc, held_doc}
+use Rattle.tough_schema.specs.Whole.{HeldDoc, tree_doc, held_doc}
 use Rattle.tough_schema.specs.declared.targets.DelegatedTargets.{DelegatedTargets}
 use Rattle.tough_schema.specs.declared.targets.Targets.{Targets}
 use Rattle.tough_signed.specs.declared.error.EditError.{EditError}

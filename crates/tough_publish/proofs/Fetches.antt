@@ -1,11 +1,11 @@
 -- What fetching a role's document comes to, from where it stands.
-use Rattle.std.specs.Prelude.{◌≡◌, ℕ, List, [], Option, Some, None, Result, Ok, Err}
+use Rattle.std.specs.Prelude.{ℕ, List, [], Some, None, Result, Ok, Err}
 use Rattle.std.proofs.Common.{subst, inr}
 use Rattle.futures.specs.Runs.{Runs}
 use Rattle.url.specs.Parts.{Parts}
 use Rattle.tough_net.specs.declared.collect.Collect.{Collect}
 use Rattle.tough_net.specs.declared.error.TransportError.{TransportError}
-use Rattle.tough_net.specs.Collecting.{Collects, collected, bounds_of, held_by}
+use Rattle.tough_net.specs.Collecting.{Collects, collected, bounds_of}
 use Rattle.tough_net.specs.Items.{Item}
 use Rattle.tough_net.proofs.lemmas.Collect.{Collects-Within}
 use Rattle.tough_roles.specs.declared.signed.Signed.{Signed}

@@ -1,5 +1,5 @@
 -- A document is put in the place of the first role of a name, a step at a time.
-use Rattle.std.proofs.Common.{◌≡◌, ℕ, suc, List, [], ◌∷◌, map, length, Bool, true, false, Option, Some, None, option_map, refl, ap, sym, ◌∙◌, if◌then◌else◌}
+use Rattle.std.proofs.Common.{◌≡◌, ℕ, suc, List, [], ◌∷◌, map, length, Bool, true, false, Option, Some, None, refl, ap, sym, ◌∙◌, if◌then◌else◌}
 use Rattle.std.proofs.lemmas.List.{length-map, with_items_is}
 use Rattle.std.specs.Str.{bytes_eq}
 use Rattle.std.specs.Vec.{with_items}
@@ -8,7 +8,7 @@ use Rattle.tough_schema.specs.Tree.{Entry}
 use Rattle.tough_schema.specs.declared.delegations.DelegatedRole.{DelegatedRole}
 use Rattle.tough_schema.specs.declared.delegations.Delegations.{Delegations, out-Delegations, roll-Delegations}
 use Rattle.tough_schema.specs.declared.targets.Targets.{Targets, out-Targets, roll-Targets}
-use Rattle.tough_schema.specs.Whole.{TreeDoc, tree, Branches, no_branches, unloaded, loaded, HeldDoc, RoleTree, DelegationsTree, put_branch, branches_from, branches_of, tree_doc, delegations_tree, role_tree}
+use Rattle.tough_schema.specs.Whole.{TreeDoc, tree, Branches, unloaded, loaded, HeldDoc, RoleTree, DelegationsTree, put_branch, branches_from, tree_doc, delegations_tree, role_tree}
 use Rattle.tough_schema.proofs.lemmas.Wholes.{own, tree-roll, tree-out, tree-under, delegations-roll, delegations-out}
 use Rattle.tough_publish.specs.Placing.{with_first, with_first_in, at_match, first_next, all_first}
 

@@ -1,5 +1,5 @@
 -- What an update comes to, from where it stands.
-use Rattle.std.specs.Prelude.{◌≡◌, ◌⊎◌, ℕ, List, [], ◌∷◌, ◌++◌, map, Option, Some, None, option_map, Result, Ok, Err, Vec, IfOk, IfErr, OnOk, IfSome, ⊤, String, string_bytes}
+use Rattle.std.specs.Prelude.{◌≡◌, ℕ, List, [], ◌∷◌, map, Option, Some, None, option_map, Result, Ok, Err, Vec, IfSome, ⊤, String, string_bytes}
 use Rattle.std.specs.Vec.Iter.{into_iter_items, into_iter_len, into_iter_deque}
 use Rattle.std.specs.declared.vec.IntoIter.{IntoIter}
 use Rattle.std.specs.declared.alloc.Global.{Global}
@@ -31,9 +31,9 @@ use Rattle.tough_editor.specs.Editors.{EditorDoc, IsEdited}
 use Rattle.tough_editor.specs.Fetched.{CanPoll, held_as}
 use Rattle.tough_release.specs.Edits.{ReleaseDoc}
 use Rattle.tough_publish.specs.Placing.{with_first_in}
-use Rattle.tough_publish.specs.Fetching.{Reads, Begins, IsUnfetchable, Fetches}
+use Rattle.tough_publish.specs.Fetching.{Reads, Begins, IsUnfetchable}
 use Rattle.tough_publish.specs.Verifying.{IsVouched, IsNewer, IsTakable, IsUntakable}
-use Rattle.tough_publish.specs.Updating.{UpdateDoc, update_doc, names_of, IsRefused, IsRejected, IsRenewed, Closes, Takes, Completes, Follows, Gains, GainsBy, IsUnbegun, Updates, Steps, CanGoOn, HasEnded, GoesOn, held_of, with_new}
+use Rattle.tough_publish.specs.Updating.{UpdateDoc, update_doc, names_of, IsRejected, IsRenewed, Closes, Takes, Completes, Follows, Gains, GainsBy, IsUnbegun, Updates, Steps, CanGoOn, HasEnded, GoesOn, held_of, with_new}
 use Rattle.tough_publish.specs.declared.update.Update.{Update}
 use Rattle.tough_publish.proofs.Fetches.{begun_fetches}
 

@@ -1,14 +1,14 @@
 -- Documents that are verified, and their refusals.
-use Rattle.std.specs.Prelude.{◌≡◌, ◌⊎◌, ℕ, List, Option, Some, None, is_some, true, Result, String, string_bytes}
+use Rattle.std.specs.Prelude.{◌≡◌, ℕ, List, Some, Result, String, string_bytes}
 use Rattle.std.specs.declared.alloc.Global.{Global}
-use Rattle.std.proofs.Common.{ap, sym, subst, inl, inr, refl, ◌∙◌}
+use Rattle.std.proofs.Common.{ap, subst, inr}
 use Rattle.tough_keys.specs.Same.{Verifies}
 use Rattle.tough_roles.specs.Verdict.{Refused, IsRefusal}
 use Rattle.tough_roles.specs.declared.error.Error.{Error as Fault}
 use Rattle.tough_roles.specs.declared.error.Error.TheVariants as faults
 use Rattle.tough_roles.specs.declared.signed.Signed.{Signed}
-use Rattle.tough_schema.specs.Delegations.{DelegationsDoc, delegations_doc}
-use Rattle.tough_schema.specs.Whole.{TreeDoc, DelegationsTree, tree_doc, delegations_tree}
+use Rattle.tough_schema.specs.Delegations.{delegations_doc}
+use Rattle.tough_schema.specs.Whole.{tree_doc, delegations_tree}
 use Rattle.tough_schema.specs.declared.delegations.Delegations.{Delegations}
 use Rattle.tough_schema.specs.declared.targets.Targets.{Targets, out-Targets}
 use Rattle.tough_schema.proofs.lemmas.Wholes.{delegations-top, tree-under}

@@ -2,7 +2,7 @@
 -- 5.6).
 use Rattle.std.specs.Prelude.{◌≡◌, ◌⊎◌, ⊤, ℕ, List, [], ◌∷◌, map, Option, Some, None, option_map, Result, Ok, Err, Vec, IfSome, String, string_bytes}
 use Rattle.std.specs.declared.alloc.Global.{Global}
-use Rattle.std.specs.Borrow.{Bor, MutBor}
+use Rattle.std.specs.Borrow.{MutBor}
 use Rattle.std.specs.Vec.Iter.{into_iter_items}
 use Rattle.std.specs.declared.vec.IntoIter.{IntoIter}
 use Rattle.futures.specs.Runs.{Runs}
@@ -10,14 +10,12 @@ use Rattle.url.specs.Parts.{Parts}
 use Rattle.tough_keys.specs.Same.{Verifies}
 use Rattle.tough_net.specs.declared.collect.Collect.{Collect}
 use Rattle.tough_net.specs.declared.error.TransportError.{TransportError}
-use Rattle.tough_net.specs.Collecting.{Collects, collected, bounds_of, held_by}
 use Rattle.tough_net.specs.Items.{Item}
-use Rattle.tough_roles.specs.Signature.{SignatureDoc, SignedDoc, signatures_doc, signed_doc}
+use Rattle.tough_roles.specs.Signature.{SignedDoc, signatures_doc, signed_doc}
 use Rattle.tough_roles.specs.declared.signed.Signed.{Signed}
 use Rattle.tough_schema.specs.Update.{updated, needed, listed_roles}
 use Rattle.tough_schema.specs.Whole.{TreeDoc, HeldDoc, tree_doc}
 use Rattle.tough_schema.specs.declared.targets.Targets.{Targets}
-use Rattle.tough_signed.specs.declared.error.EditError.{EditError}
 use Rattle.tough_signed.specs.declared.error.EditError.TheVariants as errors
 use Rattle.tough_error.specs.declared.error.Error.{Error}
 use Rattle.tough_error.specs.declared.error.Error.TheVariants as wide

@@ -14,7 +14,7 @@ use Rattle.tough_roles.specs.declared.signed.Signed.{Signed}
 use Rattle.tough_schema.specs.Delegations.{DelegationsDoc}
 use Rattle.tough_schema.specs.Seek.{sought, document_of, parent}
 use Rattle.tough_schema.specs.Verify.{delegated_policy, ReachesDelegated}
-use Rattle.tough_schema.specs.Whole.{TreeDoc, tree, DelegationsTree, HeldDoc, tree_doc}
+use Rattle.tough_schema.specs.Whole.{TreeDoc, tree, DelegationsTree, HeldDoc}
 use Rattle.tough_schema.specs.declared.targets.Targets.{Targets}
 use Rattle.tough_error.specs.declared.error.Error.{Error}
 use Rattle.tough_error.specs.declared.error.Error.TheVariants as wide

@@ -1,4 +1,4 @@
-use Rattle.std.proofs.Common.{ℕ, List, Result, Ok, Err, refl, subst, string_bytes}
+use Rattle.std.proofs.Common.{ℕ, List, Ok, Err, refl, subst, string_bytes}
 use Rattle.tough_roles.specs.Signature.{signed_doc}
 use Rattle.tough_schema.specs.Whole.{tree_doc}
 use Rattle.tough_publish.specs.Editors.{editor_doc}

@@ -1,8 +1,6 @@
-use Rattle.std.proofs.Common.{map, ap, string_bytes, sym, ◌∙◌, subst, inl, inr}
-use Rattle.tough_roles.specs.Root.{RootDoc, root_doc}
-use Rattle.tough_roles.specs.Signature.{SignedDoc, signed_doc}
-use Rattle.tough_roles.specs.declared.root.Root.{Root}
-use Rattle.tough_roles.specs.declared.signed.Signed.{Signed}
+use Rattle.std.proofs.Common.{map, string_bytes, sym, subst, inl, inr}
+use Rattle.tough_roles.specs.Root.{RootDoc}
+use Rattle.tough_roles.specs.Signature.{signed_doc}
 use Rattle.tough_schema.specs.Whole.{tree_doc}
 use Rattle.tough_publish.specs.Editors.{editor_doc}
 use Rattle.tough_publish.specs.Verifying.{IsVouched, IsUnvouched}

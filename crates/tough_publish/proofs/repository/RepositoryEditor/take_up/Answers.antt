@@ -2,7 +2,6 @@ use Rattle.std.proofs.Common.{ℕ, List, subst}
 use Rattle.tough_publish.specs.Editors.{editor_doc}
 use Rattle.tough_publish.specs.Updating.{update_doc}
 use Rattle.tough_publish.specs.Verifying.{IsTakable, IsUntakable}
-use Rattle.tough_roles.specs.Signature.{signed_doc}
 use Rattle.tough_schema.specs.Whole.{tree_doc}
 use Rattle.tough_publish.proofs.Updatings.{taken_is, gains_taken, gains_untaken}
 use Rattle.tough_publish.proofs.repository.RepositoryEditor.take_up.Goals as goal
