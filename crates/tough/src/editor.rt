@@ -3,4 +3,4 @@
 pub mod signed;
 pub mod targets;
 
-pub use tough_publish::{RepositoryEditor, RepositoryEdits};
+pub use tough_publish::{AddRole, RepositoryEditor, RepositoryEdits, UpdateDelegatedTargets};

@@ -30,8 +30,8 @@ use tough_roles::clone::copy_keys;
 use tough_schema::{PathSet, Targets};
 use tough_signed::EditError;
 
-// The keys that are to sign the role.
-fn signing_keys(
+/// The keys that are to sign a role: those that are given, or else those of its own delegations, if it has any.
+pub fn signing_keys(
     given: &Option<BTreeMap<Decoded<Hex>, Key>>,
     document: &Targets,
 ) -> Result<Option<BTreeMap<Decoded<Hex>, Key>>, AllocError>
@@ -47,15 +47,19 @@ fn signing_keys(
     }
 }
 
-/// A role that is to be added: its name, the paths that it may list, whether a search ends after it, and how many keys must sign it, of these or of its
-/// own delegations.
+/// A role that is to be added (TUF specification 1.0, section 4.5).
 #[derive(Drop)]
-pub(crate) struct NewRole<'a> {
-    pub(crate) name: &'a str,
-    pub(crate) paths: PathSet,
-    pub(crate) terminating: bool,
-    pub(crate) threshold: NonZeroU64,
-    pub(crate) keys: Option<BTreeMap<Decoded<Hex>, Key>>,
+pub struct NewRole<'a> {
+    /// Its name.
+    pub name: &'a str,
+    /// The paths that it may list.
+    pub paths: PathSet,
+    /// Whether a search ends after it.
+    pub terminating: bool,
+    /// How many of its keys must sign it.
+    pub threshold: NonZeroU64,
+    /// Its keys, or none where they are those of its own delegations.
+    pub keys: Option<BTreeMap<Decoded<Hex>, Key>>,
 }
 
 impl<T: Transport> TargetsEditor<T> {

@@ -112,8 +112,8 @@ pub(crate) fn role_url(alloc: Global, text: &str, name: &str) -> Result<Url, Err
     join_role(alloc, &base, name)
 }
 
-/// The fault of a transport.
-pub(crate) fn fault(source: TransportError) -> Error
+/// The error that tells the fault of a transport: `Transport`, or `Memory`.
+pub fn fault(source: TransportError) -> Error
     ensures { IsFault source result }
 {
     if source.kind() == TransportErrorKind::Memory {
@@ -123,8 +123,8 @@ pub(crate) fn fault(source: TransportError) -> Error
     }
 }
 
-/// Begins to fetch the role's file. The errors, in this order: `ParseUrl`, `JoinUrlEncoded`, `Transport`.
-pub(crate) fn begin_role<T: Transport>(
+/// Begins to fetch the role's file below a URL, of at most `max_targets_size` bytes (TUF specification 1.0, section 5.6.2). The errors, in this order: `ParseUrl`, `JoinUrlEncoded`, `Transport`.
+pub fn begin_role<T: Transport>(
     alloc: Global,
     transport: &T,
     limits: &Limits,
@@ -154,8 +154,8 @@ pub(crate) fn begin_role<T: Transport>(
     }
 }
 
-/// The signed document that the bytes are. `ParseMetadata` if they are none.
-pub(crate) fn document(alloc: Global, bytes: &[u8]) -> Result<Signed<Targets>, Error>
+/// The signed document that the bytes are (section 4.5). `ParseMetadata` if they are none.
+pub fn document(alloc: Global, bytes: &[u8]) -> Result<Signed<Targets>, Error>
     ensures read { IfOk result (IsDocument bytes.now) }
     ensures refused { IfErr result (IsNoDocument bytes.now) }
 {

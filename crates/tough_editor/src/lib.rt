@@ -7,7 +7,8 @@ mod fetch;
 mod parts;
 mod targets;
 
-pub use add_role::AddRole;
+pub use add_role::{AddRole, NewRole, signing_keys};
 pub use error::wide;
+pub use fetch::{begin_role, document, fault};
 pub use targets::TargetsEditor;
 pub use tough_error::{Error, Result};
