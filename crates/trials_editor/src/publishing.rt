@@ -1,6 +1,7 @@
 //! What the calls of an editor of a repository answer, one after another, which files it signs, and what a load of these files comes to.
 
 use crate::editing::reopened;
+use crate::fetching;
 use crate::given::{
     Called, CaseSign, given_files, outcome, paths, positive, put_extras, signers, small_files,
     target,
@@ -151,15 +152,7 @@ fn delegate_role(
     expires: jiff::Timestamp,
 ) -> Called {
     let (threshold, version) = (positive(step, "threshold"), positive(step, "version"));
-    editor.delegate_role(
-        name,
-        signers,
-        paths,
-        false,
-        threshold,
-        expires,
-        version,
-    )?;
+    editor.delegate_role(name, signers, paths, false, threshold, expires, version)?;
     Ok(())
 }
 
@@ -242,7 +235,11 @@ fn of_roles(alloc: Global, editor: &mut Editor, step: &Value) -> Result<Option<S
 }
 
 // What a step answers.
-fn step_of(alloc: Global, editor: &mut Editor, step: &Value) -> Result<String> {
+fn step_of<R>(rt: &R, editor: &mut Editor, step: &Value) -> Result<String>
+where
+    R: RandomSource + AllocGlobal,
+{
+    let alloc = rt.alloc();
     if of_heads(editor, step)? {
         return Ok(String::from_str(alloc, "ok")?);
     }
@@ -253,6 +250,9 @@ fn step_of(alloc: Global, editor: &mut Editor, step: &Value) -> Result<String> {
         return Ok(told);
     }
     if let Some(told) = of_roles(alloc, editor, step)? {
+        return Ok(told);
+    }
+    if let Some(told) = fetching::answer(rt, editor, step)? {
         return Ok(told);
     }
     Err(anyhow!("no step {}", text(step, "op")))
@@ -362,7 +362,11 @@ fn root_file(alloc: Global, made: &SignedRepository) -> Result<MemoryFiles> {
 }
 
 // What steps on an editor of the loaded repository answer, and then what signing it answers.
-fn edited(alloc: Global, made: &SignedRepository, loaded: Parts, case: &Value) -> Result<String> {
+fn edited<R>(rt: &R, made: &SignedRepository, loaded: Parts, case: &Value) -> Result<String>
+where
+    R: RandomSource + AllocGlobal,
+{
+    let alloc = rt.alloc();
     let parts = match loaded {
         Ok(parts) => parts,
         Err(error) => return Ok(format!(in alloc; "{error}")?),
@@ -375,7 +379,7 @@ fn edited(alloc: Global, made: &SignedRepository, loaded: Parts, case: &Value) -
         Ok(editor) => editor,
         Err(error) => return Ok(format!(in alloc; "{error}")?),
     };
-    let lines = steps(alloc, &mut editor, case)?;
+    let lines = steps(rt, &mut editor, case)?;
     let signers = signers(alloc, list(case, "signers"))?;
     match editor.sign(signers.as_slice()) {
         Ok(made) => {
@@ -404,7 +408,7 @@ where
     }
     if let Some(again) = case.get("again") {
         let parts = put_spec_versions(alloc, first, again)?;
-        let line = edited(alloc, made, parts, again)?;
+        let line = edited(rt, made, parts, again)?;
         told.push_str(format!(in alloc; "\n  {line}")?.as_str())?;
     }
     Ok(told)
@@ -427,10 +431,14 @@ where
 }
 
 // What each step of a case answers, each on a line of its own.
-fn steps(alloc: Global, editor: &mut Editor, case: &Value) -> Result<String> {
+fn steps<R>(rt: &R, editor: &mut Editor, case: &Value) -> Result<String>
+where
+    R: RandomSource + AllocGlobal,
+{
+    let alloc = rt.alloc();
     let mut lines = String::new(alloc);
     for step in list(case, "steps") {
-        let line = step_of(alloc, editor, step)?;
+        let line = step_of(rt, editor, step)?;
         lines.push_str(format!(in alloc; "{line}\n  ")?.as_str())?;
     }
     Ok(lines)
@@ -447,7 +455,7 @@ where
         Ok(editor) => editor,
         Err(error) => return Ok(format!(in alloc; "{error}")?),
     };
-    let lines = steps(alloc, &mut editor, case)?;
+    let lines = steps(rt, &mut editor, case)?;
     let signed = signed(rt, editor, case)?;
     Ok(format!(in alloc; "{lines}{signed}")?)
 }

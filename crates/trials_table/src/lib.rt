@@ -135,7 +135,7 @@ pub const CALLS: [(&str, &str, &str); 91] = [
     (
         "RepositoryEditor",
         "files,steps,signers,consistent,opens,extras,again",
-        "op,name,version,content,path,signers,pattern,threshold,document,extra,count,role,steps",
+        "op,name,version,content,path,signers,pattern,threshold,document,extra,count,role,steps,served,url,keys,limits",
     ),
     (
         "TargetFiles",
