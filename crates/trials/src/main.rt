@@ -141,6 +141,15 @@ where
     }
 }
 
+// Marks a call, if the table has it.
+fn mark(tried: &mut Vec<bool>, call: &str) {
+    if let Some(place) = place_of(call)
+        && let Some(mark) = tried.get_mut(place)
+    {
+        *mark = true;
+    }
+}
+
 // Answers the cases of a file, or those of a name alone, and marks their calls.
 fn try_file<R>(
     rt: &HostRuntime,
@@ -167,17 +176,11 @@ where
     let (mut count, mut others) = (0usize, 0usize);
     if let Some(cases) = read.as_array() {
         for case in cases {
-            if let Some(name) = only
-                && name != text(case, "name")
-            {
+            if only.is_some() && only != Some(text(case, "name")) {
                 continue;
             }
             count = count.saturating_add(1);
-            if let Some(place) = place_of(text(case, "call"))
-                && let Some(mark) = tried.get_mut(place)
-            {
-                *mark = true;
-            }
+            mark(tried, text(case, "call"));
             if !is_answered(rt, waiting, case)? {
                 others = others.saturating_add(1);
             }

@@ -1,7 +1,7 @@
 //! What the calls of an editor of targets answer, one after another, and what it signs.
 
 use crate::given::{
-    Called, Keys, key, keys, outcome, paths, positive, signers, small_files, target,
+    Called, CaseSign, Keys, key, keys, outcome, paths, positive, signers, small_files, target,
 };
 use anyhow::{Result, anyhow};
 use bytes::Bytes;
@@ -9,15 +9,15 @@ use serde_json::Value;
 use std::alloc::{AllocGlobal, Global};
 use std::num::NonZeroU64;
 use std::random::RandomSource;
-use tough_client::finish;
+use tough_client::{RepositoryParts, finish};
 use tough_decoded::{Decoded, Hex};
 use tough_editor::TargetsEditor;
 use tough_files::MemoryFiles;
 use tough_names::TargetName;
 use tough_net::{Limits, MemoryTransport};
-use tough_schema::{DelegatedTargets, PathSet, Role, Signed, Target, Targets};
+use tough_schema::{DelegatedTargets, KeyHolder, PathSet, Role, Root, Signed, Target, Targets};
 use tough_signed::SignedDelegatedTargets;
-use trials_calls::case::{flag, list, text};
+use trials_calls::case::{flag, list, number, text};
 
 type Editor = TargetsEditor<MemoryTransport>;
 
@@ -146,7 +146,9 @@ where
 {
     let alloc = rt.alloc();
     if flag(step, "limits") {
-        editor.limits(Limits::default());
+        let mut limits = Limits::default();
+        limits.max_targets_size = number(step, "max_targets_size").unwrap_or(1_048_576);
+        editor.limits(limits);
     }
     if let Some(bytes) = step.get("served").and_then(Value::as_str) {
         let mut transport = MemoryTransport::in_pieces(alloc, 2);
@@ -167,6 +169,33 @@ where
     }
 }
 
+fn build(editor: &Editor) -> Called {
+    drop(editor.build_targets()?);
+    Ok(())
+}
+
+fn create(editor: &Editor, signers: &[CaseSign]) -> Called {
+    drop(editor.create_signed(signers)?);
+    Ok(())
+}
+
+fn sign(editor: &Editor, signers: &[CaseSign]) -> Called {
+    drop(editor.sign(signers)?);
+    Ok(())
+}
+
+// What a call that makes a document answers, if it is one.
+fn of_signing(alloc: Global, editor: &Editor, step: &Value) -> Result<Option<String>> {
+    let signers = signers(alloc, list(step, "signers"))?;
+    let done = match text(step, "op") {
+        "build_targets" => build(editor),
+        "create_signed" => create(editor, signers.as_slice()),
+        "sign" => sign(editor, signers.as_slice()),
+        _ => return Ok(None),
+    };
+    Ok(Some(outcome(alloc, done)?))
+}
+
 // What a step answers.
 fn step_of<R>(rt: &R, editor: &mut Editor, step: &Value) -> Result<String>
 where
@@ -177,6 +206,9 @@ where
         return Ok(told);
     }
     if let Some(told) = of_delegations(alloc, editor, step)? {
+        return Ok(told);
+    }
+    if let Some(told) = of_signing(alloc, editor, step)? {
         return Ok(told);
     }
     match text(step, "op") {
@@ -219,16 +251,15 @@ fn signed(alloc: Global, made: &SignedDelegatedTargets) -> Result<String> {
     Ok(lines.as_slice().join(alloc, "\n  ")?)
 }
 
-/// What each step of a case answers on an editor of a new document of its role, and then what signing it answers.
-pub fn play<R>(rt: &R, case: &Value) -> Result<String>
+// What each step of a case answers, and then what signing answers.
+fn run<R>(rt: &R, editor: &mut Editor, case: &Value) -> Result<String>
 where
     R: RandomSource + AllocGlobal,
 {
     let alloc = rt.alloc();
-    let mut editor: Editor = TargetsEditor::new(alloc, text(case, "role"))?;
     let mut lines = Vec::new(alloc);
     for step in list(case, "steps") {
-        lines.push(step_of(rt, &mut editor, step)?)?;
+        lines.push(step_of(rt, editor, step)?)?;
     }
     let signers = signers(alloc, list(case, "signers"))?;
     match editor.sign(signers.as_slice()) {
@@ -236,4 +267,54 @@ where
         Err(error) => lines.push(format!(in alloc; "{error}")?)?,
     }
     Ok(lines.as_slice().join(alloc, "\n  ")?)
+}
+
+// Who holds the keys of a case's document: a root, or the delegations of targets.
+fn holder(alloc: Global, case: &Value) -> Result<KeyHolder> {
+    if let Some(root) = case.get("root").and_then(Value::as_str) {
+        return Ok(KeyHolder::Root(Root::read(alloc, root.as_bytes())?));
+    }
+    let parent = Targets::read(alloc, text(case, "parent").as_bytes())?;
+    match parent.delegations {
+        Some(delegations) => Ok(KeyHolder::Delegations(delegations)),
+        None => Err(anyhow!("no delegations")),
+    }
+}
+
+// An editor of a new document of the case's role, or of the targets that the case gives.
+fn begun(alloc: Global, case: &Value) -> Result<Editor> {
+    let role = text(case, "role");
+    match case.get("targets").and_then(Value::as_str) {
+        Some(targets) => {
+            let targets = Targets::read(alloc, targets.as_bytes())?;
+            let holder = holder(alloc, case)?;
+            Ok(TargetsEditor::from_targets(alloc, role, targets, holder)?)
+        }
+        None => Ok(TargetsEditor::new(alloc, role)?),
+    }
+}
+
+/// What each step of a case answers on an editor of a role of the repository, and then what signing it answers.
+pub(crate) fn reopened<R>(
+    rt: &R,
+    parts: RepositoryParts<MemoryTransport>,
+    case: &Value,
+) -> Result<String>
+where
+    R: RandomSource + AllocGlobal,
+{
+    let alloc = rt.alloc();
+    match TargetsEditor::from_repo(alloc, parts, text(case, "role")) {
+        Ok(mut editor) => run(rt, &mut editor, case),
+        Err(error) => Ok(format!(in alloc; "{error}")?),
+    }
+}
+
+/// What each step of a case answers on an editor of its role, and then what signing it answers.
+pub fn play<R>(rt: &R, case: &Value) -> Result<String>
+where
+    R: RandomSource + AllocGlobal,
+{
+    let mut editor = begun(rt.alloc(), case)?;
+    run(rt, &mut editor, case)
 }

@@ -1,7 +1,7 @@
 //! What steps on editors are given: signers, keys, paths, targets and files.
 
 use anyhow::Result;
-use serde_json::Value;
+use serde_json::{Map, Value};
 use std::alloc::Global;
 use std::collections::BTreeMap;
 use std::num::NonZeroU64;
@@ -10,7 +10,7 @@ use tough_demo::role_key;
 use tough_error::Error;
 use tough_files::{Files, MemoryFiles};
 use tough_names::PathPattern;
-use tough_schema::{DemoSign, Key, PathSet, Target};
+use tough_schema::{DemoSign, Key, PathSet, Sign, SignError, Target};
 use trials_calls::case::{list, number, text};
 
 /// Keys under their identifiers.
@@ -19,14 +19,106 @@ pub(crate) type Keys = BTreeMap<Decoded<Hex>, Key>;
 /// What a call on an editor answers, but for the editor.
 pub(crate) type Called = std::result::Result<(), Error>;
 
-/// The signers by the keys of these names.
-pub(crate) fn signers(alloc: Global, names: &[Value]) -> Result<Vec<DemoSign>> {
+// How a signer signs.
+#[derive(Drop)]
+enum Manner {
+    // As the demonstration's signer.
+    Well,
+    // It doesn't tell its key.
+    Mute,
+    // It tells its key, and signs nothing.
+    Failing,
+    // Its signatures have no bytes.
+    Empty,
+}
+
+/// A signer of a case, which may fail.
+#[derive(Drop)]
+pub(crate) struct CaseSign {
+    demo: DemoSign,
+    manner: Manner,
+}
+
+impl Sign for CaseSign {
+    ghost use Rattle.tough_keys.specs.Key.{key_doc};
+
+    ghost key = { λ s. key_doc s.demo.key };
+
+    ghost signs = { λ _ _ _. Unit {0} };
+
+    fn tuf_key(&self, alloc: Global) -> std::result::Result<Key, SignError> {
+        match &self.manner {
+            Manner::Mute => Err(SignError::Failed(String::from_str(alloc, "no key")?)),
+            _ => self.demo.tuf_key(alloc),
+        }
+    }
+
+    fn sign(&self, alloc: Global, msg: &[u8]) -> std::result::Result<Vec<u8>, SignError> {
+        match &self.manner {
+            Manner::Failing => Err(SignError::Failed(String::from_str(alloc, "no hand")?)),
+            Manner::Empty => Ok(Vec::new(alloc)),
+            _ => self.demo.sign(alloc, msg),
+        }
+    }
+}
+
+// The key with a member that is no whole number, so that it has no canonical form.
+fn with_float(alloc: Global, key: Key) -> Result<Key> {
+    match key {
+        Key::Ed25519 {
+            keyval,
+            scheme,
+            _extra,
+        } => {
+            let mut members = _extra;
+            let name = String::from_str(alloc, "x")?;
+            members.insert(name, Value::from_slice(alloc, b"1.5")?)?;
+            Ok(Key::Ed25519 {
+                keyval,
+                scheme,
+                _extra: members,
+            })
+        }
+        other => Ok(other),
+    }
+}
+
+// The signer by the key of a name: `NAME`, or one that can't sign, as `mute NAME`, `failing NAME`, `empty NAME` and `float NAME`.
+fn signer(alloc: Global, text: &str) -> Result<CaseSign> {
+    let (manner, name) = text.split_once(" ").unwrap_or(("", text));
+    let mut key = role_key(alloc, name)?;
+    if manner == "float" {
+        key = with_float(alloc, key)?;
+    }
+    let manner = match manner {
+        "mute" => Manner::Mute,
+        "failing" => Manner::Failing,
+        "empty" => Manner::Empty,
+        _ => Manner::Well,
+    };
+    Ok(CaseSign {
+        demo: DemoSign { key },
+        manner,
+    })
+}
+
+/// The signers of these names.
+pub(crate) fn signers(alloc: Global, names: &[Value]) -> Result<Vec<CaseSign>> {
     let mut signers = Vec::new(alloc);
     for name in names {
-        let key = role_key(alloc, name.as_str().unwrap_or(""))?;
-        signers.push(DemoSign { key })?;
+        signers.push(signer(alloc, name.as_str().unwrap_or(""))?)?;
     }
     Ok(signers)
+}
+
+/// Adds a step's extras to those of a document.
+pub(crate) fn put_extras(extras: &mut Map<String, Value>, step: &Value) -> Result<()> {
+    if let Some(given) = step.get("extra").and_then(Value::as_object) {
+        for (name, value) in given {
+            drop(extras.insert(name.clone()?, value.clone()?)?);
+        }
+    }
+    Ok(())
 }
 
 /// The key of a name, under its identifier.

@@ -2,6 +2,7 @@
 #![tactic(auto)]
 
 pub mod editing;
+mod fetching;
 mod given;
 mod loading;
 pub mod publishing;

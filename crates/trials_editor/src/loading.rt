@@ -1,15 +1,18 @@
 //! A signed repository is loaded, and compared with what was signed.
 
 use anyhow::Result;
+use serde_json::Value;
 use std::alloc::{AllocGlobal, Global};
 use std::num::NonZeroU64;
 use std::random::RandomSource;
 use tough_client::{FixedClock, MemoryStore, RepositoryLoader, RepositoryParts, Vault, drive};
 use tough_editor::TargetsEditor;
+use tough_error::Error;
 use tough_json::Form;
+use tough_keys::clone::copy;
 use tough_net::MemoryTransport;
 use tough_release::SignedRepository;
-use tough_roles::{Role, Signed};
+use tough_roles::{Role, Signed, Snapshot, Timestamp};
 use tough_schema::{DemoVerify, Targets};
 use url::Url;
 
@@ -37,8 +40,12 @@ fn has_documents(alloc: Global, made: &SignedRepository, targets: &Targets) -> R
     Ok(true)
 }
 
-// What an editor of a role of a loaded repository builds under version 9.
-fn opened(alloc: Global, parts: RepositoryParts<MemoryTransport>, role: &str) -> Result<String> {
+/// What an editor of a role of a loaded repository builds under version 9.
+pub(crate) fn opened(
+    alloc: Global,
+    parts: RepositoryParts<MemoryTransport>,
+    role: &str,
+) -> Result<String> {
     let mut editor = match TargetsEditor::from_repo(alloc, parts, role) {
         Ok(editor) => editor,
         Err(error) => return Ok(format!(in alloc; "{error}")?),
@@ -55,14 +62,11 @@ fn opened(alloc: Global, parts: RepositoryParts<MemoryTransport>, role: &str) ->
     }
 }
 
-/// What a load of the repository by its first root comes to, from below `http://h/`, and whether it gives what was signed; or what an editor of this role of
-/// the loaded repository builds.
-pub(crate) fn load_back<R>(
-    rt: &R,
-    made: &SignedRepository,
-    transport: MemoryTransport,
-    role: Option<&str>,
-) -> Result<String>
+/// The parts of a repository, or why it isn't loaded.
+pub(crate) type Parts = std::result::Result<RepositoryParts<MemoryTransport>, Error>;
+
+/// Loads the repository by its first root, from below `http://h/`.
+pub(crate) fn load<R>(rt: &R, made: &SignedRepository, transport: MemoryTransport) -> Result<Parts>
 where
     R: RandomSource + AllocGlobal,
 {
@@ -76,22 +80,40 @@ where
         .clock(FixedClock(jiff::Timestamp::UNIX_EPOCH))
         .keeper(&mut vault)
         .load()?;
-    let loaded = match drive(rt, load)? {
-        Ok(repository) => repository,
-        Err(error) => return Ok(format!(in alloc; "{error}")?),
-    };
-    if let Some(role) = role {
-        return opened(alloc, loaded.into_parts(), role);
+    match drive(rt, load)? {
+        Ok(repository) => Ok(Ok(repository.into_parts())),
+        Err(error) => Ok(Err(error)),
     }
-    let is_equal = is_same(alloc, made.root().signed(), loaded.root())?
-        && is_same(alloc, made.timestamp().signed(), loaded.timestamp())?
-        && is_same(alloc, made.snapshot().signed(), loaded.snapshot())?
-        && is_same(alloc, made.targets().signed(), loaded.targets())?
-        && has_documents(alloc, made, &loaded.targets().signed)?;
+}
+
+/// Whether what was loaded is what was signed.
+pub(crate) fn compared(
+    alloc: Global,
+    made: &SignedRepository,
+    loaded: &RepositoryParts<MemoryTransport>,
+) -> Result<String> {
+    let is_equal = is_same(alloc, made.root().signed(), &loaded.root)?
+        && is_same(alloc, made.timestamp().signed(), &loaded.timestamp)?
+        && is_same(alloc, made.snapshot().signed(), &loaded.snapshot)?
+        && is_same(alloc, made.targets().signed(), &loaded.targets)?
+        && has_documents(alloc, made, &loaded.targets.signed)?;
     let told = if is_equal {
         "loads equal"
     } else {
         "loads otherwise"
     };
     Ok(String::from_str(alloc, told)?)
+}
+
+/// The extras of targets, of a snapshot and of a timestamp.
+pub(crate) fn extras(
+    alloc: Global,
+    targets: &Targets,
+    snapshot: &Snapshot,
+    timestamp: &Timestamp,
+) -> Result<String> {
+    let targets = Value::Object(copy(&targets._extra)?).to_string(alloc)?;
+    let snapshot = Value::Object(copy(&snapshot._extra)?).to_string(alloc)?;
+    let timestamp = Value::Object(copy(&timestamp._extra)?).to_string(alloc)?;
+    Ok(format!(in alloc; "extras {targets} {snapshot} {timestamp}")?)
 }

@@ -1,21 +1,26 @@
 //! What the calls of an editor of a repository answer, one after another, which files it signs, and what a load of these files comes to.
 
-use crate::given::{Called, given_files, outcome, paths, positive, signers, small_files, target};
-use crate::loading::load_back;
+use crate::editing::reopened;
+use crate::fetching;
+use crate::given::{
+    Called, CaseSign, given_files, outcome, paths, positive, put_extras, signers, small_files,
+    target,
+};
+use crate::loading::{Parts, compared, extras, load, opened};
 use anyhow::{Result, anyhow};
 use bytes::Bytes;
 use serde_json::Value;
 use std::alloc::{AllocGlobal, Global};
 use std::num::NonZeroU64;
 use std::random::RandomSource;
-use tough_files::MemoryFiles;
+use tough_files::{Files, MemoryFiles};
 use tough_names::TargetName;
 use tough_net::MemoryTransport;
 use tough_publish::RepositoryEditor;
 use tough_release::SignedRepository;
-use tough_schema::{DemoSign, PathSet, Target};
+use tough_schema::{PathSet, Signed, Snapshot, Target, Targets, Timestamp};
 use tough_write::WriteSigned;
-use trials_calls::case::{flag, list, text};
+use trials_calls::case::{flag, list, number, text};
 
 pub(crate) type Editor = RepositoryEditor<MemoryTransport>;
 
@@ -99,27 +104,59 @@ fn of_targets(alloc: Global, editor: &mut Editor, step: &Value) -> Result<Option
     Ok(Some(outcome(alloc, done)?))
 }
 
+fn take_targets(editor: &mut Editor, targets: Signed<Targets>) -> Called {
+    editor.targets(targets)?;
+    Ok(())
+}
+
+fn take_snapshot(editor: &mut Editor, snapshot: Snapshot) -> Called {
+    editor.snapshot(snapshot)?;
+    Ok(())
+}
+
+fn take_timestamp(editor: &mut Editor, timestamp: Timestamp) -> Called {
+    editor.timestamp(timestamp)?;
+    Ok(())
+}
+
+// What a call that takes a document over answers, if it is one.
+fn of_documents(alloc: Global, editor: &mut Editor, step: &Value) -> Result<Option<String>> {
+    let bytes = text(step, "document").as_bytes();
+    let done = match text(step, "op") {
+        "targets" => {
+            let mut document: Signed<Targets> = Signed::read(alloc, bytes)?;
+            put_extras(&mut document.signed._extra, step)?;
+            take_targets(editor, document)
+        }
+        "snapshot" => {
+            let mut document = Snapshot::read(alloc, bytes)?;
+            put_extras(&mut document._extra, step)?;
+            take_snapshot(editor, document)
+        }
+        "timestamp" => {
+            let mut document = Timestamp::read(alloc, bytes)?;
+            put_extras(&mut document._extra, step)?;
+            take_timestamp(editor, document)
+        }
+        _ => return Ok(None),
+    };
+    Ok(Some(outcome(alloc, done)?))
+}
+
 fn delegate_role(
     editor: &mut Editor,
+    name: &str,
     step: &Value,
-    signers: &[DemoSign],
+    signers: &[CaseSign],
     paths: PathSet,
     expires: jiff::Timestamp,
 ) -> Called {
     let (threshold, version) = (positive(step, "threshold"), positive(step, "version"));
-    editor.delegate_role(
-        text(step, "name"),
-        signers,
-        paths,
-        false,
-        threshold,
-        expires,
-        version,
-    )?;
+    editor.delegate_role(name, signers, paths, false, threshold, expires, version)?;
     Ok(())
 }
 
-fn sign_targets_editor(editor: &mut Editor, signers: &[DemoSign]) -> Called {
+fn sign_targets_editor(editor: &mut Editor, signers: &[CaseSign]) -> Called {
     editor.sign_targets_editor(signers)?;
     Ok(())
 }
@@ -129,14 +166,67 @@ fn change_delegated_targets(editor: &mut Editor, role: &str) -> Called {
     Ok(())
 }
 
+// Delegates to so many roles, each under the step's name and its number.
+fn delegate_many(
+    alloc: Global,
+    editor: &mut Editor,
+    step: &Value,
+    signers: &[CaseSign],
+) -> Result<Called> {
+    for count in 0..number(step, "count").unwrap_or(0) {
+        let name = format!(in alloc; "{}{count}", text(step, "name"))?;
+        let (paths, expires) = (paths(alloc, step)?, tough_demo::expires()?);
+        if let Err(error) = delegate_role(editor, name.as_str(), step, signers, paths, expires) {
+            return Ok(Err(error));
+        }
+    }
+    Ok(Ok(()))
+}
+
+// Delegates to a role, signs what is open, and opens an editor over the role's document.
+fn descend(
+    editor: &mut Editor,
+    name: &str,
+    step: &Value,
+    signers: &[CaseSign],
+    paths: PathSet,
+    expires: jiff::Timestamp,
+) -> Called {
+    delegate_role(editor, name, step, signers, paths, expires)?;
+    sign_targets_editor(editor, signers)?;
+    change_delegated_targets(editor, name)?;
+    targets_version(editor, positive(step, "version"))?;
+    targets_expires(editor, expires)
+}
+
+// Delegates to so many roles, each below the one before.
+fn delegate_chain(
+    alloc: Global,
+    editor: &mut Editor,
+    step: &Value,
+    signers: &[CaseSign],
+) -> Result<Called> {
+    for count in 0..number(step, "count").unwrap_or(0) {
+        let name = format!(in alloc; "{}{count}", text(step, "name"))?;
+        let (paths, expires) = (paths(alloc, step)?, tough_demo::expires()?);
+        if let Err(error) = descend(editor, name.as_str(), step, signers, paths, expires) {
+            return Ok(Err(error));
+        }
+    }
+    Ok(Ok(()))
+}
+
 // What a call on roles answers, if it is one.
 fn of_roles(alloc: Global, editor: &mut Editor, step: &Value) -> Result<Option<String>> {
     let signers = signers(alloc, list(step, "signers"))?;
     let done = match text(step, "op") {
         "delegate_role" => {
             let (paths, expires) = (paths(alloc, step)?, tough_demo::expires()?);
-            delegate_role(editor, step, signers.as_slice(), paths, expires)
+            let name = text(step, "name");
+            delegate_role(editor, name, step, signers.as_slice(), paths, expires)
         }
+        "delegate_roles" => delegate_many(alloc, editor, step, signers.as_slice())?,
+        "delegate_chain" => delegate_chain(alloc, editor, step, signers.as_slice())?,
         "sign_targets_editor" => sign_targets_editor(editor, signers.as_slice()),
         "change_delegated_targets" => change_delegated_targets(editor, text(step, "name")),
         _ => return Ok(None),
@@ -145,31 +235,58 @@ fn of_roles(alloc: Global, editor: &mut Editor, step: &Value) -> Result<Option<S
 }
 
 // What a step answers.
-fn step_of(alloc: Global, editor: &mut Editor, step: &Value) -> Result<String> {
+fn step_of<R>(rt: &R, editor: &mut Editor, step: &Value) -> Result<String>
+where
+    R: RandomSource + AllocGlobal,
+{
+    let alloc = rt.alloc();
     if of_heads(editor, step)? {
         return Ok(String::from_str(alloc, "ok")?);
     }
     if let Some(told) = of_targets(alloc, editor, step)? {
         return Ok(told);
     }
+    if let Some(told) = of_documents(alloc, editor, step)? {
+        return Ok(told);
+    }
     if let Some(told) = of_roles(alloc, editor, step)? {
+        return Ok(told);
+    }
+    if let Some(told) = fetching::answer(rt, editor, step)? {
         return Ok(told);
     }
     Err(anyhow!("no step {}", text(step, "op")))
 }
 
-// The names of the files of a signed repository, in the order in which they are written, and what its snapshot lists.
-fn written(alloc: Global, made: &SignedRepository, consistent: bool) -> Result<String> {
+// The most files that are told one by one.
+const MOST: usize = 16;
+
+// These texts, or how many there are.
+fn some(alloc: Global, texts: &[String], gap: &str) -> Result<String> {
+    if texts.len() > MOST {
+        return Ok(format!(in alloc; "{} files", texts.len())?);
+    }
+    Ok(texts.join(alloc, gap)?)
+}
+
+// The names of the files of a signed repository, in the order in which they are written.
+fn names(alloc: Global, made: &SignedRepository, consistent: bool) -> Result<String> {
     let mut texts = Vec::new(alloc);
     for file in made.named_files(alloc, consistent)? {
         texts.push(file.name)?;
     }
-    let names = texts.as_slice().join(alloc, " ")?;
+    some(alloc, texts.as_slice(), " ")
+}
+
+// The names of its files, and what its snapshot lists.
+fn written(alloc: Global, made: &SignedRepository, consistent: bool) -> Result<String> {
+    let names = names(alloc, made, consistent)?;
     let mut listed = Vec::new(alloc);
     for (name, entry) in made.snapshot().signed().signed.meta.iter() {
         listed.push(format!(in alloc; "{name} {}", entry.version)?)?;
     }
-    Ok(format!(in alloc; "{names}\n  lists {}", listed.as_slice().join(alloc, ", ")?)?)
+    let listed = some(alloc, listed.as_slice(), ", ")?;
+    Ok(format!(in alloc; "{names}\n  lists {listed}")?)
 }
 
 // A transport that serves the files of a signed repository below `http://h/`.
@@ -180,6 +297,121 @@ fn served(alloc: Global, made: &SignedRepository, consistent: bool) -> Result<Me
         transport.insert(url.as_str(), Bytes::copy_from_slice(alloc, file.bytes)?)?;
     }
     Ok(transport)
+}
+
+// What a load of a signed repository comes to, and its extras where the case asks for them.
+fn told_of(
+    alloc: Global,
+    made: &SignedRepository,
+    loaded: &Parts,
+    with_extras: bool,
+) -> Result<String> {
+    let parts = match loaded {
+        Ok(parts) => parts,
+        Err(error) => return Ok(format!(in alloc; "{error}")?),
+    };
+    let told = compared(alloc, made, parts)?;
+    if !with_extras {
+        return Ok(told);
+    }
+    let (snapshot, timestamp) = (&parts.snapshot.signed, &parts.timestamp.signed);
+    let extras = extras(alloc, &parts.targets.signed, snapshot, timestamp)?;
+    Ok(format!(in alloc; "{told}\n  {extras}")?)
+}
+
+// What an editor of a role of the loaded repository comes to: by its name alone, or by its name and steps.
+fn open<R>(rt: &R, loaded: Parts, item: &Value) -> Result<String>
+where
+    R: RandomSource + AllocGlobal,
+{
+    let alloc = rt.alloc();
+    let parts = match loaded {
+        Ok(parts) => parts,
+        Err(error) => return Ok(format!(in alloc; "{error}")?),
+    };
+    match item.as_str() {
+        Some(role) => opened(alloc, parts, role),
+        None => reopened(rt, parts, item),
+    }
+}
+
+// Gives the loaded documents the versions of the specification that a case says.
+fn put_spec_versions(alloc: Global, parts: Parts, given: &Value) -> Result<Parts> {
+    let mut parts = match parts {
+        Ok(parts) => parts,
+        Err(error) => return Ok(Err(error)),
+    };
+    if let Some(version) = given.get("targets").and_then(Value::as_str) {
+        parts.targets.signed.spec_version = String::from_str(alloc, version)?;
+    }
+    if let Some(version) = given.get("snapshot").and_then(Value::as_str) {
+        parts.snapshot.signed.spec_version = String::from_str(alloc, version)?;
+    }
+    if let Some(version) = given.get("timestamp").and_then(Value::as_str) {
+        parts.timestamp.signed.spec_version = String::from_str(alloc, version)?;
+    }
+    Ok(Ok(parts))
+}
+
+// Files with the root at `/root.json`.
+fn root_file(alloc: Global, made: &SignedRepository) -> Result<MemoryFiles> {
+    let mut files = MemoryFiles::new(alloc);
+    files.create("/root.json")?;
+    files.append("/root.json", made.root().buffer().as_slice())?;
+    Ok(files)
+}
+
+// What steps on an editor of the loaded repository answer, and then what signing it answers.
+fn edited<R>(rt: &R, made: &SignedRepository, loaded: Parts, case: &Value) -> Result<String>
+where
+    R: RandomSource + AllocGlobal,
+{
+    let alloc = rt.alloc();
+    let parts = match loaded {
+        Ok(parts) => parts,
+        Err(error) => return Ok(format!(in alloc; "{error}")?),
+    };
+    let path = match case.get("root").and_then(Value::as_str) {
+        Some(path) => path,
+        None => "/root.json",
+    };
+    let mut editor = match Editor::from_repo(alloc, &mut root_file(alloc, made)?, path, parts) {
+        Ok(editor) => editor,
+        Err(error) => return Ok(format!(in alloc; "{error}")?),
+    };
+    let lines = steps(rt, &mut editor, case)?;
+    let signers = signers(alloc, list(case, "signers"))?;
+    match editor.sign(signers.as_slice()) {
+        Ok(made) => {
+            let told = written(alloc, &made, false)?;
+            let (snapshot, timestamp) = (made.snapshot().signed(), made.timestamp().signed());
+            let targets = &made.targets().signed().signed;
+            let extras = extras(alloc, targets, &snapshot.signed, &timestamp.signed)?;
+            Ok(format!(in alloc; "{lines}{told}\n  {extras}")?)
+        }
+        Err(error) => Ok(format!(in alloc; "{lines}{error}")?),
+    }
+}
+
+// What the loads of a signed repository come to.
+fn loaded<R>(rt: &R, made: &SignedRepository, case: &Value) -> Result<String>
+where
+    R: RandomSource + AllocGlobal,
+{
+    let (alloc, consistent) = (rt.alloc(), flag(case, "consistent"));
+    let first = load(rt, made, served(alloc, made, consistent)?)?;
+    let mut told = told_of(alloc, made, &first, flag(case, "extras"))?;
+    for item in list(case, "opens") {
+        let again = load(rt, made, served(alloc, made, consistent)?)?;
+        let line = open(rt, again, item)?;
+        told.push_str(format!(in alloc; "\n  {line}")?.as_str())?;
+    }
+    if let Some(again) = case.get("again") {
+        let parts = put_spec_versions(alloc, first, again)?;
+        let line = edited(rt, made, parts, again)?;
+        told.push_str(format!(in alloc; "\n  {line}")?.as_str())?;
+    }
+    Ok(told)
 }
 
 // What signing comes to: which files, and how they are loaded.
@@ -193,16 +425,23 @@ where
         Ok(made) => made,
         Err(error) => return Ok(format!(in alloc; "{error}")?),
     };
-    let consistent = flag(case, "consistent");
-    let files = written(alloc, &made, consistent)?;
-    let loaded = load_back(rt, &made, served(alloc, &made, consistent)?, None)?;
-    let mut told = format!(in alloc; "{files}\n  {loaded}")?;
-    for role in list(case, "opens") {
-        let transport = served(alloc, &made, consistent)?;
-        let line = load_back(rt, &made, transport, role.as_str())?;
-        told.push_str(format!(in alloc; "\n  {line}")?.as_str())?;
+    let files = written(alloc, &made, flag(case, "consistent"))?;
+    let loaded = loaded(rt, &made, case)?;
+    Ok(format!(in alloc; "{files}\n  {loaded}")?)
+}
+
+// What each step of a case answers, each on a line of its own.
+fn steps<R>(rt: &R, editor: &mut Editor, case: &Value) -> Result<String>
+where
+    R: RandomSource + AllocGlobal,
+{
+    let alloc = rt.alloc();
+    let mut lines = String::new(alloc);
+    for step in list(case, "steps") {
+        let line = step_of(rt, editor, step)?;
+        lines.push_str(format!(in alloc; "{line}\n  ")?.as_str())?;
     }
-    Ok(told)
+    Ok(lines)
 }
 
 /// What each step of a case answers on an editor over the root at `/root.json`, and then what signing comes to.
@@ -216,10 +455,7 @@ where
         Ok(editor) => editor,
         Err(error) => return Ok(format!(in alloc; "{error}")?),
     };
-    let mut lines = Vec::new(alloc);
-    for step in list(case, "steps") {
-        lines.push(step_of(alloc, &mut editor, step)?)?;
-    }
-    lines.push(signed(rt, editor, case)?)?;
-    Ok(lines.as_slice().join(alloc, "\n  ")?)
+    let lines = steps(rt, &mut editor, case)?;
+    let signed = signed(rt, editor, case)?;
+    Ok(format!(in alloc; "{lines}{signed}")?)
 }

@@ -129,13 +129,13 @@ pub const CALLS: [(&str, &str, &str); 91] = [
     ("World::turn and a stop", "root,now,files,older", ""),
     (
         "TargetsEditor",
-        "role,steps,signers",
-        "op,name,version,content,path,keys,key,role,signers,pattern,threshold,recursive,limits,served,at,url",
+        "role,steps,signers,targets,root,parent",
+        "op,name,version,content,path,keys,key,role,signers,pattern,threshold,recursive,limits,served,at,url,max_targets_size",
     ),
     (
         "RepositoryEditor",
-        "files,steps,signers,consistent,opens",
-        "op,name,version,content,path,signers,pattern,threshold",
+        "files,steps,signers,consistent,opens,extras,again",
+        "op,name,version,content,path,signers,pattern,threshold,document,extra,count,role,steps,served,url,keys,limits",
     ),
     (
         "TargetFiles",
