@@ -274,8 +274,8 @@ fn holder(alloc: Global, case: &Value) -> Result<KeyHolder> {
     if let Some(root) = case.get("root").and_then(Value::as_str) {
         return Ok(KeyHolder::Root(Root::read(alloc, root.as_bytes())?));
     }
-    let parent = Targets::read(alloc, text(case, "parent").as_bytes())?;
-    match parent.delegations {
+    let Targets { delegations, .. } = Targets::read(alloc, text(case, "parent").as_bytes())?;
+    match delegations {
         Some(delegations) => Ok(KeyHolder::Delegations(delegations)),
         None => Err(anyhow!("no delegations")),
     }
