@@ -61,7 +61,7 @@ def cases():
     yield whole("of 100 pieces", "x" * 100, "100 bytes; 100 pieces, at most 64 in a poll; 2 polls, 0 of them asleep", len=1)
     yield whole("of empty pieces without end", endless(""), "waits; 192 pieces, at most 64 in a poll; 3 polls, 0 of them asleep", polls=3)
     load = "Load::poll"
-    yield polls(load, "of pieces of 1,000 bytes without end", ["Maximum size 3000", "4 pieces, at most 4 in a poll"],
+    yield polls(load, "of pieces of 1,000 bytes without end", ["Maximum size of 3000", "4 pieces, at most 4 in a poll"],
                 **EVER, files={**plain, "timestamp.json": endless("x" * 1000)}, max_timestamp_size=3000)
     yield polls(load, "of empty pieces without end", ["waits", "320 pieces, at most 64 in a poll; 5 polls, 0 of them asleep"],
                 **EVER, files={**plain, "timestamp.json": endless("")}, polls=5)
