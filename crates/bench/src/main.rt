@@ -9,7 +9,6 @@ mod load;
 mod matching;
 mod memory;
 mod search;
-mod shared;
 mod tree;
 mod verify;
 
@@ -19,7 +18,7 @@ use std::env;
 const USAGE: &str = "\
     usage: bench canonical [MEGABYTES] | verify [THOUSANDS] | ed25519 [THOUSANDS] | match [CHARACTERS] | \
     search [ROLES] | load [TARGETS [FOLDER]] | chain TARGETS ROLES [FOLDER] | \
-    fan TARGETS ROLES [FOLDER] | http URL | cache FOLDER | shared LOADS FOLDER";
+    fan TARGETS ROLES [FOLDER] | http URL | cache FOLDER";
 
 // The word at a place, if there is one.
 fn word(words: &[String], place: usize) -> Option<&str> {
@@ -72,10 +71,6 @@ fn main(rt: HostRuntime) -> Result<(), Error> {
     }
     match (word(words.as_slice(), 0), word(words.as_slice(), 1)) {
         (Some("http"), Some(url)) => http::run(&rt, url),
-        (Some("shared"), Some(loads)) => {
-            let folder = word(words.as_slice(), 2).unwrap_or("");
-            shared::run(&rt, &rt, loads.parse()?, folder)
-        }
         _ => measure(&rt, words.as_slice()),
     }
 }
