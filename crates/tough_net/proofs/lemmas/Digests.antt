@@ -6,7 +6,8 @@ use Rattle.sha2.specs.Sha256.{sha256}
 use Rattle.sha2.specs.Sha512.{sha512}
 use Rattle.tough_net.specs.declared.digests.WrongDigest.{WrongDigest}
 use Rattle.tough_net.specs.declared.digests.WrongDigest.TheVariants as wrong
-use Rattle.tough_net.specs.Digests.{Digests, HasDigests, is_digest, has_digests, IsFirstWrong}
+use Rattle.tough_net.specs.declared.digests.Hashers.{Hashers}
+use Rattle.tough_net.specs.Digests.{Digests, HasDigests, is_digest, has_digests, IsFirstWrong, HasTakenIn}
 
 both : (a b : Bool) → IsTrue (a && b) → IsTrue a × IsTrue b
 both true b h = (refl, h)
@@ -48,3 +49,9 @@ not-true false h = refl
 
 pub digests-false : (d : Digests) (bytes : List ℕ) (w : WrongDigest) → IsFirstWrong d bytes w → has_digests d bytes ≡ false
 digests-false d bytes w h = not-true (has_digests d bytes) (λ is. wrong-lacks d bytes w h (digests-had d bytes is))
+
+-- what is told of whatever was taken in, of these bytes
+pub told-first : (o : Option WrongDigest) (d : Digests) (h : Hashers) (bytes : List ℕ) → IfSome o (λ w. (m : List ℕ) → HasTakenIn d h m → IsFirstWrong d m w) → HasTakenIn d h bytes
+    → IfSome o (IsFirstWrong d bytes)
+told-first None d h bytes k taken = tt
+told-first (Some w) d h bytes k taken = k bytes taken
