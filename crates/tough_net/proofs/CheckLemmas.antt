@@ -1,5 +1,5 @@
 -- How what was checked grows at its front.
-use Rattle.std.specs.Prelude.{◌≡◌, ℕ, List, ◌∷◌, ◌++◌, Option, Some, None}
+use Rattle.std.specs.Prelude.{ℕ, List, ◌∷◌, ◌++◌, Option, Some, None}
 use Rattle.std.proofs.Common.{append_assoc, inl, inr, ap}
 use Rattle.futures.specs.Runs.{Runs, After}
 use Rattle.tough_net.specs.declared.digests.Hashers.{Hashers}

@@ -1,7 +1,6 @@
 //! The digests that bytes are to have.
 
 ghost use Rattle.std.specs.Prelude.{◌≡◌, ◌≢◌, ◌++◌, List, ℕ, [], Some, None, option_map, IfOk, IfSome, IsNone, IsSomeAnd};
-ghost use Rattle.sha2.specs.Hashers.{Holds256, Holds512};
 ghost use Rattle.sha2.specs.Sha256.{sha256};
 ghost use Rattle.sha2.specs.Sha512.{sha512};
 ghost use Rattle.tough_net.specs.Digests.{digests_of, no_digests, is_digest, has_digests, HasDigests, IsFirstWrong, Says, bytes_in, Takes256, Takes512, HasTakenIn};

@@ -106,10 +106,14 @@ abbrev pub LacksHashes : Measured → HashesDoc → OutputError → Type 0
 LacksHashes m h e = ((h.sha256.bytes ≢ m.sha256) × TellsMismatch (codes "target") m.sha256 h.sha256.bytes e)
     ⊎ ((h.sha256.bytes ≡ m.sha256) × IsSomeAnd h.sha512 (λ s. (s.bytes ≢ m.sha512) × TellsMismatch (codes "target") m.sha512 s.bytes e))
 
--- the digests must be those that are listed, if some are
+-- the digests must be those that are listed
+abbrev pub AreListed : Measured → HashesDoc → Done → Type 0
+AreListed m h (Ok u) = HasHashes m h
+AreListed m h (Err e) = LacksHashes m h e
+
+-- the same, where some are listed
 abbrev pub IsListed : List ℕ → Measured → Option HashesDoc → Done → Type 0
-IsListed input m (Some h) (Ok u) = HasHashes m h
-IsListed input m (Some h) (Err e) = LacksHashes m h e
+IsListed input m (Some h) result = AreListed m h result
 IsListed input m None (Ok u) = ⊥
 IsListed input m None (Err e) = Tells error.PathIsNotTarget input e
 

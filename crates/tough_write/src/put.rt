@@ -1,13 +1,13 @@
 //! The file of a target is copied or linked into a folder.
 
-ghost use Rattle.std.specs.Prelude.{◌≡◌, ℕ, List, Ok, true, IfErr, OnOk, option_map, string_bytes};
+ghost use Rattle.std.specs.Prelude.{◌≡◌, ℕ, List, Ok, true, option_map, string_bytes};
 ghost use Rattle.tough_roles.specs.Timestamp.{hashes_doc};
 ghost use Rattle.tough_names.specs.Named.{Named};
 ghost use Rattle.tough_files.specs.Calls as call;
 ghost use Rattle.tough_write.specs.declared.error.OutputError.TheVariants as error;
 ghost use Rattle.tough_write.specs.declared.path_exists.PathExists.TheVariants as exist;
 ghost use Rattle.tough_write.specs.Errors.{Tells, TellsKind, TellsMismatch, TellsUnsafe};
-ghost use Rattle.tough_write.specs.Putting.{manner_of, given, is_kind, has_digests, second_of, HasContent, HasHashes, LacksHashes, TellsUnmeasured, Agrees, Chooses, FindsFile, IsKind, IsListed, IsNamed, IsPlaced, IsWithin, Lays, LooksFor, Makes, MakesOver, Measures, Puts, PutsChosen, PutsIn, Replaces, Settles};
+ghost use Rattle.tough_write.specs.Putting.{manner_of, given, is_kind, has_digests, second_of, AreListed, HasContent, TellsUnmeasured, Agrees, Chooses, FindsFile, IsKind, IsListed, IsNamed, IsPlaced, IsWithin, Lays, LooksFor, Makes, MakesOver, Measures, Puts, PutsChosen, PutsIn, Replaces, Settles};
 
 use crate::error::{OutputError, Step, refusal};
 use crate::path_exists::PathExists;
@@ -214,8 +214,7 @@ fn measured<F: Files>(alloc: Global, files: &mut F, input: &str) -> Result<Measu
 
 // The digests must be those that are listed.
 fn check_hashes(alloc: Global, measured: &Measured, hashes: &Hashes) -> Result<(), OutputError>
-    ensures right { OnOk result (HasHashes measured.now (hashes_doc hashes.now)) }
-    ensures wrong { IfErr result (LacksHashes measured.now (hashes_doc hashes.now)) }
+    ensures { AreListed measured.now (hashes_doc hashes.now) result }
 {
     let (expected, found) = (hashes.sha256.as_slice(), measured.sha256.as_slice());
     if expected != found {
@@ -418,13 +417,11 @@ impl<'b, 'a> Putting<'b, 'a> {
         find_file(self.alloc, files, input)?;
         let name = name_of(self.alloc, input, name)?;
         let measured = measured(self.alloc, files, input)?;
-        let hashes = self.targets.hashes(&name);
-        check_listed(self.alloc, input, &measured, hashes)?;
-        let sha512 = second_of(hashes, &measured);
+        check_listed(self.alloc, input, &measured, self.targets.hashes(&name))?;
         Ok(Chosen {
-            name,
+            sha512: second_of(self.targets.hashes(&name), &measured),
             sha256: measured.sha256,
-            sha512,
+            name,
         })
     }
 

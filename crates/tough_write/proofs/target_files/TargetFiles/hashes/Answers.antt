@@ -1,4 +1,4 @@
-use Rattle.std.proofs.Common.{◌≡◌, Some, None, option_map, Bor, sym, ap, ◌∙◌, rules}
+use Rattle.std.proofs.Common.{◌≡◌, Some, None, option_map, Bor, sym, ap, ◌∙◌}
 use Rattle.tough_schema.specs.Search.{listed}
 use Rattle.tough_schema.specs.Target.{target_doc}
 use Rattle.tough_schema.specs.declared.target.Target.{Target}
