@@ -482,12 +482,7 @@ impl<'b, 'a> Putting<'b, 'a> {
     }
 
     // What stands there must have the digests, unless its name has one.
-    fn agree<F: Files>(
-        &self,
-        files: &mut F,
-        path: &str,
-        chosen: &Chosen,
-    ) -> Result<(), OutputError>
+    fn agree<F: Files>(&self, files: &mut F, path: &str, chosen: &Chosen) -> Result<(), OutputError>
         ensures { F.tells ≡ true
             → Agrees (manner_of self.now).consistent path.now chosen.now result
             (F.calls files.old) (F.calls files.new) }
