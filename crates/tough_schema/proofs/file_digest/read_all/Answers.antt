@@ -39,7 +39,7 @@ returns-then-branch-eq0-clause-measured g c = λ bytes tells is.
     let fed = c.in_ok-feed.ensures.feeds bytes tells (there-kept c.args.path.now (g.F.Files.contents c.args.files.now) (g.F.Files.contents c.loop.files) same ∙ is) read.0 in
     let all : c.feed.new.reading.length ≡ length bytes = fed.2 c.if-branch-eq0.true in
     let held : HoldsBoth c.feed.new.reading bytes = subst (λ m. HoldsBoth c.feed.new.reading m) (take_all c.feed.new.reading.length bytes (omega (arith, all))) fed.0.holds in
-    (all, c.finalize.ensures bytes held.0, c.finalize-2.ensures bytes held.1)
+    (all, c.finalize.ensures bytes held.0, c.finalize-then-branch-eq0.ensures bytes held.1)
 
 pub returns-then-branch-eq0-clause-kept : goal.returns-then-branch-eq0-clause-kept
 returns-then-branch-eq0-clause-kept g c = λ tells path. c.in_ok-feed.ensures.kept tells path ∙ c.loop.invariant.0 tells path
@@ -79,7 +79,7 @@ pub returns-then-branch-eq0-clause-calls : goal.returns-then-branch-eq0-clause-c
 returns-then-branch-eq0-clause-calls g c = λ tells.
     let h = c.loop.invariant.2 tells in
     let p = read_all c.args.path.now (g.F.Files.calls c.args.files.now) (g.F.Files.calls c.loop.files) (g.F.Files.calls c.feed.new.files) c.loop.counter c.loop.reading c.feed.new.reading h c.in_ok-feed.field-0 (c.in_ok-feed.ensures.calls tells) c.if-branch-eq0.true in
-    (h.pieces, p.0, p.1, c.finalize.ensures (concat h.pieces) p.2.0, c.finalize-2.ensures (concat h.pieces) p.2.1)
+    (h.pieces, p.0, p.1, c.finalize.ensures (concat h.pieces) p.2.0, c.finalize-then-branch-eq0.ensures (concat h.pieces) p.2.1)
 
 pub returns-clause-calls : goal.returns-clause-calls
 returns-clause-calls g c = λ tells.
