@@ -15,9 +15,7 @@ use tough_editor::TargetsEditor;
 use tough_files::MemoryFiles;
 use tough_names::TargetName;
 use tough_net::{Limits, MemoryTransport};
-use tough_schema::{
-    DelegatedTargets, KeyHolder, PathSet, Role, Root, Signed, Target, Targets,
-};
+use tough_schema::{DelegatedTargets, KeyHolder, PathSet, Role, Root, Signed, Target, Targets};
 use tough_signed::SignedDelegatedTargets;
 use trials_calls::case::{flag, list, number, text};
 

@@ -25,15 +25,16 @@ fn is_same<T: Role>(alloc: Global, one: &Signed<T>, other: &Signed<T>) -> Result
     Ok(one == other)
 }
 
-// Whether each document of a role that was signed was loaded, under its role.
+// Whether the documents of roles that were signed were loaded, in their order, each under its role's name.
 fn has_documents(alloc: Global, made: &SignedRepository, targets: &Targets) -> Result<bool> {
-    for role in made.delegated_targets().roles() {
+    let loaded = targets.signed_delegated_targets(alloc)?;
+    let roles = made.delegated_targets().roles();
+    if loaded.len() != roles.len() {
+        return Ok(false);
+    }
+    for (role, other) in roles.iter().zip(loaded.iter()) {
         let document = role.signed();
-        let found = targets.delegated_role(alloc, document.signed.name.as_str())?;
-        let Some(loaded) = &found.targets else {
-            return Ok(false);
-        };
-        if !is_same(alloc, document, loaded)? {
+        if document.signed.name != other.signed.name || !is_same(alloc, document, *other)? {
             return Ok(false);
         }
     }

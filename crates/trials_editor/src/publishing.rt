@@ -151,15 +151,7 @@ fn delegate_role(
     expires: jiff::Timestamp,
 ) -> Called {
     let (threshold, version) = (positive(step, "threshold"), positive(step, "version"));
-    editor.delegate_role(
-        name,
-        signers,
-        paths,
-        false,
-        threshold,
-        expires,
-        version,
-    )?;
+    editor.delegate_role(name, signers, paths, false, threshold, expires, version)?;
     Ok(())
 }
 
@@ -289,10 +281,13 @@ fn written(alloc: Global, made: &SignedRepository, consistent: bool) -> Result<S
     Ok(format!(in alloc; "{names}\n  lists {listed}")?)
 }
 
-// A transport that serves the files of a signed repository below `http://h/`.
-fn served(alloc: Global, made: &SignedRepository, consistent: bool) -> Result<MemoryTransport> {
-    let mut transport = MemoryTransport::in_pieces(alloc, 64);
-    for file in made.named_files(alloc, consistent)? {
+// A transport that serves the files of a signed repository below `http://h/`, in small pieces or whole.
+fn served(alloc: Global, made: &SignedRepository, case: &Value) -> Result<MemoryTransport> {
+    let mut transport = match flag(case, "whole") {
+        true => MemoryTransport::new(alloc),
+        false => MemoryTransport::in_pieces(alloc, 64),
+    };
+    for file in made.named_files(alloc, flag(case, "consistent"))? {
         let url = format!(in alloc; "http://h/{}", file.name)?;
         transport.insert(url.as_str(), Bytes::copy_from_slice(alloc, file.bytes)?)?;
     }
@@ -394,11 +389,11 @@ fn loaded<R>(rt: &R, made: &SignedRepository, case: &Value) -> Result<String>
 where
     R: RandomSource + AllocGlobal,
 {
-    let (alloc, consistent) = (rt.alloc(), flag(case, "consistent"));
-    let first = load(rt, made, served(alloc, made, consistent)?)?;
+    let alloc = rt.alloc();
+    let first = load(rt, made, served(alloc, made, case)?)?;
     let mut told = told_of(alloc, made, &first, flag(case, "extras"))?;
     for item in list(case, "opens") {
-        let again = load(rt, made, served(alloc, made, consistent)?)?;
+        let again = load(rt, made, served(alloc, made, case)?)?;
         let line = open(rt, again, item)?;
         told.push_str(format!(in alloc; "\n  {line}")?.as_str())?;
     }

@@ -133,7 +133,7 @@ pub const CALLS: [(&str, &str, &str); 90] = [
     ),
     (
         "RepositoryEditor",
-        "files,steps,signers,consistent,opens,extras,again",
+        "files,steps,signers,consistent,opens,extras,again,whole",
         "op,name,version,content,path,signers,pattern,threshold,document,extra,count,role,steps",
     ),
     (
