@@ -5,6 +5,7 @@ use Rattle.std.specs.Path.{path_join}
 use Rattle.tough_files.specs.declared.files.FilesError.{FilesError}
 use Rattle.tough_files.specs.declared.files.FilesError.TheVariants as files
 use Rattle.tough_files.specs.Calls.{Told, told_of, done_or, make_folders_to}
+use Rattle.tough_net.specs.Digests.{no_digests}
 use Rattle.tough_net.specs.declared.error.TransportError.{TransportError}
 use Rattle.tough_roles.specs.declared.role_type.RoleType.TheVariants as role
 use Rattle.tough_roles.specs.Names.{versioned, file_name}
@@ -28,9 +29,9 @@ use Rattle.tough_client.specs.Reading.{TellsFault}
 abbrev pub is_consistent : LoadedDoc → Bool
 is_consistent l = l.known.root.role.consistent_snapshot
 
--- a file that is fetched again, without a digest
+-- a file that is fetched again, without digests
 abbrev pub unchecked : List ℕ → ℕ → List ℕ → RequestDoc
-unchecked name max specifier = record { name = name; max_size = max; specifier = specifier; sha256 = None }
+unchecked name max specifier = record { name = name; max_size = max; specifier = specifier; digests = no_digests }
 
 -- the snapshot, of at most the length that the timestamp's entry states
 abbrev pub snapshot_again : LoadedDoc → Limits → MetafileDoc → RequestDoc

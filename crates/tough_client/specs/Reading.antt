@@ -18,6 +18,7 @@ use Rattle.tough_schema.specs.Target.{TargetDoc}
 use Rattle.tough_schema.specs.Whole.{top_doc}
 use Rattle.tough_vault.specs.Act.{Act}
 use Rattle.tough_checks.specs.declared.checks.StepError.{StepError}
+use Rattle.tough_trust.specs.Requests.{digests_in}
 use Rattle.tough_trust.specs.Failure.{Failure}
 use Rattle.tough_trust.specs.Steps.{Keeping}
 use Rattle.tough_trust.specs.Timely.{ExpiryDoc, NotesTimely}
@@ -84,15 +85,15 @@ TellsFetch file (fetching.Transport source) e = TellsFault source e
 TellsFetch file fetching.Memory e = e ≡ error.Memory
 
 module _ {T S : Type 0} (refuses : T → Parts → TransportError → Type 0) (serves : T → Parts → Runs Item) (yields : S → Runs Item) (can_poll : S → Type 0) where
-  -- a stream of a listed target, from below the base URL: of at most the listed length, and with the listed digest
+  -- a stream of a listed target, from below the base URL: of at most the listed length, and with each listed digest
   pub record IsStreamOf (l : LoadedDoc) (t : T) (base : Parts) (name : Named) (target : TargetDoc) (s : DigestCheck (MaxSize S)) : Type 0 where
-    pub begun : HasBegun serves yields t base (served_name l name target) target.length target.hashes.sha256.bytes s
+    pub begun : HasBegun serves yields t base (served_name l name target) target.length (digests_in target.hashes) s
     pub ready : can_poll (limited (checked s))
 
   -- its file isn't fetched
   pub record IsUnfetched (l : LoadedDoc) (t : T) (base : Parts) (name : Named) (target : TargetDoc) (e : Error) : Type 0 where
     pub why : FetchError
-    pub unbegun : IsUnbegun refuses t base (served_name l name target) target.hashes.sha256.bytes why
+    pub unbegun : IsUnbegun refuses t base (served_name l name target) (digests_in target.hashes) why
     pub told : TellsFetch (served_name l name target) why e
 
   -- What reading answers: the stream of what the search finds, or none where it finds nothing; else why not.

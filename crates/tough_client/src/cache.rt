@@ -128,7 +128,7 @@ impl<T: Transport, K: Keeper, C: Clock + Drop> Repository<T, K, C> {
             &url,
             request.max_size,
             request.specifier,
-            request.sha256,
+            request.digests,
         ) {
             Ok(fetch) => Ok(Work::File(path, fetch)),
             Err(error) => Err(fault(error)),

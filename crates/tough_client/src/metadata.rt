@@ -24,7 +24,7 @@ use tough_error::Error;
 use tough_files::{Files, FilesError};
 use tough_load::{Limits, Loaded, Received, Request};
 use tough_names::encode_filename;
-use tough_net::TransportError;
+use tough_net::{Digests, TransportError};
 use tough_roles::names::{file_name, versioned};
 use tough_roles::{Metafile, RoleType};
 use tough_save::write_file;
@@ -105,7 +105,7 @@ fn entry_of<'a>(meta: &'a BTreeMap<String, Metafile>, file: &str) -> Option<&'a 
     meta.get(file)
 }
 
-// The snapshot, as the timestamp's entry describes it, but for its digest.
+// The snapshot, as the timestamp's entry describes it, but for its digests.
 fn snapshot_again(alloc: Global, loaded: &Loaded, limits: &Limits) -> Result<Request, Error>
     ensures asked { IfOk result
         (λ q. file_again (loaded_doc loaded.now) limits.now served.Snapshot
@@ -118,7 +118,7 @@ fn snapshot_again(alloc: Global, loaded: &Loaded, limits: &Limits) -> Result<Req
             name: served_name(alloc, loaded, version, "snapshot.json")?,
             max_size: meta.length.unwrap_or(limits.max_snapshot_size),
             specifier: "timestamp.json",
-            sha256: None,
+            digests: Digests::none(),
         }),
         None => Err(Error::MetaMissing {
             file: "snapshot.json",
@@ -137,7 +137,7 @@ fn targets_again(alloc: Global, loaded: &Loaded, limits: &Limits) -> Result<Requ
         name: served_name(alloc, loaded, version, "targets.json")?,
         max_size: limits.max_targets_size,
         specifier: "max_targets_size argument",
-        sha256: None,
+        digests: Digests::none(),
     })
 }
 
@@ -149,7 +149,7 @@ fn timestamp_again(alloc: Global, limits: &Limits) -> Result<Request, AllocError
         name: String::from_str(alloc, "timestamp.json")?,
         max_size: limits.max_timestamp_size,
         specifier: "max_timestamp_size argument",
-        sha256: None,
+        digests: Digests::none(),
     })
 }
 
@@ -161,7 +161,7 @@ fn root_again(alloc: Global, limits: &Limits, version: u64) -> Result<Request, A
         name: versioned(alloc, version, "root.json")?,
         max_size: limits.max_root_size,
         specifier: "max_root_size argument",
-        sha256: None,
+        digests: Digests::none(),
     })
 }
 

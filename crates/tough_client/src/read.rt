@@ -22,7 +22,7 @@ use tough_names::TargetName;
 use tough_net::Transport;
 use tough_save::{TargetStream, fetch_target, file_name};
 use tough_schema::Target;
-use tough_trust::{Expiry, earliest, listed_target, note_timely};
+use tough_trust::{Expiry, digests_in, earliest, listed_target, note_timely};
 use tough_update::UpdateError;
 
 impl<T: Transport, K: Keeper, C: Clock + Drop> Repository<T, K, C> {
@@ -89,6 +89,9 @@ impl<T: Transport, K: Keeper, C: Clock + Drop> Repository<T, K, C> {
             Ok(file) => file,
             Err(_) => return Err(Error::Memory),
         };
+        let Ok(digests) = digests_in(self.alloc, &target.hashes) else {
+            return Err(Error::Memory);
+        };
         let base = &self.targets_base_url;
         match fetch_target(
             self.alloc,
@@ -96,7 +99,7 @@ impl<T: Transport, K: Keeper, C: Clock + Drop> Repository<T, K, C> {
             base,
             file.as_str(),
             target.length,
-            digest,
+            digests,
         ) {
             Ok(stream) => Ok(stream),
             Err(error) => Err(unfetched(file, error)),
@@ -125,7 +128,7 @@ impl<T: Transport, K: Keeper, C: Clock + Drop> Repository<T, K, C> {
     }
 
     /// The future of a stream of the target of this name (TUF specification 5.7), or of none where no document that the search reaches lists
-    /// it. The stream gives no more bytes than are listed, and ends without an error only where they have the digest that is listed.
+    /// it. The stream gives no more bytes than are listed, and ends without an error only where they have each digest that is listed.
     ///
     /// Where expiry counts, the keeper first notes the time that the clock shows, which must be before the earliest expiry of root, timestamp, snapshot and
     /// targets (`ExpiredMetadata`, with the first of these roles that has it). `JoinUrl` is where the name of the file can't be joined to the

@@ -146,7 +146,7 @@ impl<T: Transport, K: Keeper, C: Clock + Drop> Repository<T, K, C> {
     }
 
     /// The future that saves the target of this name in a folder (TUF specification 5.7), as the file of its name below it, or of its digest
-    /// and its name. The file has that name only once all of it is there, with the digest that is listed; until then it is a temporary file
+    /// and its name. The file has that name only once all of it is there, with each digest that is listed; until then it is a temporary file
     /// beside it, which is removed after an error. A future that is dropped before its end may leave it.
     ///
     /// The refusals, in this order: `SaveTargetOutdirCanonicalize`, `SaveTargetOutdir`; under `Prefix::Digest` `CacheTargetMissing`;

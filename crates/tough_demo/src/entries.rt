@@ -20,6 +20,7 @@ pub fn hashes(alloc: Global, bytes: &[u8]) -> Result<Hashes, DemoError>
     let digest = Vec::from_slice(alloc, hasher.finalize().as_slice())?;
     Ok(Hashes {
         sha256: Decoded::from_vec(alloc, digest)?,
+        sha512: None,
         _extra: Map::new(alloc),
     })
 }

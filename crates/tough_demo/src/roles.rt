@@ -20,7 +20,7 @@ use tough_schema::{DelegatedRole, Delegations, Ed25519Key, Ed25519Scheme, Hashes
 pub fn role_key(alloc: Global, name: &str) -> Result<Key, DemoError>
     ensures { IfOk result (λ k. (key_doc k).public.bytes ≡ sha256 name.now) }
 {
-    let Hashes { sha256, _extra } = hashes(alloc, name.as_bytes())?;
+    let Hashes { sha256, _extra, .. } = hashes(alloc, name.as_bytes())?;
     Ok(Key::Ed25519 {
         keyval: Ed25519Key {
             public: sha256,

@@ -13,6 +13,7 @@ use Rattle.tough_net.specs.declared.collect.Collect.{Collect}
 use Rattle.tough_net.specs.declared.error.TransportError.{TransportError}
 use Rattle.tough_net.specs.declared.error.TransportErrorKind.TheVariants as kind
 use Rattle.tough_net.specs.declared.limits.Limits.{Limits}
+use Rattle.tough_net.specs.Digests.{no_digests}
 use Rattle.tough_net.specs.Collecting.{Bounds, Collects, collected, bounds_of, held_by}
 use Rattle.tough_net.specs.Errors.{IsMemory, error_kind}
 use Rattle.tough_net.specs.Items.{Item}
@@ -83,7 +84,7 @@ CanPoll can_poll f = can_poll (collected f) × (length (held_by f) ≤ (bounds_o
 
 -- the bounds of its bytes
 abbrev pub bounds_at : Limits → Parts → Bounds
-bounds_at limits url = record { url = serialize url; max = limits.max_targets_size; specifier = codes "max targets limit"; digest = None }
+bounds_at limits url = record { url = serialize url; max = limits.max_targets_size; specifier = codes "max targets limit"; digests = no_digests }
 
 module _ {T S : Type 0} (refuses : T → Parts → TransportError → Type 0) (serves : T → Parts → Runs Item) (yields : S → Runs Item) where
   -- its fetch has begun

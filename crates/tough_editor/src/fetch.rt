@@ -9,7 +9,7 @@ use std::alloc::{AllocError, Global};
 use tough_error::Error;
 use tough_names::encode_filename;
 use tough_net::{
-    Collect, JoinError, Limits, SlashError, Transport, TransportError, TransportErrorKind,
+    Collect, Digests, JoinError, Limits, SlashError, Transport, TransportError, TransportErrorKind,
     fetch_whole, join, with_slash,
 };
 use tough_roles::{ReadError, RoleType, Signed};
@@ -148,7 +148,7 @@ pub fn begin_role<T: Transport>(
         &url,
         limits.max_targets_size,
         SPECIFIER,
-        None,
+        Digests::none(),
     ) {
         Ok(fetch) => Ok(fetch),
         Err(error) => Err(fault(error)),

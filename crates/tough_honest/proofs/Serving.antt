@@ -1,10 +1,8 @@
 -- What is fetched of a transport that serves files, by cases.
-use Rattle.std.specs.Prelude.{◌≡◌, ◌<◌, ◌≤◌, ◌⊎◌, ◌++◌, ◌+◌, ◌^◌, ℕ, List, [], length, Option, Some, None, IfSome, Result, Ok, Err, Vec, Bool, true, false, ◌&&◌, nat_le}
+use Rattle.std.specs.Prelude.{◌≡◌, ◌<◌, ◌≤◌, ◌⊎◌, ◌++◌, ◌+◌, ◌^◌, ℕ, List, [], length, Option, Some, None, Result, Ok, Err, Vec, Bool, true, false, ◌&&◌, nat_le}
 use Rattle.std.specs.declared.alloc.Global.{Global}
 use Rattle.std.proofs.Common.{refl, sym, ap, ap₂, ◌∙◌, subst, inl, inr, arith, length-append}
 use Rattle.std.proofs.lemmas.Bool.Decides.{nat_tests}
-use Rattle.std.proofs.lemmas.Slice.Eq.{bytes_eq-Decides}
-use Rattle.sha2.specs.Sha256.{sha256}
 use Rattle.url.specs.Parts.{Parts, serialize}
 use Rattle.url.specs.Parser.{parse_url}
 use Rattle.url.specs.declared.error.ParseError.{ParseError}
@@ -18,7 +16,11 @@ use Rattle.tough_net.specs.Collecting.{Bounds, Fits, Misfits, Exceeds, Comes, Co
 use Rattle.tough_net.specs.MemoryFiles.{CutsFile}
 use Rattle.tough_net.specs.Urls.{CannotJoin}
 use Rattle.tough_net.proofs.lemmas.Files.{Collects_file, Collects_no_file}
-use Rattle.tough_trust.specs.Requests.{RequestDoc, has_digest, fits_request}
+use Rattle.tough_net.specs.declared.digests.WrongDigest.{WrongDigest}
+use Rattle.tough_net.specs.declared.digests.WrongDigest.TheVariants as wrong
+use Rattle.tough_net.specs.Digests.{Digests, has_digests, Says}
+use Rattle.tough_net.proofs.lemmas.Digests.{digests-true, digests-false}
+use Rattle.tough_trust.specs.Requests.{RequestDoc, fits_request}
 use Rattle.tough_trust.specs.declared.fault.Fault.TheVariants as fault
 use Rattle.tough_update.specs.Answered.{AnswerDoc}
 use Rattle.tough_update.specs.Answered as got
@@ -44,23 +46,17 @@ within n m h = grind (arith, nat_tests)
 beyond : (n m : ℕ) → m < n → nat_le n m ≡ false
 beyond n m h = grind (arith, nat_tests)
 
-digest-has : (o : Option (List ℕ)) (bytes : List ℕ) → IfSome o (λ d. sha256 bytes ≡ d) → has_digest o bytes ≡ true
-digest-has None bytes h = refl
-digest-has (Some d) bytes h = (bytes_eq-Decides (sha256 bytes) d).1 h
+told-kind : (url : List ℕ) (d : Digests) (w : WrongDigest) (e : TransportError) → Says url d w e → (error_kind e ≡ kind.Other) ⊎ IsMemory e
+told-kind url d (wrong.Sha256 c) e (inl h) = inl h.0
+told-kind url d (wrong.Sha256 c) e (inr m) = inr m
+told-kind url d (wrong.Sha512 c) e (inl h) = inl h.0
+told-kind url d (wrong.Sha512 c) e (inr m) = inr m
 
-not-both : (b : Bool) → (b ≡ true → ⊥) → b ≡ false
-not-both true h = absurd (h refl)
-not-both false h = refl
-
-digest-lacks : (url : Parts) (r : RequestDoc) (bytes : List ℕ) (e : TransportError) → Misfits (bounds url r) bytes e → (has_digest r.sha256 bytes ≡ false) × ((error_kind e ≡ kind.Other) ⊎ IsMemory e)
-digest-lacks url r bytes e h = go r.sha256 h where
-  go : (o : Option (List ℕ)) → Misfits (record { url = (bounds url r).url; max = r.max_size; specifier = r.specifier; digest = o }) bytes e → (has_digest o bytes ≡ false) × ((error_kind e ≡ kind.Other) ⊎ IsMemory e)
-  go None h = absurd h
-  go (Some d) (apart, inl w) = (not-both _ (λ is. apart ((bytes_eq-Decides (sha256 bytes) d).0 is)), inl w.0)
-  go (Some d) (apart, inr w) = (not-both _ (λ is. apart ((bytes_eq-Decides (sha256 bytes) d).0 is)), inr w)
+digest-lacks : (url : Parts) (r : RequestDoc) (bytes : List ℕ) (e : TransportError) → Misfits (bounds url r) bytes e → (has_digests r.digests bytes ≡ false) × ((error_kind e ≡ kind.Other) ⊎ IsMemory e)
+digest-lacks url r bytes e (w, h, said) = (digests-false r.digests bytes w h, told-kind (bounds url r).url r.digests w e said)
 
 fits-true : (url : Parts) (r : RequestDoc) (bytes : List ℕ) → Fits (bounds url r) bytes → fits_request r bytes ≡ true
-fits-true url r bytes h = both-true _ _ (within (length bytes) r.max_size h.0) (digest-has r.sha256 bytes h.1)
+fits-true url r bytes h = both-true _ _ (within (length bytes) r.max_size h.0) (digests-true r.digests bytes h.1)
 
 -- a short name that can be joined isn't refused
 unjoined : (base url : Parts) (name : List ℕ) (e : ParseError) → parse_url (Some base) name ≡ Ok url → length (serialize base) + length name < 2 ^ 30 → CannotJoin base name e → ⊥

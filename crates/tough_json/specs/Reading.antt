@@ -43,6 +43,10 @@ if_present f (Some d) = option_map Some (f d)
 abbrev pub optional : {A : Type 0} → List ℕ → (Data → Option A) → Members → Option (Option A × Members)
 optional k f ms = option_map (λ a. (a, without k ms)) (if_present f (present k ms))
 
+-- one that may be absent, where null is none, and what is left
+abbrev pub stated : {A : Type 0} → List ℕ → (Data → Option A) → Members → Option (Option A × Members)
+stated k f ms = option_map (λ a. (a, without k ms)) (if_present f (get_member k ms))
+
 -- ---- the kinds of members
 
 abbrev pub text : Data → Option (List ℕ)

@@ -2,7 +2,7 @@ ghost use Rattle.std.specs.Prelude.{◌≡◌, option_map, Some, string_bytes};
 ghost use Rattle.std.specs.Int.NonZero.{non_zero_u64_get};
 ghost use Rattle.serde_json.specs.View.{view, items_view, members_view};
 ghost use Rattle.serde_json.specs.Find.{get_member, as_object};
-ghost use Rattle.tough_json.specs.Reading.{without, required, optional, text, whole, positive, hexadecimal, decoded, instant, present, as_items, truth};
+ghost use Rattle.tough_json.specs.Reading.{without, required, optional, stated, text, whole, positive, hexadecimal, decoded, instant, present, as_items, truth};
 ghost use Rattle.tough_json.specs.Results.{Reads, Takes};
 
 use crate::error::{ReadError, member_shape, missing};
@@ -138,6 +138,26 @@ pub fn hexadecimal(
         (required name.now hexadecimal (members_view members.old.entries)) }
 {
     decoded(alloc, members, name)
+}
+
+/// Hexadecimal digits that may be absent. `null` is none.
+pub fn stated_hexadecimal(
+    alloc: Global,
+    members: &mut Map<String, Value>,
+    name: &str,
+) -> Result<Option<Decoded<Hex>>, ReadError>
+    ensures { Takes (λ d. d) result (members_view members.new.entries)
+        (stated name.now hexadecimal (members_view members.old.entries)) }
+{
+    match take(members, name) {
+        None => Ok(None),
+        Some(Value::String(text)) => match Decoded::from_str(alloc, text.as_str()) {
+            Ok(decoded) => Ok(Some(decoded)),
+            Err(DecodeError::Memory) => Err(ReadError::Memory),
+            Err(_) => Err(member_shape(alloc, name, "(cannot be decoded)")),
+        },
+        Some(_) => Err(member_shape(alloc, name, "(no text)")),
+    }
 }
 
 /// An instant that must be there.

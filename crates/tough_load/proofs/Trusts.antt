@@ -1,9 +1,7 @@
 -- A load that succeeds is a run of the machine that succeeds, on answers that keep their promises.
-use Rattle.std.specs.Prelude.{◌≡◌, ◌≤◌, ℕ, List, [], ◌∷◌, length, Option, Some, None, IfSome, IfOk, ℤ, Bool, true, false, IsTrue, ◌&&◌, nat_le, Result, Ok, Err}
-use Rattle.std.proofs.Common.{refl, sym, ap, ◌∙◌, subst, inl, inr, arith}
+use Rattle.std.specs.Prelude.{◌≡◌, ◌≤◌, ℕ, List, [], ◌∷◌, length, Option, None, IfOk, ℤ, Bool, true, false, IsTrue, ◌&&◌, nat_le, Result, Ok, Err}
+use Rattle.std.proofs.Common.{sym, ap, ◌∙◌, subst, inl, inr, arith}
 use Rattle.std.proofs.lemmas.Bool.Decides.{nat_tests}
-use Rattle.std.proofs.lemmas.Slice.Eq.{bytes_eq-Decides}
-use Rattle.sha2.specs.Sha256.{sha256}
 use Rattle.url.specs.Parts.{Parts}
 use Rattle.futures.specs.Runs.{Runs}
 use Rattle.tough_keys.specs.Same.{Verifies}
@@ -13,7 +11,8 @@ use Rattle.tough_net.specs.declared.collect.Collect.{Collect}
 use Rattle.tough_net.specs.Items.{Item}
 use Rattle.tough_net.specs.Collecting.{Fits}
 use Rattle.tough_trust.specs.Failure.{Failure, Memory}
-use Rattle.tough_trust.specs.Requests.{RequestDoc, has_digest, fits_request}
+use Rattle.tough_net.proofs.lemmas.Digests.{digests-true}
+use Rattle.tough_trust.specs.Requests.{RequestDoc, fits_request}
 use Rattle.tough_update.specs.Stages.{LoadedDoc, StageDoc, CoreDoc}
 use Rattle.tough_update.specs.Stages as at
 use Rattle.tough_update.specs.Questions.{Question}
@@ -37,12 +36,8 @@ both-true false c h k = absurd (cc (h))
 within : (n m : ℕ) → n ≤ m → nat_le n m ≡ true
 within n m h = grind (arith, nat_tests)
 
-digest-has : (o : Option (List ℕ)) (bytes : List ℕ) → IfSome o (λ d. sha256 bytes ≡ d) → has_digest o bytes ≡ true
-digest-has None bytes h = refl
-digest-has (Some d) bytes h = (bytes_eq-Decides (sha256 bytes) d).1 h
-
 fits-true : (url : Parts) (r : RequestDoc) (bytes : List ℕ) → Fits (bounds url r) bytes → IsTrue (fits_request r bytes)
-fits-true url r bytes h = both-true _ _ (within (length bytes) r.max_size h.0) (digest-has r.sha256 bytes h.1)
+fits-true url r bytes h = both-true _ _ (within (length bytes) r.max_size h.0) (digests-true r.digests bytes h.1)
 
 module _ {T S K R C : Type 0} (refuses : T → Parts → TransportError → Type 0) (serves : T → Parts → Runs Item) (keeps : Verifies → K → Act → Result R StepError → K → Type 0) (may_give : C → ℤ → Type 0) (yields : S → Runs Item)
     (verifies : Verifies) (base : Parts) (t : T) where

@@ -19,7 +19,7 @@ use Rattle.tough_trust.specs.declared.fault.Fault.TheVariants as fault
 
 -- what is asked of the bytes at a URL
 abbrev pub bounds : Parts → RequestDoc → Bounds
-bounds url r = record { url = serialize url; max = r.max_size; specifier = r.specifier; digest = r.sha256 }
+bounds url r = record { url = serialize url; max = r.max_size; specifier = r.specifier; digests = r.digests }
 
 -- what is answered where a fetch ended so
 abbrev pub answer_of : Result (Vec ℕ Global) TransportError → AnswerDoc

@@ -2,12 +2,14 @@
 #![tactic(auto)]
 
 mod driving;
+mod hashes;
 pub mod laws;
 mod load;
 mod loader;
 mod run;
 
 pub use driving::drive;
+pub use hashes::fetch_hashes;
 pub use load::{Load, LoadParts};
 pub use loader::{RepositoryLoader, Unset};
 pub use run::LoadRun;

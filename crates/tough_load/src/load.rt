@@ -1,6 +1,6 @@
 //! The future that drives the machine.
 
-ghost use Rattle.std.specs.Prelude.{◌≡◌, ◌≤◌, None, IfSome, IsSome, IsNone, IsSomeAnd, IfOk, IfErr, length, option_map};
+ghost use Rattle.std.specs.Prelude.{◌≡◌, ◌≤◌, None, IfSome, IsSome, IsNone, IsSomeAnd, IfOk, IfErr, length};
 ghost use Rattle.futures.specs.Task.{Covers, Keeps};
 ghost use Rattle.futures.specs.Poll.{IfReady, OnPending};
 ghost use Rattle.tough_net.specs.Collecting.{collected, bounds_of, held_by};
@@ -74,17 +74,6 @@ fn answer_of(outcome: Result<Vec<u8>, TransportError>) -> Answer
     }
 }
 
-// The same digest, if one is stated.
-fn copy_digest(alloc: Global, digest: &Option<Vec<u8>>) -> Result<Option<Vec<u8>>, AllocError>
-    ensures { IfOk result (λ d. option_map (λ v. v.items) d
-        ≡ option_map (λ v. v.items) digest.now) }
-{
-    match digest {
-        None => Ok(None),
-        Some(digest) => Ok(Some(Vec::from_slice(alloc, digest.as_slice())?)),
-    }
-}
-
 // Starts to fetch a file.
 fn start<T: Transport>(
     alloc: Global,
@@ -107,8 +96,8 @@ fn start<T: Transport>(
             return Err(Fault::Transport(TransportError::from(AllocError)));
         }
     };
-    let sha256 = match copy_digest(alloc, &request.sha256) {
-        Ok(sha256) => sha256,
+    let digests = match request.digests.clone() {
+        Ok(digests) => digests,
         Err(error) => return Err(Fault::Transport(TransportError::from(error))),
     };
     match fetch_whole(
@@ -117,7 +106,7 @@ fn start<T: Transport>(
         &url,
         request.max_size,
         request.specifier,
-        sha256,
+        digests,
     ) {
         Ok(fetch) => Ok(fetch),
         Err(error) => Err(Fault::Transport(error)),

@@ -1,3 +1,4 @@
 -- Facts about this crate's definitions, for the proofs of the crates above it too.
 pub mod Collect
+pub mod Digests
 pub mod Files

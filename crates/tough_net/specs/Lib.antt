@@ -1,5 +1,6 @@
 pub mod Checking
 pub mod Collecting
+pub mod Digests
 pub mod Errors
 pub mod FilesystemUrls
 pub mod Items

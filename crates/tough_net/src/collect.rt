@@ -1,15 +1,15 @@
 //! The whole of what a URL serves.
-ghost use Rattle.std.specs.Prelude.{◌≡◌, ◌≤◌, ◌++◌, ◌⊎◌, [], length, option_map, IfOk, IfErr, OnOk, string_bytes};
+ghost use Rattle.std.specs.Prelude.{◌≡◌, ◌≤◌, ◌++◌, ◌⊎◌, [], length, IfOk, IfErr, OnOk, string_bytes};
 ghost use Rattle.futures.specs.Runs.{Within};
 ghost use Rattle.url.specs.Parts.{serialize};
 ghost use Rattle.tough_net.specs.Errors.{IsMemory};
+ghost use Rattle.tough_net.specs.Digests.{digests_of};
 ghost use Rattle.tough_net.specs.Collecting.{Bounds, Fits, Misfits, Exceeds, Collects, collected, bounds_of, held_by};
 
-use crate::{Transport, TransportError};
+use crate::{Digests, Transport, TransportError};
 use bytes::Bytes;
 use futures::task::{Context, Poll};
 use futures::{Future, Stream, ready};
-use sha2::{Digest, Sha256};
 use std::alloc::Global;
 use std::mem;
 use url::Url;
@@ -17,7 +17,7 @@ use url::Url;
 // The pieces that one poll takes, before it lets other tasks run.
 const BUDGET: u32 = 64;
 
-/// The future of all the bytes of a stream, which are at most so many and have a digest, where one is given. It answers the first error
+/// The future of all the bytes of a stream, which are at most so many and have each digest that is stated. It answers the first error
 /// of the stream, or what `MaxSize` and `DigestCheck` would.
 #[derive(Drop)]
 pub struct Collect<S> {
@@ -26,19 +26,19 @@ pub struct Collect<S> {
     url: String,
     max_size: u64,
     specifier: &'static str,
-    sha256: Option<Vec<u8>>,
+    digests: Digests,
     bytes: Vec<u8>,
 }
 
-/// Fetches a URL, to hand on its bytes as a whole. The specifier says where the limit of `max_size` bytes comes from. A digest that
-/// hasn't 32 bytes is that of nothing.
+/// Fetches a URL, to hand on its bytes as a whole. The specifier says where the limit of `max_size` bytes comes from. A digest of
+/// another length than its hash function's is that of nothing.
 pub fn fetch_whole<T: Transport>(
     alloc: Global,
     transport: &T,
     url: &Url,
     max_size: u64,
     specifier: &'static str,
-    sha256: Option<Vec<u8>>,
+    digests: Digests,
 ) -> Result<Collect<T::Stream>, TransportError>
     ensures refused { IfErr result (λ e. T.refuses transport.now url.now e ⊎ IsMemory e) }
     ensures can_poll { IfOk result (λ m. T.Stream.can_poll (collected m)) }
@@ -47,8 +47,7 @@ pub fn fetch_whole<T: Transport>(
           url = serialize url.now;
           max = max_size;
           specifier = specifier.now;
-          digest
-              = option_map (λ d. d.items) sha256;
+          digests = digests_of digests;
         }) }
     ensures fresh { IfOk result (λ m. held_by m ≡ []) }
     ensures served { IfOk result
@@ -61,7 +60,7 @@ pub fn fetch_whole<T: Transport>(
         url: text,
         max_size,
         specifier,
-        sha256,
+        digests,
         bytes: Vec::new(alloc),
     })
 }
@@ -88,23 +87,15 @@ impl<S> Collect<S> {
         Ok(())
     }
 
-    // Hands out the bytes, or says that they haven't the digest.
+    // Hands out the bytes, or says that they haven't a digest that is stated.
     fn finish(&mut self) -> Result<Vec<u8>, TransportError>
         requires { length (held_by self.old) ≤ (bounds_of self.old).max }
         ensures ok { IfOk result (λ v. v.items ≡ held_by self.old) }
         ensures fits { IfOk result (λ _. Fits (bounds_of self.old) (held_by self.old)) }
         ensures err { IfErr result (Misfits (bounds_of self.old) (held_by self.old)) }
     {
-        if let Some(expected) = &self.sha256 {
-            let calculated = Sha256::digest(self.bytes.as_slice());
-            if calculated.as_slice() != expected.as_slice() {
-                return Err(TransportError::mismatch(
-                    self.alloc,
-                    self.url.as_str(),
-                    expected.as_slice(),
-                    calculated.as_slice(),
-                ));
-            }
+        if let Some(wrong) = self.digests.first_wrong(self.bytes.as_slice()) {
+            return Err(self.digests.mismatch(self.alloc, self.url.as_str(), &wrong));
         }
         Ok(mem::replace(&mut self.bytes, Vec::new(self.alloc)))
     }

@@ -1,8 +1,8 @@
 //! What the streams promise as a whole.
 ghost use Rattle.std.specs.Prelude.{◌≡◌, ◌≤◌, ◌<◌, ◌+◌, ◌-◌, ◌^◌, List, ℕ, [], Some, None, Ok, length, map, string_bytes};
-ghost use Rattle.sha2.specs.Sha256.{sha256};
 ghost use Rattle.tough_net.specs.Checking.{Checked, checked, expected_of, failure_of, HasTaken};
 ghost use Rattle.tough_net.specs.Collecting.{Bounds, Collects, Fits};
+ghost use Rattle.tough_net.specs.Digests.{HasDigests};
 ghost use Rattle.tough_net.specs.MemoryFiles.{CutsFile};
 ghost use Rattle.tough_net.specs.Items.{all_bytes, joined};
 ghost use Rattle.tough_net.specs.Joining.{joined_pieces};
@@ -23,11 +23,11 @@ pub fn never_over_limit<S: Stream<Item = Result<Bytes, TransportError>>>(stream:
         → (limit_of stream.now).size + length (all_bytes xs last) ≤ (limit_of stream.now).max }
 {}
 
-/// What ends without an error has the digest.
+/// What ends without an error has each digest that is stated.
 pub fn ended_has_digest<S: Stream<Item = Result<Bytes, TransportError>>>(stream: &DigestCheck<S>)
     ensures { HasTaken stream.now [] → failure_of stream.now ≡ None → (xs : _)
         → Checked stream.now (S.yields (checked stream.now)) xs None
-        → sha256 (joined xs) ≡ expected_of stream.now }
+        → HasDigests (expected_of stream.now) (joined xs) }
 {}
 
 /// What is collected of a file in memory is the file, and fits.

@@ -3,6 +3,7 @@
 
 mod collect;
 mod digest_check;
+mod digests;
 mod error;
 mod exchange;
 mod filesystem;
@@ -21,6 +22,7 @@ mod urls;
 
 pub use collect::{Collect, fetch_whole};
 pub use digest_check::DigestCheck;
+pub use digests::Digests;
 pub use error::{Cause, Shown, TransportError, TransportErrorKind};
 pub use exchange::Exchange;
 pub use filesystem::{FileStream, FilesystemTransport};
@@ -33,5 +35,5 @@ pub use requests::{Requests, Response};
 pub use retry_core::RetryCore;
 pub use retry_events::{AnswerClass, RetryAction, RetryEvent, RetrySettings};
 pub use retrying::{Retrying, State};
-pub use transport::{Transport, TransportStream, fetch_max_size, fetch_sha256};
+pub use transport::{Transport, TransportStream, fetch_digests, fetch_max_size, fetch_sha256};
 pub use urls::{JoinError, SlashError, join, with_slash};

@@ -1,14 +1,15 @@
 //! What fetches a URL.
-ghost use Rattle.std.specs.Prelude.{◌≡◌, ◌⊎◌, List, ℕ, [], None, Option, IfOk, IfErr, string_bytes};
+ghost use Rattle.std.specs.Prelude.{◌≡◌, ◌⊎◌, List, ℕ, [], Some, None, Option, IfOk, IfErr, string_bytes};
 ghost use Rattle.futures.specs.Runs.{Within};
 ghost use Rattle.url.specs.Parts.{Parts, serialize};
 ghost use Rattle.tough_net.specs.declared.error.TransportError.{TransportError as Fault};
+ghost use Rattle.tough_net.specs.Digests.{digests_of};
 ghost use Rattle.tough_net.specs.Errors.{IsMemory};
 ghost use Rattle.tough_net.specs.Items.{Item as Piece};
 ghost use Rattle.tough_net.specs.Limiting.{limit_of, limited};
 ghost use Rattle.tough_net.specs.Checking.{checked, url_of, expected_of, failure_of, HasTaken};
 
-use crate::{DigestCheck, MaxSize, TransportError};
+use crate::{DigestCheck, Digests, MaxSize, TransportError};
 use bytes::Bytes;
 use futures::Stream;
 use std::alloc::Global;
@@ -95,6 +96,30 @@ pub fn fetch_max_size<T: Transport>(
     Ok(MaxSize::new(alloc, stream, text, max_size, specifier))
 }
 
+/// Fetches a URL, bounds what comes, and checks each digest that is stated.
+pub fn fetch_digests<T: Transport>(
+    alloc: Global,
+    transport: &T,
+    url: &Url,
+    max_size: u64,
+    specifier: &'static str,
+    digests: Digests,
+) -> Result<DigestCheck<MaxSize<T::Stream>>, TransportError>
+    ensures refused { IfErr result (λ e. T.refuses transport.now url.now e ⊎ IsMemory e) }
+    ensures can_poll { IfOk result (λ m. T.Stream.can_poll (limited (checked m))) }
+    ensures limit { IfOk result (λ m. limit_of (checked m)
+        ≡ record { url = serialize url.now; max = max_size; specifier = specifier.now; size = 0 }) }
+    ensures url { IfOk result (λ m. url_of m ≡ serialize url.now) }
+    ensures expected { IfOk result (λ m. expected_of m ≡ digests_of digests) }
+    ensures fresh { IfOk result (λ m. HasTaken m [] × (failure_of m ≡ None)) }
+    ensures served { IfOk result
+        (λ m. Within (T.serves transport.now url.now) (T.Stream.yields (limited (checked m)))) }
+{
+    let text = String::from_str(alloc, url.as_str())?;
+    let stream = fetch_max_size(alloc, transport, url, max_size, specifier)?;
+    Ok(DigestCheck::new(alloc, stream, text, digests))
+}
+
 /// Fetches a URL, bounds what comes, and checks its digest of SHA-256.
 pub fn fetch_sha256<T: Transport>(
     alloc: Global,
@@ -109,12 +134,15 @@ pub fn fetch_sha256<T: Transport>(
     ensures limit { IfOk result (λ m. limit_of (checked m)
         ≡ record { url = serialize url.now; max = max_size; specifier = specifier.now; size = 0 }) }
     ensures url { IfOk result (λ m. url_of m ≡ serialize url.now) }
-    ensures expected { IfOk result (λ m. expected_of m ≡ sha256) }
+    ensures expected { IfOk result
+        (λ m. expected_of m ≡ record { sha256 = Some sha256; sha512 = None }) }
     ensures fresh { IfOk result (λ m. HasTaken m [] × (failure_of m ≡ None)) }
     ensures served { IfOk result
         (λ m. Within (T.serves transport.now url.now) (T.Stream.yields (limited (checked m)))) }
 {
-    let text = String::from_str(alloc, url.as_str())?;
-    let stream = fetch_max_size(alloc, transport, url, max_size, specifier)?;
-    Ok(DigestCheck::new(alloc, stream, text, sha256))
+    let digests = Digests {
+        sha256: Some(Vec::from_slice(alloc, sha256.as_slice())?),
+        sha512: None,
+    };
+    fetch_digests(alloc, transport, url, max_size, specifier, digests)
 }

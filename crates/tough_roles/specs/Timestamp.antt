@@ -8,7 +8,7 @@ use Rattle.tough_decoded.specs.Spelled.{Spelled}
 use Rattle.serde_json.specs.Data.{Data, object, Members, no_members}
 use Rattle.serde_json.specs.Find.{as_object}
 use Rattle.serde_json.specs.View.{members_view}
-use Rattle.tough_json.specs.Reading.{◌>>=◌, required, optional, positive, whole, hexadecimal, mapping}
+use Rattle.tough_json.specs.Reading.{◌>>=◌, required, optional, stated, positive, whole, hexadecimal, mapping}
 use Rattle.tough_json.specs.Writing.{with, with_optional, optional_json, positive_json, length_json, hexadecimal_json, named}
 use Rattle.tough_roles.specs.Head.{Head, head_at, head_json}
 use Rattle.tough_roles.specs.declared.timestamp.Hashes.{Hashes}
@@ -19,6 +19,7 @@ use Rattle.tough_roles.specs.declared.timestamp.Timestamp.{Timestamp}
 
 pub record HashesDoc : Type 0 where
   pub sha256 : Spelled
+  pub sha512 : Option Spelled
   pub extra : Members
 
 pub record MetafileDoc : Type 0 where
@@ -34,7 +35,7 @@ pub record TimestampDoc : Type 0 where
   pub extra : Members
 
 abbrev pub hashes_doc : Hashes → HashesDoc
-hashes_doc h = record { sha256 = h.sha256; extra = members_view h._extra.entries }
+hashes_doc h = record { sha256 = h.sha256; sha512 = h.sha512; extra = members_view h._extra.entries }
 
 abbrev pub metafile_doc : Metafile → MetafileDoc
 metafile_doc m = record { version = non_zero_u64_get m.version; length = m.length; hashes = option_map hashes_doc m.hashes; extra = members_view m._extra.entries }
@@ -63,7 +64,8 @@ unfoldable pub hashes_at : Data → Option HashesDoc
 hashes_at d = do
   members ← as_object d
   sha256 ← required (codes "sha256") hexadecimal members
-  Some (record { sha256 = sha256.0; extra = sha256.1 })
+  sha512 ← stated (codes "sha512") hexadecimal sha256.1
+  Some (record { sha256 = sha256.0; sha512 = sha512.0; extra = sha512.1 })
 
 unfoldable pub metafile_at : Data → Option MetafileDoc
 metafile_at d = do
@@ -84,8 +86,10 @@ timestamp_at d = do
 
 unfoldable pub hashes_json : HashesDoc → Option Data
 hashes_json h = do
+  second ← optional_json hexadecimal_json h.sha512
+  rest ← with_optional (codes "sha512") second h.extra
   digits ← hexadecimal_json h.sha256
-  members ← with (codes "sha256") digits h.extra
+  members ← with (codes "sha256") digits rest
   Some (object members)
 
 unfoldable pub metafile_json : MetafileDoc → Option Data

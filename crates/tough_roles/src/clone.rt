@@ -18,13 +18,28 @@ use tough_decoded::{Decoded, Hex};
 use tough_keys::Key;
 use tough_keys::clone::copy;
 
+// The same digest, if it is stated.
+fn copy_digest(digest: &Option<Decoded<Hex>>) -> Result<Option<Decoded<Hex>>, AllocError>
+    ensures { IfOk result (λ d. d ≡ digest.now) }
+{
+    match digest {
+        None => Ok(None),
+        Some(digest) => Ok(Some(digest.clone()?)),
+    }
+}
+
 impl Clone for Hashes {
     ghost is_clone = { λ h c. hashes_doc c ≡ hashes_doc h };
 
     fn clone(&self) -> Result<Hashes, AllocError> {
         let sha256 = self.sha256.clone()?;
+        let sha512 = copy_digest(&self.sha512)?;
         let _extra = copy(&self._extra)?;
-        Ok(Hashes { sha256, _extra })
+        Ok(Hashes {
+            sha256,
+            sha512,
+            _extra,
+        })
     }
 }
 

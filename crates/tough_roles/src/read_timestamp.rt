@@ -12,7 +12,7 @@ use serde_json::{Map, Value};
 use std::alloc::Global;
 use std::collections::BTreeMap;
 use tough_json::error::{ReadError, member_shape, missing, shape, within};
-use tough_json::member::{hexadecimal, length, positive, present, take};
+use tough_json::member::{hexadecimal, length, positive, present, stated_hexadecimal, take};
 
 /// The hashes that the value is; `Shape` where it is none.
 #[tactic(auto, unfolding(crate::specs::Timestamp::hashes_at))]
@@ -23,8 +23,10 @@ pub fn hashes_of(alloc: Global, value: Value) -> Result<Hashes, ReadError>
         return Err(shape(alloc, "(no object)"));
     };
     let sha256 = hexadecimal(alloc, &mut members, "sha256")?;
+    let sha512 = stated_hexadecimal(alloc, &mut members, "sha512")?;
     Ok(Hashes {
         sha256,
+        sha512,
         _extra: members,
     })
 }

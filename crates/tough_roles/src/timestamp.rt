@@ -20,10 +20,11 @@ use tough_json::borrowed::{Borrowed, value_in};
 use tough_json::error::{ReadError, WriteError};
 use tough_json::text::value_of;
 
-/// The digest of a file.
+/// The digests of a file: that of SHA-256, and that of SHA-512 where it is stated.
 #[derive(Debug, Drop, PartialEq)]
 pub struct Hashes {
     pub sha256: Decoded<Hex>,
+    pub sha512: Option<Decoded<Hex>>,
     pub _extra: Map<String, Value>,
 }
 

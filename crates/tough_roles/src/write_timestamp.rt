@@ -1,31 +1,44 @@
 //! Timestamps, written as JSON.
 
-ghost use Rattle.std.specs.Prelude.{◌≡◌, Some, option_map};
+ghost use Rattle.std.specs.Prelude.{◌≡◌, Some, IfOk, option_map};
 ghost use Rattle.serde_json.specs.View.{view, members_view};
 ghost use Rattle.tough_json.specs.Results.{Writes};
-ghost use Rattle.tough_json.specs.Writing.{with, with_optional, optional_json, named};
+ghost use Rattle.tough_json.specs.Writing.{with, with_optional, optional_json, hexadecimal_json, named};
 ghost use Rattle.tough_roles.specs.Timestamp.{hashes_doc, metafile_doc, metafiles_doc, timestamp_doc, hashes_json, metafile_json, timestamp_json};
 
 use crate::head::with_head;
 use crate::timestamp::{Hashes, Metafile, Timestamp};
 use serde_json::{Map, Value};
-use std::alloc::Global;
+use std::alloc::{AllocError, Global};
 use std::collections::BTreeMap;
+use tough_decoded::{Decoded, Hex};
 use tough_json::error::WriteError;
 use tough_json::write::{copy_members, digits, positive_value, with, with_optional};
+
+// The spelling of a digest, if it is stated.
+fn optional_digits(
+    alloc: Global,
+    digest: &Option<Decoded<Hex>>,
+) -> Result<Option<Value>, AllocError>
+    ensures { IfOk result (λ v. optional_json hexadecimal_json digest.now
+        ≡ Some (option_map view v)) }
+{
+    match digest {
+        None => Ok(None),
+        Some(digest) => Ok(Some(digits(alloc, digest)?)),
+    }
+}
 
 /// The JSON of the hashes.
 #[tactic(auto, unfolding(crate::specs::Timestamp::hashes_json))]
 pub fn hashes_value(alloc: Global, hashes: &Hashes) -> Result<Value, WriteError>
     ensures { Writes view result (hashes_json (hashes_doc hashes.now)) }
 {
+    let extra = copy_members(alloc, &hashes._extra)?;
+    let second = optional_digits(alloc, &hashes.sha512)?;
+    let members = with_optional(alloc, extra, "sha512", second)?;
     let digits = digits(alloc, &hashes.sha256)?;
-    let members = with(
-        alloc,
-        copy_members(alloc, &hashes._extra)?,
-        "sha256",
-        digits,
-    )?;
+    let members = with(alloc, members, "sha256", digits)?;
     Ok(Value::Object(members))
 }
 

@@ -6,7 +6,6 @@ use Rattle.std.proofs.lemmas.Bool.Decides.{nat_tests}
 use Rattle.std.specs.List.{AllByRecursion}
 use Rattle.std.specs.Map.{lookup}
 use Rattle.std.specs.Str.{bytes_eq}
-use Rattle.sha2.specs.Sha256.{sha256}
 use Rattle.serde_json.specs.Read.{max_depth}
 use Rattle.tough_names.specs.Apart.{EncodesApart}
 use Rattle.tough_names.specs.Filename.{filename_of}
@@ -29,6 +28,9 @@ use Rattle.tough_schema.proofs.lemmas.Wholes.{top-tells}
 use Rattle.tough_schema.proofs.lemmas.Valid.{valid-missing}
 use Rattle.tough_checks.specs.Documents.{root_in, snapshot_in, timestamp_in}
 use Rattle.tough_trust.specs.Listed.{targets_in, targets_text}
+use Rattle.tough_net.specs.Digests.{has_digests}
+use Rattle.tough_net.proofs.lemmas.Digests.{digests-true}
+use Rattle.tough_trust.specs.Requests.{digests_in}
 use Rattle.tough_trust.specs.delegations.Bare.{top_page}
 use Rattle.tough_update.specs.Loadable.{Loadable, IsRoleServed, IsServedUnder}
 use Rattle.tough_update.specs.Delegated.{metas_in}
@@ -36,7 +38,7 @@ use Rattle.tough_update.specs.Stages.{SettingDoc, KnownDoc}
 use Rattle.tough_update.specs.delegations.Growing.{listed_as}
 use Rattle.tough_update.specs.growth.Once.{Distinct}
 use Rattle.tough_update.specs.growth.Under.{page_of, Relation, Below}
-use Rattle.tough_sign.specs.Listing.{stated}
+use Rattle.tough_sign.specs.Listing.{stated, hashes_of}
 use Rattle.tough_sign.specs.Pretty.{pretty_text}
 use Rattle.tough_signed.specs.Roles.{signed_of, buffer_of}
 use Rattle.tough_signed.specs.Standing.{roles_of, is_consistent, IsStanding}
@@ -52,7 +54,6 @@ use Rattle.tough_round.specs.Loading.{IsRoleName, Vouch, IsSound, MayLoad}
 use Rattle.tough_round.proofs.Escaping.{escapes}
 use Rattle.tough_round.proofs.Filed.{IsFiled}
 use Rattle.tough_round.proofs.Listing.{with_json, listed, listed-one, listed-first}
-use Rattle.tough_round.proofs.Names.{same-bytes}
 use Rattle.tough_round.proofs.Reading.{snapshot-small, targets-read, root-read}
 use Rattle.tough_round.proofs.Rooting.{root-stored}
 use Rattle.tough_round.proofs.Serving.{Page, Repo, IsOk, IsProper, IsServed as AreServed, served, map-all, all-mapped}
@@ -70,8 +71,8 @@ le-test n m h = grind (arith, nat_tests)
 both-true : (a b : Bool) → a ≡ true → b ≡ true → (a && b) ≡ true
 both-true a b h k = ap₂ (λ (x y : Bool). x && y) h k
 
-fits-stated : (bytes : List ℕ) → (nat_le (length bytes) (length bytes) && bytes_eq (sha256 bytes) (sha256 bytes)) ≡ true
-fits-stated bytes = both-true _ _ (le-itself (length bytes)) (same-bytes (sha256 bytes) (sha256 bytes) refl)
+fits-stated : (bytes : List ℕ) → (nat_le (length bytes) (length bytes) && has_digests (digests_in (hashes_of bytes)) bytes) ≡ true
+fits-stated bytes = both-true _ _ (le-itself (length bytes)) (digests-true (digests_in (hashes_of bytes)) bytes (refl, refl))
 
 small : (n : ℕ) → n < 2 ^ 64 → n < 10 ^ 64
 small n h = omega (arith, h)

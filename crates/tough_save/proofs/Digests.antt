@@ -1,7 +1,7 @@
 -- What a stream that ended without an error gave.
 use Rattle.std.specs.Prelude.{◌≡◌, ℕ, List, [], ◌∷◌, ◌++◌, None, Ok, map, refl}
 use Rattle.std.proofs.Common.{ap, inl, inr}
-use Rattle.sha2.specs.Sha256.{sha256}
+use Rattle.tough_net.specs.Digests.{Digests, HasDigests}
 use Rattle.futures.specs.Runs.{Runs}
 use Rattle.tough_net.specs.Checking.{Checks}
 use Rattle.tough_net.specs.Items.{Item, joined}
@@ -11,7 +11,7 @@ pub joined-pieces : (pieces : List (List ℕ)) → joined (map Ok pieces) ≡ jo
 joined-pieces [] = refl
 joined-pieces (p ∷ ps) = ap (λ later. p ++ later) (joined-pieces ps)
 
-pub Checks_end : (url expected : List ℕ) (source : Runs Item) (xs : List Item) → Checks url expected [] source xs None → sha256 (joined xs) ≡ expected
+pub Checks_end : (url : List ℕ) (expected : Digests) (source : Runs Item) (xs : List Item) → Checks url expected [] source xs None → HasDigests expected (joined xs)
 Checks_end url expected source xs (inl h) = absurd h
 Checks_end url expected source xs (inr (inl h)) = h.2
-Checks_end url expected source xs (inr (inr (ys, errors, split, came, wrong, fails))) = absurd fails.1
+Checks_end url expected source xs (inr (inr (ys, errors, w, split, came, wrong, fails))) = absurd fails.1

@@ -1,5 +1,5 @@
 -- The file of a target, as it is served (TUF specification 1.0, sections 5.7.2 and 5.7.3).
-use Rattle.std.specs.Prelude.{◌≡◌, ◌≢◌, ◌⊎◌, ℕ, Bool, true, false, List, [], ◌++◌, length, None, Some, Ok, codes, nat_eq, string_bytes, if◌then◌else◌, ⊤}
+use Rattle.std.specs.Prelude.{◌≡◌, ◌≢◌, ◌⊎◌, ℕ, Bool, true, false, List, [], ◌++◌, length, None, Some, IfSome, IsSomeAnd, Ok, codes, nat_eq, string_bytes, if◌then◌else◌, ⊤}
 use Rattle.std.specs.List.{starts_with}
 use Rattle.hex.specs.Hex.{encode_lower}
 use Rattle.url.specs.Parts.{Parts, serialize}
@@ -9,6 +9,7 @@ use Rattle.tough_net.specs.declared.error.TransportError.{TransportError}
 use Rattle.tough_net.specs.declared.digest_check.DigestCheck.{DigestCheck}
 use Rattle.tough_net.specs.declared.max_size.MaxSize.{MaxSize}
 use Rattle.tough_net.specs.Checking.{checked, expected_of, failure_of, HasTaken}
+use Rattle.tough_net.specs.Digests.{Digests}
 use Rattle.tough_net.specs.Errors.{IsMemory, IsMismatch}
 use Rattle.tough_net.specs.Items.{Item}
 use Rattle.tough_net.specs.Limiting.{limit_of, limited}
@@ -25,22 +26,26 @@ abbrev pub IsBelow : Parts → List ℕ → Parts → Type 0
 IsBelow base name url = (parse_url (Some base) name ≡ Ok url) × (starts_with nat_eq (serialize url) (serialize base) ≡ true)
 
 module _ {T S : Type 0} (serves : T → Parts → Runs Item) (yields : S → Runs Item) where
-  -- the file is being fetched: of at most so many bytes, with that digest, from what the transport serves below the base URL
-  pub record HasBegun (t : T) (base : Parts) (name : List ℕ) (size : ℕ) (digest : List ℕ) (s : DigestCheck (MaxSize S)) : Type 0 where
+  -- the file is being fetched: of at most so many bytes, with each of those digests, from what the transport serves below the base URL
+  pub record HasBegun (t : T) (base : Parts) (name : List ℕ) (size : ℕ) (digests : Digests) (s : DigestCheck (MaxSize S)) : Type 0 where
     pub url : Parts
     pub below : IsBelow base name url
     pub limit : limit_of (checked s) ≡ record { url = serialize url; max = size; specifier = codes "targets.json"; size = 0 }
-    pub expected : expected_of s ≡ digest
+    pub expected : expected_of s ≡ digests
     pub fresh : HasTaken s []
     pub unfailed : failure_of s ≡ None
     pub served : Within (serves t url) (yields (limited (checked s)))
 
+-- no file has a SHA-256 of that length, and the error says so
+abbrev pub IsUnmatched : List ℕ → Digests → TransportError → Type 0
+IsUnmatched url digests e = IsSomeAnd digests.sha256 (λ d. (length d ≢ 32) × IsMismatch url d [] e)
+
 module _ {T : Type 0} (refuses : T → Parts → TransportError → Type 0) where
   -- why the file isn't fetched
-  abbrev pub IsUnbegun : T → Parts → List ℕ → List ℕ → FetchError → Type 0
-  IsUnbegun t base name digest (JoinUrl e) = CannotJoin base name e
-  IsUnbegun t base name digest (Escapes text) = (url : Parts) × (parse_url (Some base) name ≡ Ok url) × (string_bytes text ≡ serialize url)
+  abbrev pub IsUnbegun : T → Parts → List ℕ → Digests → FetchError → Type 0
+  IsUnbegun t base name digests (JoinUrl e) = CannotJoin base name e
+  IsUnbegun t base name digests (Escapes text) = (url : Parts) × (parse_url (Some base) name ≡ Ok url) × (string_bytes text ≡ serialize url)
       × (starts_with nat_eq (serialize url) (serialize base) ≡ false)
-  IsUnbegun t base name digest (Transport e) = (url : Parts) × IsBelow base name url
-      × (((length digest ≢ 32) × IsMismatch (serialize url) digest [] e) ⊎ ((length digest ≡ 32) × (refuses t url e ⊎ IsMemory e)))
-  IsUnbegun t base name digest Memory = ⊤
+  IsUnbegun t base name digests (Transport e) = (url : Parts) × IsBelow base name url
+      × (IsUnmatched (serialize url) digests e ⊎ (IfSome digests.sha256 (λ d. length d ≡ 32) × (refuses t url e ⊎ IsMemory e)))
+  IsUnbegun t base name digests Memory = ⊤

@@ -3,6 +3,7 @@
 ghost use Rattle.std.specs.Prelude.{◌≡◌, [], IfOk, IfErr, string_bytes};
 ghost use Rattle.hex.specs.Hex.{encode_lower};
 ghost use Rattle.tough_net.specs.Checking.{checked};
+ghost use Rattle.tough_net.specs.Digests.{digests_of};
 ghost use Rattle.tough_net.specs.Errors.{IsMismatch};
 ghost use Rattle.tough_net.specs.Limiting.{limited};
 ghost use Rattle.tough_save.specs.Targets.{HasBegun, IsUnbegun};
@@ -10,12 +11,12 @@ ghost use Rattle.tough_save.specs.Targets as spec;
 
 use std::alloc::{AllocError, Global};
 use tough_net::{
-    Cause, DigestCheck, JoinError, MaxSize, Transport, TransportError, TransportErrorKind,
-    fetch_sha256, join,
+    Cause, DigestCheck, Digests, JoinError, MaxSize, Transport, TransportError, TransportErrorKind,
+    fetch_digests, join,
 };
 use url::{ParseError, Url};
 
-/// A stream of the file of a target: of at most the bytes that are listed, and with the digest that is listed.
+/// A stream of the file of a target: of at most the bytes that are listed, and with each digest that is listed.
 pub type TargetStream<S> = DigestCheck<MaxSize<S>>;
 
 /// Why the file of a target wasn't fetched.
@@ -72,21 +73,22 @@ fn unmatched(alloc: Global, url: &str, digest: &[u8]) -> Result<TransportError, 
 }
 
 /// Starts to fetch the file of this name below the base URL, to which the name is joined as it stands. What comes is bounded by the length,
-/// and checked by the digest of SHA-256. The refusals, in this order: `JoinUrl`; `Escapes`; `Transport`, with the cause `HashMismatch` where
-/// the digest hasn't 32 bytes, so that no file has it.
+/// and checked by each digest that is stated. The refusals, in this order: `JoinUrl`; `Escapes`; `Transport`, with the cause `HashMismatch`
+/// where the SHA-256 hasn't 32 bytes, so that no file has it.
 pub fn fetch_target<T: Transport>(
     alloc: Global,
     transport: &T,
     base: &Url,
     name: &str,
     length: u64,
-    digest: &[u8],
+    digests: Digests,
 ) -> Result<TargetStream<T::Stream>, FetchError>
     ensures begun { IfOk result
-        (HasBegun T.serves T.Stream.yields transport.now base.now name.now length digest.now) }
+        (HasBegun T.serves T.Stream.yields transport.now base.now name.now length
+        (digests_of digests)) }
     ensures can_poll { IfOk result (λ s. T.Stream.can_poll (limited (checked s))) }
     ensures refused { IfErr result
-        (IsUnbegun T.refuses transport.now base.now name.now digest.now) }
+        (IsUnbegun T.refuses transport.now base.now name.now (digests_of digests)) }
 {
     let url = match join(base, name) {
         Ok(url) => url,
@@ -103,13 +105,15 @@ pub fn fetch_target<T: Transport>(
             Err(_) => Err(FetchError::Memory),
         };
     }
-    let Ok(sha256) = <[u8; 32]>::try_from(digest) else {
-        return match unmatched(alloc, url.as_str(), digest) {
-            Ok(error) => Err(FetchError::Transport(error)),
-            Err(_) => Err(FetchError::Memory),
-        };
-    };
-    match fetch_sha256(alloc, transport, &url, length, "targets.json", sha256) {
+    if let Some(digest) = &digests.sha256 {
+        if digest.len() != 32 {
+            return match unmatched(alloc, url.as_str(), digest.as_slice()) {
+                Ok(error) => Err(FetchError::Transport(error)),
+                Err(_) => Err(FetchError::Memory),
+            };
+        }
+    }
+    match fetch_digests(alloc, transport, &url, length, "targets.json", digests) {
         Ok(stream) => Ok(stream),
         Err(error) => Err(FetchError::Transport(error)),
     }

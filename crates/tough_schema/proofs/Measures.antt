@@ -1,10 +1,10 @@
 -- A file that is read, call by call.
 use Rattle.std.proofs.Common.{◌≡◌, ◌≢◌, ℕ, ◌+◌, List, [], ◌∷◌, ◌++◌, length, Ok, Err, inl, inr, refl, ap, sym, ◌∙◌, subst, arith, append_assoc, append-nil, add-zero, length-append}
 use Rattle.std.specs.List.{concat}
-use Rattle.sha2.specs.Hashers.{Holds256}
 use Rattle.tough_files.specs.declared.files.FilesError.{FilesError}
 use Rattle.tough_files.specs.Calls.{Told, told_of, got, refused}
 use Rattle.tough_schema.specs.declared.file_digest.Reading.{Reading}
+use Rattle.tough_schema.specs.FileDigest.{HoldsBoth}
 use Rattle.tough_schema.specs.Measuring.{read_from, reads_of, reads_to, ReadsAll, FeedsBy, HasReadBy}
 
 concat-more : (ps : List (List ℕ)) (p : List ℕ) → concat (ps ++ p ∷ []) ≡ concat ps ++ p
@@ -40,7 +40,7 @@ module _ (path : List ℕ) (old mid new : List Told) (count : ℕ) (r later : Re
         pieces = h.pieces ++ p ∷ [];
         calls = then_read p is;
         size = size;
-        holds = subst (Holds256 later.hasher) (sym joined) (held (concat h.pieces) h.holds);
+        holds = subst (HoldsBoth later) (sym joined) (held (concat h.pieces) h.holds);
         many = omega (arith, longer, h.many, some);
       }
 
@@ -50,12 +50,12 @@ module _ (path : List ℕ) (old mid new : List Told) (count : ℕ) (r later : Re
 
   -- the read that gave nothing
   pub read_all : (n : ℕ) → FeedsBy path r (Ok n) later mid new → n ≡ 0
-      → (new ≡ old ++ reads_to path h.pieces (got [])) × (later.length ≡ length (concat h.pieces)) × Holds256 later.hasher (concat h.pieces)
+      → (new ≡ old ++ reads_to path h.pieces (got [])) × (later.length ≡ length (concat h.pieces)) × HoldsBoth later (concat h.pieces)
   read_all n (p, is, is_long, longer, held) none =
       let empty = nothing p (sym is_long ∙ none) in (
         then_last (got []) (is ∙ ap (λ q. mid ++ told_of (read_from path r.length) (got q)) empty),
         omega (arith, longer, none, h.size),
-        subst (Holds256 later.hasher) (ap (λ q. concat h.pieces ++ q) empty ∙ append-nil (concat h.pieces)) (held (concat h.pieces) h.holds),
+        subst (HoldsBoth later) (ap (λ q. concat h.pieces ++ q) empty ∙ append-nil (concat h.pieces)) (held (concat h.pieces) h.holds),
       )
 
   pub read_refused : (e : FilesError) → FeedsBy path r (Err e) later mid new → ReadsAll path (Err e) old new

@@ -1,7 +1,8 @@
--- The length and the digest of a file, and the target that it is (TUF specification 1.0, section 4.5, TARGETS).
+-- The length and the digests of a file, and the target that it is (TUF specification 1.0, section 4.5, TARGETS).
 use Rattle.std.specs.Prelude.{◌≡◌, ⊤, ℕ, ◌+◌, ◌-◌, ◌^◌, ◌≤◌, List, length, take, Option, Some, None, Result, Ok, Err, String}
 use Rattle.sha2.specs.Sha256.{sha256}
-use Rattle.sha2.specs.Hashers.{Holds256}
+use Rattle.sha2.specs.Sha512.{sha512}
+use Rattle.sha2.specs.Hashers.{Holds256, Holds512}
 use Rattle.tough_files.specs.Contents.{Node, file, folder, link, Contents, node_at, followed}
 use Rattle.std.specs.declared.alloc.Global.{Global}
 use Rattle.tough_files.specs.declared.files.FilesError.{FilesError}
@@ -41,23 +42,27 @@ Stands n (Err why.Memory) = ⊤
 
 -- what reading a file of these bytes comes to
 abbrev pub MeasuresFile : List ℕ → Result Measured FilesError → Type 0
-MeasuresFile bytes (Ok m) = (m.length ≡ length bytes) × (m.sha256 ≡ sha256 bytes)
+MeasuresFile bytes (Ok m) = (m.length ≡ length bytes) × (m.sha256 ≡ sha256 bytes) × (m.sha512 ≡ sha512 bytes)
 MeasuresFile bytes (Err fault.Memory) = ⊤
 MeasuresFile bytes (Err fault.NotFound) = 2 ^ 64 - 1 ≤ length bytes
 MeasuresFile bytes (Err fault.Failed) = 2 ^ 64 - 1 ≤ length bytes
 
 -- what measuring comes to where this stands; want of memory says nothing
 abbrev pub Measures : Option Node → Result Measured FileError → Type 0
-Measures n (Ok m) = (bytes : List ℕ) × (n ≡ Some (file bytes)) × (m.length ≡ length bytes) × (m.sha256 ≡ sha256 bytes)
+Measures n (Ok m) = (bytes : List ℕ) × (n ≡ Some (file bytes)) × (m.length ≡ length bytes) × (m.sha256 ≡ sha256 bytes) × (m.sha512 ≡ sha512 bytes)
 Measures n (Err why.FileOpen) = n ≡ None
 Measures n (Err why.TargetNotAFile) = IsOther n
 Measures n (Err why.FileRead) = IsEndless n
 Measures n (Err why.Memory) = ⊤
 
--- the hasher holds what was read: a beginning of the bytes
+-- both hashers hold these bytes
+abbrev pub HoldsBoth : Reading → List ℕ → Type 0
+HoldsBoth r bytes = Holds256 r.hasher bytes × Holds512 r.second bytes
+
+-- the hashers hold what was read: a beginning of the bytes
 pub record HasRead (bytes : List ℕ) (r : Reading) : Type 0 where
   pub within : r.length ≤ length bytes
-  pub holds : Holds256 r.hasher (take r.length bytes)
+  pub holds : HoldsBoth r (take r.length bytes)
 
 -- what reading on comes to
 abbrev pub Feeds : List ℕ → Reading → Result ℕ FilesError → Reading → Type 0

@@ -2,7 +2,7 @@
 use Rattle.std.specs.Prelude.{◌≡◌, ◌⊎◌, ℕ, ◌+◌, ◌-◌, ◌^◌, ◌≤◌, List, [], ◌∷◌, ◌++◌, length, true, Result, Ok, Err}
 use Rattle.std.specs.List.{concat}
 use Rattle.sha2.specs.Sha256.{sha256}
-use Rattle.sha2.specs.Hashers.{Holds256}
+use Rattle.sha2.specs.Sha512.{sha512}
 use Rattle.tough_files.specs.declared.files.FileKind.TheVariants.{File}
 use Rattle.tough_files.specs.declared.files.FilesError.{FilesError}
 use Rattle.tough_files.specs.declared.files.FilesError.TheVariants as fault
@@ -11,6 +11,7 @@ use Rattle.tough_schema.specs.declared.file_digest.Measured.{Measured}
 use Rattle.tough_schema.specs.declared.file_digest.Reading.{Reading}
 use Rattle.tough_schema.specs.declared.file_digest.FileError.{FileError}
 use Rattle.tough_schema.specs.declared.file_digest.FileError.TheVariants as why
+use Rattle.tough_schema.specs.FileDigest.{HoldsBoth}
 
 -- a read from a place on
 abbrev pub read_from : List ℕ → ℕ → Asked
@@ -27,7 +28,7 @@ reads_to path pieces last = reads_of path 0 pieces ++ told_of (read_from path (l
 
 -- The file is read up to a read that gives nothing: the pieces are what is measured. Or a read is refused, or more comes than a length counts.
 abbrev pub ReadsAll : List ℕ → Result Measured FilesError → List Told → List Told → Type 0
-ReadsAll path (Ok m) old new = (pieces : List (List ℕ)) × (new ≡ old ++ reads_to path pieces (got [])) × (m.length ≡ length (concat pieces)) × (m.sha256 ≡ sha256 (concat pieces))
+ReadsAll path (Ok m) old new = (pieces : List (List ℕ)) × (new ≡ old ++ reads_to path pieces (got [])) × (m.length ≡ length (concat pieces)) × (m.sha256 ≡ sha256 (concat pieces)) × (m.sha512 ≡ sha512 (concat pieces))
 ReadsAll path (Err e) old new = (pieces : List (List ℕ)) × ((new ≡ old ++ reads_to path pieces (refused e)) ⊎ ((e ≡ fault.Failed) × (new ≡ old ++ reads_of path 0 pieces) × (2 ^ 64 - 1 ≤ length (concat pieces))))
 
 -- what a file's measure is, once it was seen that a file stands there
@@ -64,7 +65,7 @@ LooksBy path result old new = (answered : Answered) × (new ≡ old ++ told_of (
 -- one read, after what was read so far
 abbrev pub FeedsBy : List ℕ → Reading → Result ℕ FilesError → Reading → List Told → List Told → Type 0
 FeedsBy path r (Ok n) later old new = (p : List ℕ) × (new ≡ old ++ told_of (read_from path r.length) (got p)) × (n ≡ length p) × (later.length ≡ r.length + n)
-    × ((s : List ℕ) → Holds256 r.hasher s → Holds256 later.hasher (s ++ p))
+    × ((s : List ℕ) → HoldsBoth r s → HoldsBoth later (s ++ p))
 FeedsBy path r (Err e) later old new = (new ≡ old ++ told_of (read_from path r.length) (refused e))
     ⊎ ((p : List ℕ) × (e ≡ fault.Failed) × (new ≡ old ++ told_of (read_from path r.length) (got p)) × (2 ^ 64 ≤ r.length + length p))
 
@@ -73,5 +74,5 @@ pub record HasReadBy (path : List ℕ) (old new : List Told) (count : ℕ) (r : 
   pub pieces : List (List ℕ)
   pub calls : new ≡ old ++ reads_of path 0 pieces
   pub size : r.length ≡ length (concat pieces)
-  pub holds : Holds256 r.hasher (concat pieces)
+  pub holds : HoldsBoth r (concat pieces)
   pub many : count ≤ r.length

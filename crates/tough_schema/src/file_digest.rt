@@ -1,21 +1,22 @@
-//! The length and the digest of a file.
+//! The length and the digests of a file.
 
 ghost use Rattle.std.specs.Prelude.{◌≡◌, ◌≤◌, List, ℕ, Some, true, IfOk};
 ghost use Rattle.tough_files.specs.Contents.{file, Same};
 ghost use Rattle.tough_schema.specs.Measuring.{LooksBy, FeedsBy, ReadsAll, MeasuresBy};
 ghost use Rattle.tough_schema.specs.FileDigest.{file_error, there, Stands, HasRead, Feeds, Measures, MeasuresFile};
 
-use sha2::{Digest, Sha256};
+use sha2::{Digest, Sha256, Sha512};
 use std::alloc::AllocError;
 use thiserror::Error;
 use tough_files::{FileKind, Files, FilesError};
 use tough_roles as schema;
 
-/// The length of a file, and the SHA-256 of its bytes.
+/// The length of a file, and the SHA-256 and the SHA-512 of its bytes.
 #[derive(Drop)]
 pub struct Measured {
     pub length: u64,
     pub sha256: [u8; 32],
+    pub sha512: [u8; 64],
 }
 
 /// Why a file can't be a target.
@@ -49,10 +50,11 @@ impl FileError {
     }
 }
 
-// The length and the digest of the bytes that were read so far.
+// The length and the digests of the bytes that were read so far.
 #[derive(Drop)]
 struct Reading {
     hasher: Sha256,
+    second: Sha512,
     length: u64,
 }
 
@@ -86,11 +88,12 @@ fn feed<F: Files>(files: &mut F, path: &str, reading: &mut Reading) -> Result<us
         return Err(FilesError::Failed);
     };
     reading.hasher.update(&buf[..n]);
+    reading.second.update(&buf[..n]);
     reading.length = length;
     Ok(n)
 }
 
-/// The length and the digest of the file at the path, by reads alone. `Failed` also if the file has more bytes than a `u64` counts.
+/// The length and the digests of the file at the path, by reads alone. `Failed` also if the file has more bytes than a `u64` counts.
 pub fn read_all<F: Files>(files: &mut F, path: &str) -> Result<Measured, FilesError>
     ensures measured { (bytes : List ℕ) → F.tells ≡ true
         → there path.now (F.contents files.old) ≡ Some (file bytes) → MeasuresFile bytes result }
@@ -100,6 +103,7 @@ pub fn read_all<F: Files>(files: &mut F, path: &str) -> Result<Measured, FilesEr
 {
     let mut reading = Reading {
         hasher: Sha256::new(),
+        second: Sha512::new(),
         length: 0,
     };
     for _ in 0..u64::MAX {
@@ -107,13 +111,14 @@ pub fn read_all<F: Files>(files: &mut F, path: &str) -> Result<Measured, FilesEr
             return Ok(Measured {
                 length: reading.length,
                 sha256: reading.hasher.finalize(),
+                sha512: reading.second.finalize(),
             });
         }
     }
     Err(FilesError::Failed)
 }
 
-/// The length and the digest of the file at the path, links followed. The errors, in this order: `FileOpen`, `TargetNotAFile`, `FileRead`.
+/// The length and the digests of the file at the path, links followed. The errors, in this order: `FileOpen`, `TargetNotAFile`, `FileRead`.
 pub fn measure<F: Files>(files: &mut F, path: &str) -> Result<Measured, FileError>
     ensures measured { F.tells ≡ true → Measures (there path.now (F.contents files.old)) result }
     ensures calls { F.tells ≡ true

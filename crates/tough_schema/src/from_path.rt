@@ -14,7 +14,7 @@ use tough_files::Files;
 use tough_roles::Hashes;
 
 impl Target {
-    /// The target of the file at the path, with its length and its SHA-256. Links are followed. The errors, in this order:
+    /// The target of the file at the path, with its length, its SHA-256 and its SHA-512. Links are followed. The errors, in this order:
     /// `FileOpen`, `TargetNotAFile`, `FileRead`.
     pub fn from_path<F: Files>(
         alloc: Global,
@@ -29,10 +29,13 @@ impl Target {
             Ok(measured) => {
                 let digest = Vec::from_slice(alloc, measured.sha256.as_slice())?;
                 let sha256 = Decoded::from_vec(alloc, digest)?;
+                let digest = Vec::from_slice(alloc, measured.sha512.as_slice())?;
+                let sha512 = Decoded::from_vec(alloc, digest)?;
                 Ok(Target {
                     length: measured.length,
                     hashes: Hashes {
                         sha256,
+                        sha512: Some(sha512),
                         _extra: Map::new(alloc),
                     },
                     custom: Map::new(alloc),

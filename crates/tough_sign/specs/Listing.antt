@@ -6,6 +6,7 @@ use Rattle.std.specs.Cmp.Lexicographic.{slice_cmp}
 use Rattle.hex.specs.Hex.{encode_lower}
 use Rattle.serde_json.specs.Data.{no_members}
 use Rattle.sha2.specs.Sha256.{sha256}
+use Rattle.sha2.specs.Sha512.{sha512}
 use Rattle.tough_decoded.specs.Spelled.{Spelled}
 use Rattle.tough_roles.specs.Timestamp.{HashesDoc, MetafileDoc}
 
@@ -14,9 +15,9 @@ abbrev pub in_digits : List ℕ → Spelled
 in_digits bytes = record { spelling = encode_lower bytes; bytes = bytes }
 
 abbrev pub hashes_of : List ℕ → HashesDoc
-hashes_of bytes = record { sha256 = in_digits (sha256 bytes); extra = no_members }
+hashes_of bytes = record { sha256 = in_digits (sha256 bytes); sha512 = Some (in_digits (sha512 bytes)); extra = no_members }
 
--- the digest, the length and the version of a file of these bytes
+-- the digests, the length and the version of a file of these bytes
 abbrev pub stated : List ℕ → ℕ → MetafileDoc
 stated bytes version = record { version = version; length = Some (length bytes); hashes = Some (hashes_of bytes); extra = no_members }
 

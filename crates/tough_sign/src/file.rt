@@ -2,16 +2,19 @@
 
 ghost use Rattle.std.specs.Prelude.{◌≡◌, length};
 ghost use Rattle.sha2.specs.Sha256 as digests;
+ghost use Rattle.sha2.specs.Sha512 as longer;
 
-use sha2::{Digest, Sha256};
+use sha2::{Digest, Sha256, Sha512};
 
-/// The bytes of a document's file, their digest and their length.
+/// The bytes of a document's file, their digests and their length.
 #[derive(Drop)]
 pub struct RoleFile {
     bytes: Vec<u8>,
     sha256: [u8; 32],
+    sha512: [u8; 64],
     size: u64,
     ghost digest: { sha256 ≡ digests.sha256 bytes.items },
+    ghost second: { sha512 ≡ longer.sha512 bytes.items },
     ghost sized: { size ≡ length bytes.items },
 }
 
@@ -22,13 +25,13 @@ impl RoleFile {
     pub fn new(bytes: Vec<u8>) -> RoleFile
         ensures { bytes_of result ≡ bytes.items }
     {
-        let mut hasher = Sha256::new();
-        hasher.update(bytes.as_slice());
-        let sha256 = hasher.finalize();
+        let sha256 = Sha256::digest(bytes.as_slice());
+        let sha512 = Sha512::digest(bytes.as_slice());
         let size = bytes.len() as u64;
         RoleFile {
             bytes,
             sha256,
+            sha512,
             size,
         }
     }
@@ -45,6 +48,13 @@ impl RoleFile {
         ensures { result.now ≡ digests.sha256 (bytes_of self.now) }
     {
         &self.sha256
+    }
+
+    /// Their SHA-512.
+    pub fn sha512(&self) -> &[u8]
+        ensures { result.now ≡ longer.sha512 (bytes_of self.now) }
+    {
+        &self.sha512
     }
 
     /// How many there are.

@@ -14,15 +14,18 @@ use std::num::NonZeroU64;
 use tough_decoded::Decoded;
 use tough_roles::{Hashes, Metafile};
 
-/// What is stated of a document's file: its digest, its length and the document's version.
+/// What is stated of a document's file: its digests, its length and the document's version.
 pub fn meta_of(alloc: Global, file: &RoleFile, version: NonZeroU64) -> Result<Metafile, AllocError>
     ensures { IfOk result (λ m. metafile_doc m
         ≡ stated (bytes_of file.now) (non_zero_u64_get version)) }
 {
     let digest = Vec::from_slice(alloc, file.sha256())?;
     let sha256 = Decoded::from_vec(alloc, digest)?;
+    let digest = Vec::from_slice(alloc, file.sha512())?;
+    let sha512 = Decoded::from_vec(alloc, digest)?;
     let hashes = Hashes {
         sha256,
+        sha512: Some(sha512),
         _extra: Map::new(alloc),
     };
     Ok(Metafile {

@@ -2,6 +2,7 @@
 
 ghost use Rattle.std.specs.Prelude.{◌≡◌, ◌⊎◌, IfOk, IfErr, length};
 ghost use Rattle.sha2.specs.Sha256.{sha256};
+ghost use Rattle.sha2.specs.Sha512.{sha512};
 ghost use Rattle.serde_json.specs.Read.{max_depth};
 ghost use Rattle.tough_roles.specs.Document.{document_json};
 ghost use Rattle.tough_roles.specs.Readable.{NestsWithin, IsTextOf};
@@ -21,7 +22,7 @@ use tough_roles::{Role, Signature, Signed};
 use tough_schema::KeyHolder;
 use tough_sign::{RoleFile, pretty_of};
 
-/// A signed role, with the bytes of its file, their digest and their length.
+/// A signed role, with the bytes of its file, their digests and their length.
 #[derive(Drop)]
 pub struct SignedRole<T> {
     signed: Signed<T>,
@@ -118,6 +119,13 @@ impl<T: Role + Drop> SignedRole<T> {
         ensures { result.now ≡ sha256 (buffer_of self.now) }
     {
         self.file.sha256()
+    }
+
+    /// The SHA-512 of the file's bytes.
+    pub fn sha512(&self) -> &[u8]
+        ensures { result.now ≡ sha512 (buffer_of self.now) }
+    {
+        self.file.sha512()
     }
 
     /// How many bytes the file has.

@@ -1,11 +1,10 @@
 -- Which file is fetched next (TUF specification 1.0, sections 5.3 to 5.6.7): its name as section 6.2 gives it, how long it may be, and
--- which digest it must have.
-use Rattle.std.specs.Prelude.{ℕ, List, length, Option, Some, None, Bool, true, ◌&&◌, nat_le, codes}
-use Rattle.std.specs.Str.{bytes_eq}
-use Rattle.sha2.specs.Sha256.{sha256}
+-- which digests it must have.
+use Rattle.std.specs.Prelude.{ℕ, List, length, Option, Some, None, option_map, Bool, ◌&&◌, nat_le, codes}
 use Rattle.tough_roles.specs.Names.{versioned, file_name}
 use Rattle.tough_roles.specs.Timestamp.{HashesDoc, MetafileDoc}
 use Rattle.tough_schema.specs.Targets.{delegated_file}
+use Rattle.tough_net.specs.Digests.{Digests, no_digests, has_digests}
 use Rattle.tough_net.specs.declared.limits.Limits.{Limits}
 
 -- a file that is to be fetched; the specifier says where the bound on its length comes from
@@ -13,23 +12,27 @@ pub record RequestDoc : Type 0 where
   pub name : List ℕ
   pub max_size : ℕ
   pub specifier : List ℕ
-  pub sha256 : Option (List ℕ)
+  pub digests : Digests
 
 -- what an entry states, or else the default
 abbrev pub bound : Option ℕ → ℕ → ℕ
 bound None default = default
 bound (Some n) default = n
 
-abbrev pub stated_digest : Option HashesDoc → Option (List ℕ)
-stated_digest None = None
-stated_digest (Some h) = Some h.sha256.bytes
+-- the digests that hashes state
+abbrev pub digests_in : HashesDoc → Digests
+digests_in h = record { sha256 = Some h.sha256.bytes; sha512 = option_map (λ s. s.bytes) h.sha512 }
+
+abbrev pub stated_digests : Option HashesDoc → Digests
+stated_digests None = no_digests
+stated_digests (Some h) = digests_in h
 
 -- a root is always asked for by its version
 abbrev pub root_request : Limits → ℕ → RequestDoc
-root_request l n = record { name = versioned n (codes "root.json"); max_size = l.max_root_size; specifier = codes "max_root_size argument"; sha256 = None }
+root_request l n = record { name = versioned n (codes "root.json"); max_size = l.max_root_size; specifier = codes "max_root_size argument"; digests = no_digests }
 
 abbrev pub timestamp_request : Limits → RequestDoc
-timestamp_request l = record { name = codes "timestamp.json"; max_size = l.max_timestamp_size; specifier = codes "max_timestamp_size argument"; sha256 = None }
+timestamp_request l = record { name = codes "timestamp.json"; max_size = l.max_timestamp_size; specifier = codes "max_timestamp_size argument"; digests = no_digests }
 
 -- the snapshot, as the timestamp's entry says
 abbrev pub snapshot_request : Limits → Bool → MetafileDoc → RequestDoc
@@ -37,7 +40,7 @@ snapshot_request l consistent m = record {
   name = file_name consistent m.version (codes "snapshot.json");
   max_size = bound m.length l.max_snapshot_size;
   specifier = codes "timestamp.json";
-  sha256 = stated_digest m.hashes;
+  digests = stated_digests m.hashes;
 }
 
 abbrev pub targets_specifier : Option ℕ → List ℕ
@@ -50,7 +53,7 @@ targets_request l consistent m = record {
   name = file_name consistent m.version (codes "targets.json");
   max_size = bound m.length l.max_targets_size;
   specifier = targets_specifier m.length;
-  sha256 = stated_digest m.hashes;
+  digests = stated_digests m.hashes;
 }
 
 -- the document of a delegated role, as the snapshot's entry says
@@ -59,13 +62,9 @@ role_request l consistent name m = record {
   name = file_name consistent m.version (delegated_file name);
   max_size = bound m.length l.max_targets_size;
   specifier = targets_specifier m.length;
-  sha256 = stated_digest m.hashes;
+  digests = stated_digests m.hashes;
 }
 
-abbrev pub has_digest : Option (List ℕ) → List ℕ → Bool
-has_digest None bytes = true
-has_digest (Some digest) bytes = bytes_eq (sha256 bytes) digest
-
--- the bytes are no longer than asked, and have the digest that was asked for
+-- the bytes are no longer than asked, and have each digest that was asked for
 abbrev pub fits_request : RequestDoc → List ℕ → Bool
-fits_request r bytes = nat_le (length bytes) r.max_size && has_digest r.sha256 bytes
+fits_request r bytes = nat_le (length bytes) r.max_size && has_digests r.digests bytes

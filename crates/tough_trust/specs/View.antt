@@ -12,6 +12,7 @@ use Rattle.tough_checks.specs.DocumentName.{name_of}
 use Rattle.tough_checks.specs.Files.{targets_file}
 use Rattle.tough_checks.specs.declared.checks.StepError.{StepError}
 use Rattle.tough_roles.specs.Root.{root_doc}
+use Rattle.tough_net.specs.Digests.{digests_of}
 use Rattle.tough_trust.specs.declared.request.Request.{Request}
 use Rattle.tough_trust.specs.declared.holder.Holder.{Holder}
 use Rattle.tough_trust.specs.declared.holder.Holder.TheVariants as holds
@@ -26,7 +27,7 @@ use Rattle.tough_trust.specs.delegations.Indexed as plain
 use Rattle.tough_schema.specs.Delegations.{delegations_doc, delegated_role_doc}
 
 abbrev pub request_doc : Request → RequestDoc
-request_doc r = record { name = string_bytes r.name; max_size = r.max_size; specifier = r.specifier.now; sha256 = option_map (λ d. d.items) r.sha256 }
+request_doc r = record { name = string_bytes r.name; max_size = r.max_size; specifier = r.specifier.now; digests = digests_of r.digests }
 
 -- ---- who vouches for targets
 

@@ -1,4 +1,4 @@
-//! What an update asks for, and what it trusts (TUF specification 5): which file is fetched, under which bound and digest, whether what
+//! What an update asks for, and what it trusts (TUF specification 5): which file is fetched, under which bound and digests, whether what
 //! came is taken, and who takes the steps on a store.
 #![tactic(auto)]
 
@@ -24,7 +24,8 @@ pub use holder::{Holder, RoleHolder, check_tree, holder_of, read_targets};
 pub use keeper::{Keeper, take_step};
 pub use listed::listed_target;
 pub use request::{
-    Request, role_request, root_request, snapshot_request, targets_request, timestamp_request,
+    Request, digests_in, role_request, root_request, snapshot_request, targets_request,
+    timestamp_request,
 };
 pub use rotation::is_rotated;
 pub use step::act_on;

@@ -1,14 +1,15 @@
-//! Which file is fetched: its name, how long it may be, and which digest it must have (TUF specification 5.3 to 5.6).
+//! Which file is fetched: its name, how long it may be, and which digests it must have (TUF specification 5.3 to 5.6).
 
 ghost use Rattle.std.specs.Prelude.{◌≡◌, Some, IfOk, option_map, string_bytes};
 ghost use Rattle.tough_roles.specs.Timestamp.{metafile_doc, hashes_doc};
-ghost use Rattle.tough_trust.specs.Requests.{stated_digest, bound, targets_specifier, root_request, timestamp_request, snapshot_request, targets_request, role_request, fits_request};
+ghost use Rattle.tough_trust.specs.Requests.{digests_in, stated_digests, bound, targets_specifier, root_request, timestamp_request, snapshot_request, targets_request, role_request, fits_request};
+ghost use Rattle.tough_net.specs.Digests.{digests_of};
 ghost use Rattle.tough_trust.specs.View.{request_doc};
 
-use sha2::{Digest, Sha256};
 use std::alloc::{AllocError, Global};
+use tough_decoded::{Decoded, Hex};
 use tough_names::encode_filename;
-use tough_net::Limits;
+use tough_net::{Digests, Limits};
 use tough_roles::names::{file_name, versioned};
 use tough_roles::{Hashes, Metafile};
 
@@ -21,33 +22,53 @@ pub struct Request {
     pub max_size: u64,
     /// Where that bound comes from.
     pub specifier: &'static str,
-    /// The digest of SHA-256 that it must have, where one is stated.
-    pub sha256: Option<Vec<u8>>,
+    /// The digests that it must have, where they are stated.
+    pub digests: Digests,
 }
 
 impl Request {
-    /// Whether the bytes are no longer than asked, and have the digest that was asked for.
+    /// Whether the bytes are no longer than asked, and have each digest that was asked for.
     pub fn fits(&self, bytes: &[u8]) -> bool
         ensures { result ≡ fits_request (request_doc self.now) bytes.now }
     {
         if bytes.len() as u64 > self.max_size {
             return false;
         }
-        match &self.sha256 {
-            None => true,
-            Some(digest) => Sha256::digest(bytes).as_slice() == digest.as_slice(),
-        }
+        self.digests.are_of(bytes)
     }
 }
 
-// A copy of the digest, where one is stated.
-fn stated_digest(alloc: Global, hashes: &Option<Hashes>) -> Result<Option<Vec<u8>>, AllocError>
+// The bytes of a digest, if it is stated.
+fn bytes_of(alloc: Global, digest: &Option<Decoded<Hex>>) -> Result<Option<Vec<u8>>, AllocError>
     ensures { IfOk result (λ d. option_map (λ v. v.items) d
-        ≡ stated_digest (option_map hashes_doc hashes.now)) }
+        ≡ option_map (λ s. s.bytes) digest.now) }
+{
+    match digest {
+        None => Ok(None),
+        Some(digest) => Ok(Some(Vec::from_slice(alloc, digest.as_slice())?)),
+    }
+}
+
+/// The digests that hashes state.
+pub fn digests_in(alloc: Global, hashes: &Hashes) -> Result<Digests, AllocError>
+    ensures { IfOk result (λ d. digests_of d ≡ digests_in (hashes_doc hashes.now)) }
+{
+    let sha256 = Vec::from_slice(alloc, hashes.sha256.as_slice())?;
+    let sha512 = bytes_of(alloc, &hashes.sha512)?;
+    Ok(Digests {
+        sha256: Some(sha256),
+        sha512,
+    })
+}
+
+// The digests that are stated, if some are.
+fn stated_digests(alloc: Global, hashes: &Option<Hashes>) -> Result<Digests, AllocError>
+    ensures { IfOk result (λ d. digests_of d
+        ≡ stated_digests (option_map hashes_doc hashes.now)) }
 {
     match hashes {
-        None => Ok(None),
-        Some(hashes) => Ok(Some(Vec::from_slice(alloc, hashes.sha256.as_slice())?)),
+        None => Ok(Digests::none()),
+        Some(hashes) => Ok(digests_in(alloc, hashes)?),
     }
 }
 
@@ -59,7 +80,7 @@ pub fn root_request(alloc: Global, limits: &Limits, version: u64) -> Result<Requ
         name: versioned(alloc, version, "root.json")?,
         max_size: limits.max_root_size,
         specifier: "max_root_size argument",
-        sha256: None,
+        digests: Digests::none(),
     })
 }
 
@@ -71,7 +92,7 @@ pub fn timestamp_request(alloc: Global, limits: &Limits) -> Result<Request, Allo
         name: String::from_str(alloc, "timestamp.json")?,
         max_size: limits.max_timestamp_size,
         specifier: "max_timestamp_size argument",
-        sha256: None,
+        digests: Digests::none(),
     })
 }
 
@@ -89,7 +110,7 @@ pub fn snapshot_request(
         name: file_name(alloc, consistent, meta.version, "snapshot.json")?,
         max_size: meta.length.unwrap_or(limits.max_snapshot_size),
         specifier: "timestamp.json",
-        sha256: stated_digest(alloc, &meta.hashes)?,
+        digests: stated_digests(alloc, &meta.hashes)?,
     })
 }
 
@@ -117,7 +138,7 @@ pub fn targets_request(
         name: file_name(alloc, consistent, meta.version, "targets.json")?,
         max_size: meta.length.unwrap_or(limits.max_targets_size),
         specifier: targets_specifier(meta.length),
-        sha256: stated_digest(alloc, &meta.hashes)?,
+        digests: stated_digests(alloc, &meta.hashes)?,
     })
 }
 
@@ -134,11 +155,11 @@ pub fn role_request(
 {
     let mut file = encode_filename(alloc, role)?;
     file.push_str(".json")?;
-    let sha256 = stated_digest(alloc, &meta.hashes)?;
+    let digests = stated_digests(alloc, &meta.hashes)?;
     Ok(Request {
         name: file_name(alloc, consistent, meta.version, file.as_str())?,
         max_size: meta.length.unwrap_or(limits.max_targets_size),
         specifier: targets_specifier(meta.length),
-        sha256,
+        digests,
     })
 }

@@ -19,7 +19,7 @@ use Rattle.tough_checks.specs.Files.{snapshot_file, targets_file}
 use Rattle.tough_trust.specs.Failure.{Failure, ParseMetadata}
 use Rattle.tough_trust.specs.Walk.{first_root, next_root}
 use Rattle.tough_trust.specs.Outcomes.{holds_json, if_read}
-use Rattle.tough_trust.specs.Requests.{RequestDoc, bound, stated_digest, has_digest, fits_request, root_request}
+use Rattle.tough_trust.specs.Requests.{RequestDoc, bound, stated_digests, fits_request, root_request}
 use Rattle.tough_schema.specs.Targets.{TargetsDoc, targets_json}
 use Rattle.tough_trust.specs.Listed.{targets_in, by_root, by_delegations, targets_verdict, judged}
 use Rattle.tough_update.specs.Delegated.{metas_in, is_reserved, if_found, grown_on, roles_begun, given, role_given, role_stored, with_received, new_role, role_holder}
@@ -47,7 +47,8 @@ use Rattle.tough_update.specs.Answered as got
 use Rattle.tough_update.specs.Machine.{walked, began, new_root, walk_ended, want_snapshot, known_of, want_targets, new_targets, read_wanted, after, stage_after, question_at}
 use Rattle.tough_update.specs.Trusted.{Chain, handed_in, followed, Lists, IsVouched}
 use Rattle.tough_update.specs.Runs.{Keeps, EndsWalk}
-use Rattle.tough_trust.proofs.lemmas.Passing.{size-stated, digest-stated, has-true, not-true, timestamp-passes, snapshot-passes, not-expired}
+use Rattle.tough_net.specs.Digests.{has_digests}
+use Rattle.tough_trust.proofs.lemmas.Passing.{size-stated, digests-stated, has-true, not-true, timestamp-passes, snapshot-passes, not-expired}
 use Rattle.tough_trust.proofs.lemmas.Walking.{first-passed, next-fine}
 use Rattle.tough_trust.proofs.lemmas.Judging.{judged-ok, delegated-at}
 use Rattle.tough_update.proofs.Turning.{Fine, if-fine, and_then-fine, walking, ending, keeps-answer}
@@ -100,7 +101,7 @@ module _ (verifies : Verifies) (s : SettingDoc) (N : ℤ → Type 0) (E : Signed
 
   -- the entry, of those listed, that a file is fetched by
   abbrev pub AskedBy : List (List ℕ × MetafileDoc) → List ℕ → ℕ → ℕ → RequestDoc → Type 0
-  AskedBy entries name limit listed r = (m : MetafileDoc) × (metafile_in entries name ≡ Some m) × (listed ≡ m.version) × (r.max_size ≡ bound m.length limit) × (r.sha256 ≡ stated_digest m.hashes)
+  AskedBy entries name limit listed r = (m : MetafileDoc) × (metafile_in entries name ≡ Some m) × (listed ≡ m.version) × (r.max_size ≡ bound m.length limit) × (r.digests ≡ stated_digests m.hashes)
 
   abbrev pub TargetsFine : KnownDoc → SignedDoc TargetsDoc → Type 0
   TargetsFine k d = ReachesUnder verifies k.root.role role.Targets targets_json d × Lists targets_in k.snapshot.role.meta targets_file d.role.head.version d × InTime k.start d.role.head.expires
@@ -190,13 +191,13 @@ module _ (verifies : Verifies) (s : SettingDoc) (N : ℤ → Type 0) (E : Signed
     named-by : {D : Type 0} (reads : List ℕ → Option D) (entries : List (List ℕ × MetafileDoc)) (name : List ℕ) (limit listed : ℕ) (r : RequestDoc) (bytes : List ℕ) (d : D)
         → reads bytes ≡ Some d → IsTrue (fits_request r bytes) → AskedBy entries name limit listed r → Lists reads entries name listed d
     named-by reads entries name limit listed r bytes d is fit a =
-        let both : IsTrue (nat_le (length bytes) r.max_size) × IsTrue (has_digest r.sha256 bytes) = has-true _ _ fit in (
+        let both : IsTrue (nat_le (length bytes) r.max_size) × IsTrue (has_digests r.digests bytes) = has-true _ _ fit in (
           a.0,
           a.1,
           record {
             bytes = bytes;
             reading = is;
-            digest = digest-stated (stated_digest a.0.hashes) bytes (subst (λ o. IsTrue (has_digest o bytes)) a.4 both.1);
+            digests = digests-stated (stated_digests a.0.hashes) bytes (subst (λ o. IsTrue (has_digests o bytes)) a.4 both.1);
             size = size-stated a.0.length limit (length bytes) (subst (λ n. length bytes ≤ n) a.3 (leb-true _ _ both.0));
             listed = a.2;
           },

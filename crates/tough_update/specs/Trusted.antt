@@ -1,6 +1,5 @@
 -- What an update that succeeds vouches for (TUF specification 1.0, section 5).
 use Rattle.std.specs.Prelude.{◌≡◌, ◌≤◌, ◌≤ℤ◌, ℕ, List, ◌++◌, length, codes, Option, Some, None, IfSome}
-use Rattle.sha2.specs.Sha256.{sha256}
 use Rattle.tough_keys.specs.Same.{Verifies}
 use Rattle.tough_roles.specs.Signature.{SignedDoc}
 use Rattle.tough_roles.specs.Root.{RootDoc, root_json}
@@ -20,7 +19,8 @@ use Rattle.tough_trust.specs.delegations.Bare.{top_page}
 use Rattle.tough_update.specs.growth.Once.{Distinct}
 use Rattle.tough_update.specs.growth.Under.{Below}
 use Rattle.tough_checks.specs.Files.{snapshot_file, targets_file}
-use Rattle.tough_trust.specs.Requests.{stated_digest}
+use Rattle.tough_net.specs.Digests.{HasDigests}
+use Rattle.tough_trust.specs.Requests.{stated_digests}
 use Rattle.tough_trust.specs.Listed.{targets_in}
 use Rattle.tough_update.specs.Stages.{KnownDoc}
 
@@ -30,12 +30,12 @@ pub data Chain (verifies : Verifies) (bytes : List ℕ) : SignedDoc RootDoc → 
   handed_in : (r : SignedDoc RootDoc) → root_in bytes ≡ Some r → ReachesUnder verifies r.role role.Root root_json r → Chain verifies bytes r
   followed : (r s : SignedDoc RootDoc) → Chain verifies bytes r → IsNext verifies r s → Chain verifies bytes s
 
--- an entry names this document: there are bytes that are the document, with the digest and within the length that the entry states, and
+-- an entry names this document: there are bytes that are the document, with each digest and within the length that the entry states, and
 -- the document has the listed version
 pub record Named {D : Type 0} (reads : List ℕ → Option D) (entry : MetafileDoc) (version : ℕ) (doc : D) : Type 0 where
   pub bytes : List ℕ
   pub reading : reads bytes ≡ Some doc
-  pub digest : IfSome (stated_digest entry.hashes) (λ d. sha256 bytes ≡ d)
+  pub digests : HasDigests (stated_digests entry.hashes) bytes
   pub size : IfSome entry.length (λ n. length bytes ≤ n)
   pub listed : version ≡ entry.version
 

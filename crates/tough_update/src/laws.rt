@@ -47,7 +47,7 @@ pub fn ends_walk()
 {}
 
 /// Each file that is asked for is one of four: the root after one that ends a chain, the timestamp, the snapshot that the accepted timestamp
-/// lists, or the targets that the accepted snapshot lists; its length and digest are bounded by the limits or that entry.
+/// lists, or the targets that the accepted snapshot lists; its length and digests are bounded by the limits or that entry.
 pub fn asks()
     ensures { (verifies : Verifies) (c : CoreDoc) (answers : List AnswerDoc) (r : RequestDoc)
         → IsFresh c → question (run verifies c answers) ≡ Fetch r → AsksFile verifies c answers r }

@@ -112,7 +112,7 @@ impl Core {
         }
     }
 
-    /// Whether a file is asked for, and the bytes are no longer than asked and have the digest that was asked for, if one was.
+    /// Whether a file is asked for, and the bytes are no longer than asked and have each digest that was asked for.
     pub fn fits(&self, bytes: &[u8]) -> bool
         ensures { result ≡ fits (core_doc self.now) bytes.now }
     {

@@ -11,7 +11,7 @@ use Rattle.serde_json.specs.Find.{get_member, as_object}
 use Rattle.tough_decoded.specs.Spelled.{Spelled, hex_bytes}
 use Rattle.tough_json.specs.Moment.{moment_text}
 use Rattle.tough_json.specs.Results.{json_of}
-use Rattle.tough_json.specs.Reading.{◌>>=◌, without, required, unless_null, present, if_present, optional, text, positive, whole, instant, hexadecimal, each, mapping, listing}
+use Rattle.tough_json.specs.Reading.{◌>>=◌, without, required, unless_null, present, if_present, optional, stated, text, positive, whole, instant, hexadecimal, each, mapping, listing}
 use Rattle.tough_json.specs.Writing.{if_free, with, with_optional, optional_json, positive_json, length_json, stands_for, hexadecimal_json, named, all_json}
 use Rattle.tough_json.proofs.lemmas.Write.{bind_ok, some-inj}
 use Rattle.tough_roles.specs.Head.{Head, head_at, with_moment, head_json}
@@ -135,6 +135,18 @@ or-at k f ms r (Some d) e h = or-read k f ms r d (f d) refl (present-is (get_mem
 came-or : {A : Type 0} (k : List ℕ) (f : Data → Option A) (ms : Members) (r : Option A × Members) → optional k f ms ≡ Some r → CameOr k f ms r
 came-or k f ms r h = or-at k f ms r (present k ms) refl h
 
+rest-below : {A : Type 0} (n : ℕ) (k : List ℕ) (f : Data → Option A) (ms : Members) (r : Option A × Members) → CameOr k f ms r → Below n ms → Below n r.1
+rest-below n k f ms r absent h = without-below n k ms h
+rest-below n k f ms r (there_is d a e p) h = without-below n k ms h
+
+-- the same where null is no value
+stated-at : {A : Type 0} (k : List ℕ) (f : Data → Option A) (ms : Members) (r : Option A × Members) (o : Option Data) → get_member k ms ≡ o → option_map (λ x. (x, without k ms)) (if_present f o) ≡ Some r → CameOr k f ms r
+stated-at k f ms r None e h = subst (CameOr k f ms) (some-inj h) absent
+stated-at k f ms r (Some d) e h = or-read k f ms r d (f d) refl e h
+
+came-stated : {A : Type 0} (k : List ℕ) (f : Data → Option A) (ms : Members) (r : Option A × Members) → stated k f ms ≡ Some r → CameOr k f ms r
+came-stated k f ms r h = stated-at k f ms r (get_member k ms) refl h
+
 -- ---- documents
 
 object-of : (v : Data) (ms : Members) → as_object v ≡ Some ms → v ≡ object ms
@@ -166,17 +178,29 @@ size-flat : (n : ℕ) (size : Option ℕ) (o : Option Data) → optional_json le
 size-flat n None o e = subst (λ (x : Option Data). OptBelow n x) (some-inj e) tt
 size-flat n (Some m) o e = subst (λ (x : Option Data). OptBelow n x) (some-inj e) (omega arith)
 
--- what is left of a digest's members, and what is written of it
+digits-flat : (n : ℕ) (s : Option Spelled) (o : Option Data) → optional_json hexadecimal_json s ≡ Some o → OptBelow n o
+digits-flat n None o e = subst (λ (x : Option Data). OptBelow n x) (some-inj e) tt
+digits-flat n (Some s) o e =
+    let inner = bind_ok (hexadecimal_json s) (λ d. Some (Some d)) o e in
+    subst (λ (x : Option Data). OptBelow n x) (some-inj inner.2) (text-flat n s inner.0 inner.1)
+
+-- what is left of the digests' members, and what is written of them
 pub hashes-below : (n : ℕ) (v : Data) (h : HashesDoc) (d : Data) → hashes_at v ≡ Some h → hashes_json h ≡ Some d → depth v ≤ suc n → depth d ≤ suc n
 unfolding hashes_at hashes_json
 hashes-below n v h d r w le =
     let ms = bind_ok (as_object v) _ h r in
     let sha = bind_ok (required (codes "sha256") hexadecimal ms.0) _ h ms.2 in
-    let extra : Below n h.extra = subst (λ (x : HashesDoc). Below n x.extra) (some-inj sha.2) (left-below n (codes "sha256") hexadecimal ms.0 sha.0 (came (codes "sha256") hexadecimal ms.0 sha.0 sha.1) (inside n v ms.0 ms.1 le)) in
-    let digits = bind_ok (hexadecimal_json h.sha256) (λ x. with (codes "sha256") x h.extra >>= λ ys. Some (object ys)) d w in
-    let members = bind_ok (with (codes "sha256") digits.0 h.extra) (λ ys. Some (object ys)) d digits.2 in
+    let more = bind_ok (stated (codes "sha512") hexadecimal sha.0.1) _ h sha.2 in
+    let left : Below n sha.0.1 = left-below n (codes "sha256") hexadecimal ms.0 sha.0 (came (codes "sha256") hexadecimal ms.0 sha.0 sha.1) (inside n v ms.0 ms.1 le) in
+    let is = came-stated (codes "sha512") hexadecimal sha.0.1 more.0 more.1 in
+    let extra : Below n h.extra = subst (λ (x : HashesDoc). Below n x.extra) (some-inj more.2) (rest-below n (codes "sha512") hexadecimal sha.0.1 more.0 is left) in
+    let second = bind_ok (optional_json hexadecimal_json h.sha512) _ d w in
+    let rest = bind_ok (with_optional (codes "sha512") second.0 h.extra) _ d second.2 in
+    let digits = bind_ok (hexadecimal_json h.sha256) (λ x. with (codes "sha256") x rest.0 >>= λ ys. Some (object ys)) d rest.2 in
+    let members = bind_ok (with (codes "sha256") digits.0 rest.0) (λ ys. Some (object ys)) d digits.2 in
     let flat : depth digits.0 ≤ n = text-flat n h.sha256 digits.0 digits.1 in
-    outside n d members.0 (some-inj members.2) (with-below n (codes "sha256") digits.0 h.extra members.0 members.1 flat extra)
+    let long : Below n rest.0 = with_optional-below n (codes "sha512") second.0 h.extra rest.0 rest.1 (digits-flat n h.sha512 second.0 second.1) extra in
+    outside n d members.0 (some-inj members.2) (with-below n (codes "sha256") digits.0 rest.0 members.0 members.1 flat long)
 
 -- the digest of a metafile that was read, as it is written
 inner-at : (n : ℕ) (ms : Members) (r : Option HashesDoc × Members) (o : Option Data) → CameOr (codes "hashes") hashes_at ms r → optional_json hashes_json r.0 ≡ Some o → Below (suc n) ms → OptBelow (suc n) o
@@ -185,10 +209,6 @@ inner-at n ms r o (there_is v a e p) w h =
     let inner = bind_ok (hashes_json a) (λ d. Some (Some d)) o w in
     subst (λ (x : Option Data). OptBelow (suc n) x) (some-inj inner.2)
     (hashes-below n v a inner.0 p inner.1 (some-below (suc n) (get_member (codes "hashes") ms) v e (get-below (suc n) (codes "hashes") ms h)))
-
-rest-below : {A : Type 0} (n : ℕ) (k : List ℕ) (f : Data → Option A) (ms : Members) (r : Option A × Members) → CameOr k f ms r → Below n ms → Below n r.1
-rest-below n k f ms r absent h = without-below n k ms h
-rest-below n k f ms r (there_is d a e p) h = without-below n k ms h
 
 pub metafile-below : (n : ℕ) (v : Data) (m : MetafileDoc) (d : Data) → metafile_at v ≡ Some m → metafile_json m ≡ Some d → depth v ≤ suc (suc n) → depth d ≤ suc (suc n)
 unfolding metafile_at metafile_json

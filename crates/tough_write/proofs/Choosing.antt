@@ -8,22 +8,23 @@ use Rattle.tough_names.specs.Named.{Named}
 use Rattle.tough_save.specs.Places.{IsMisplaced}
 use Rattle.tough_save.specs.declared.error.SaveError.TheVariants as save
 use Rattle.tough_write.specs.declared.error.OutputError.{OutputError}
+use Rattle.tough_write.specs.declared.put.Chosen.{Chosen}
 use Rattle.tough_write.specs.Errors.{TellsUnsafe}
 use Rattle.tough_write.specs.Putting.{Agrees, HasContent, HasPlace, Makes, MakesAt, MakesOver, Manner}
 use Rattle.tough_write.specs.Steps.{Done}
 
-module _ (consistent : Bool) (path sha256 : List ℕ) where
-  pub agrees_named : (old : List Told) → consistent ≡ true → Agrees consistent path sha256 (Ok tt) old old
+module _ (consistent : Bool) (path : List ℕ) (chosen : Chosen) where
+  pub agrees_named : (old : List Told) → consistent ≡ true → Agrees consistent path chosen (Ok tt) old old
   agrees_named old named = rw named (refl, tt)
 
-  pub agrees_read : (result : Done) (old new : List Told) → consistent ≡ false → HasContent path sha256 result old new → Agrees consistent path sha256 result old new
+  pub agrees_read : (result : Done) (old new : List Told) → consistent ≡ false → HasContent path chosen result old new → Agrees consistent path chosen result old new
   agrees_read result old new plain h = rw plain h
 
-module _ (m : Manner) (input path sha256 : List ℕ) (there : Bool) (result : Done) (old new : List Told) where
-  pub makes_over : there ≡ true → MakesOver m input path sha256 result old new → MakesAt m input path sha256 there result old new
+module _ (m : Manner) (input path : List ℕ) (chosen : Chosen) (there : Bool) (result : Done) (old new : List Told) where
+  pub makes_over : there ≡ true → MakesOver m input path chosen result old new → MakesAt m input path chosen there result old new
   makes_over is h = rw is h
 
-  pub makes_new : there ≡ false → Makes m.making input path result old new → MakesAt m input path sha256 there result old new
+  pub makes_new : there ≡ false → Makes m.making input path result old new → MakesAt m input path chosen there result old new
   makes_new is h = rw is h
 
 module _ (dir name : List ℕ) where

@@ -1,9 +1,10 @@
 -- The targets whose files are copied or linked (TUF specification 1.0, sections 4.5 and 6.2).
-use Rattle.std.specs.Prelude.{ℕ, Bool, List, [], ◌∷◌, ◌++◌, Option, option_map}
+use Rattle.std.specs.Prelude.{Bool, List, [], ◌∷◌, ◌++◌, Option, option_map}
 use Rattle.tough_names.specs.Named.{Named}
 use Rattle.tough_release.specs.Repository.{root_of, targets_of}
 use Rattle.tough_release.specs.declared.repository.SignedRepository.{SignedRepository}
 use Rattle.tough_roles.specs.Root.{root_doc}
+use Rattle.tough_roles.specs.Timestamp.{HashesDoc}
 use Rattle.tough_schema.specs.Entries.{all_listed}
 use Rattle.tough_schema.specs.Gather.{map_docs}
 use Rattle.tough_schema.specs.Search.{listed}
@@ -23,12 +24,12 @@ listing_in t = map_docs t.targets.entries
 abbrev pub is_consistent : TargetFiles → Bool
 is_consistent t = t.consistent_snapshot
 
-abbrev pub sha256_of : TargetDoc → List ℕ
-sha256_of t = t.hashes.sha256.bytes
+abbrev pub hashes_of : TargetDoc → HashesDoc
+hashes_of t = t.hashes
 
--- the digest that is listed under the name
-abbrev pub listed_sha256 : Listing → Named → Option (List ℕ)
-listed_sha256 listing name = option_map sha256_of (listed name listing)
+-- the digests that are listed under the name
+abbrev pub listed_hashes : Listing → Named → Option HashesDoc
+listed_hashes listing name = option_map hashes_of (listed name listing)
 
 -- what the document of a role and those below it list
 abbrev pub listed_in_role : SignedRole DelegatedTargets → Listing

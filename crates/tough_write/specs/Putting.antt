@@ -1,5 +1,5 @@
 -- The calls by which the file of a target is copied or linked into a folder.
-use Rattle.std.specs.Prelude.{◌≡◌, ◌≢◌, ◌⊎◌, ℕ, Bool, true, false, List, Option, Some, None, option_map, Result, Ok, Err, codes, String, string_bytes}
+use Rattle.std.specs.Prelude.{◌≡◌, ◌≢◌, ◌⊎◌, ℕ, Bool, true, false, List, Option, Some, None, IfSome, IsSomeAnd, option_map, Result, Ok, Err, codes, String, string_bytes}
 use Rattle.std.specs.Borrow.{Bor}
 use Rattle.std.specs.declared.alloc.Global.{Global}
 use Rattle.std.specs.Path.{path_file_name, path_join, path_parent, PathStartsWith}
@@ -9,6 +9,7 @@ use Rattle.tough_files.specs.declared.files.FilesError.TheVariants as files
 use Rattle.tough_files.specs.Calls.{Answered, found, refused, kind_of, copy_to, link_to, remove_at}
 use Rattle.tough_names.specs.declared.name.NameError.{NameError}
 use Rattle.tough_names.specs.Named.{Named, clean}
+use Rattle.tough_roles.specs.Timestamp.{HashesDoc}
 use Rattle.tough_save.specs.Places.{path_of, parent_of, IsPlace}
 use Rattle.tough_save.specs.declared.place.Place.{Place}
 use Rattle.tough_save.specs.Scripts.{Script, Asks, Stops}
@@ -28,7 +29,7 @@ use Rattle.tough_write.specs.declared.put.Making.TheVariants as make
 use Rattle.tough_write.specs.declared.put.Putting.{Putting}
 use Rattle.tough_write.specs.declared.target_files.TargetFiles.{TargetFiles}
 use Rattle.tough_write.specs.Errors.{Tells, TellsKind, TellsMismatch, TellsRefusal, TellsUnsafe}
-use Rattle.tough_write.specs.Listed.{is_consistent, listed_sha256, listing_in}
+use Rattle.tough_write.specs.Listed.{is_consistent, listed_hashes, listing_in}
 use Rattle.tough_write.specs.Steps.{Done, Does, Fails, IsDone, MakesFolders, Outcome, Resolves, Then}
 
 -- how files are put into a folder
@@ -96,23 +97,42 @@ is_measured input (Err e) r = (fault : FileError) × (r ≡ Err fault) × TellsU
 abbrev pub Measures : List ℕ → Outcome Measured → Script
 Measures input result old new = (r : Result Measured FileError) × MeasuresBy input r old new × is_measured input result r
 
--- the digest must be the one that is listed, if there is one
-abbrev pub IsListed : List ℕ → List ℕ → Option (List ℕ) → Done → Type 0
-IsListed input sha256 (Some expected) (Ok u) = expected ≡ sha256
-IsListed input sha256 (Some expected) (Err e) = (expected ≢ sha256) × TellsMismatch (codes "target") sha256 expected e
-IsListed input sha256 None (Ok u) = ⊥
-IsListed input sha256 None (Err e) = Tells error.PathIsNotTarget input e
+-- what was measured has the digests that are listed
+abbrev pub HasHashes : Measured → HashesDoc → Type 0
+HasHashes m h = (h.sha256.bytes ≡ m.sha256) × IfSome h.sha512 (λ s. s.bytes ≡ m.sha512)
+
+-- it hasn't, and the error says so of the first
+abbrev pub LacksHashes : Measured → HashesDoc → OutputError → Type 0
+LacksHashes m h e = ((h.sha256.bytes ≢ m.sha256) × TellsMismatch (codes "target") m.sha256 h.sha256.bytes e)
+    ⊎ ((h.sha256.bytes ≡ m.sha256) × IsSomeAnd h.sha512 (λ s. (s.bytes ≢ m.sha512) × TellsMismatch (codes "target") m.sha512 s.bytes e))
+
+-- the digests must be those that are listed
+abbrev pub AreListed : Measured → HashesDoc → Done → Type 0
+AreListed m h (Ok u) = HasHashes m h
+AreListed m h (Err e) = LacksHashes m h e
+
+-- the same, where some are listed
+abbrev pub IsListed : List ℕ → Measured → Option HashesDoc → Done → Type 0
+IsListed input m (Some h) result = AreListed m h result
+IsListed input m None (Ok u) = ⊥
+IsListed input m None (Err e) = Tells error.PathIsNotTarget input e
 
 abbrev pub IsTarget : Manner → List ℕ → Named → Measured → Done → Script
-IsTarget m input name measured result = Stops (IsListed input measured.sha256 (listed_sha256 m.listing name) result)
+IsTarget m input name measured result = Stops (IsListed input measured (listed_hashes m.listing name) result)
 
-abbrev pub IsChosen : Named → Measured → Outcome Chosen → Script
-IsChosen name measured result = Stops (result ≡ Ok (record { name = name; sha256 = measured.sha256 }))
+-- the SHA-512, where one is listed
+abbrev pub second_of : Option HashesDoc → Measured → Option (List ℕ)
+second_of None m = None
+second_of (Some h) m = option_map (λ s. m.sha512) h.sha512
 
--- The input is a file with the digest that is listed under its name.
+abbrev pub IsChosen : Manner → Named → Measured → Outcome Chosen → Script
+IsChosen m name measured result =
+    Stops (result ≡ Ok (record { name = name; sha256 = measured.sha256; sha512 = second_of (listed_hashes m.listing name) measured }))
+
+-- The input is a file with the digests that are listed under its name.
 abbrev pub Chooses : Manner → List ℕ → Option Named → Outcome Chosen → Script
 Chooses m input name = Then (FindsFile input) (λ u. Then (Names input name) (λ n. Then (Measures input) (λ measured.
-    Then (IsTarget m input n measured) (λ v. IsChosen n measured))))
+    Then (IsTarget m input n measured) (λ v. IsChosen m n measured))))
 
 -- ---- where its file is to stand
 
@@ -156,20 +176,21 @@ is_there result _ = ⊥
 abbrev pub LooksFor : List ℕ → Outcome Bool → Script
 LooksFor path result = Asks (kind_of path true) (λ answered. Stops (is_there result answered))
 
-abbrev pub has_digest : List ℕ → List ℕ → Done → Result Measured FilesError → Type 0
-has_digest path sha256 (Ok u) (Ok m) = m.sha256 ≡ sha256
-has_digest path sha256 (Err e) (Ok m) = (m.sha256 ≢ sha256) × TellsMismatch path m.sha256 sha256 e
-has_digest path sha256 (Err e) (Err why) = TellsRefusal error.FileRead path why e
-has_digest path sha256 _ _ = ⊥
+abbrev pub has_digests : List ℕ → Chosen → Done → Result Measured FilesError → Type 0
+has_digests path c (Ok u) (Ok m) = (m.sha256 ≡ c.sha256) × IfSome c.sha512 (λ x. m.sha512 ≡ x)
+has_digests path c (Err e) (Ok m) = ((m.sha256 ≢ c.sha256) × TellsMismatch path m.sha256 c.sha256 e)
+    ⊎ ((m.sha256 ≡ c.sha256) × IsSomeAnd c.sha512 (λ x. (m.sha512 ≢ x) × TellsMismatch path m.sha512 x e))
+has_digests path c (Err e) (Err why) = TellsRefusal error.FileRead path why e
+has_digests path c _ _ = ⊥
 
--- what stands there is read to its end, and must have the digest
-abbrev pub HasContent : List ℕ → List ℕ → Done → Script
-HasContent path sha256 result old new = (r : Result Measured FilesError) × ReadsAll path r old new × has_digest path sha256 result r
+-- what stands there is read to its end, and must have the digests
+abbrev pub HasContent : List ℕ → Chosen → Done → Script
+HasContent path c result old new = (r : Result Measured FilesError) × ReadsAll path r old new × has_digests path c result r
 
 -- the name of a file has its digest under consistent snapshots; else what stands there is read
-abbrev pub Agrees : Bool → List ℕ → List ℕ → Done → Script
-Agrees true path sha256 result = Stops (IsDone result)
-Agrees false path sha256 result = HasContent path sha256 result
+abbrev pub Agrees : Bool → List ℕ → Chosen → Done → Script
+Agrees true path c result = Stops (IsDone result)
+Agrees false path c result = HasContent path c result
 
 abbrev pub is_kind : Making → List ℕ → Done → Answered → Type 0
 is_kind make.Copy path result (found File) = IsDone result
@@ -197,21 +218,21 @@ Replaces Skip making input path result = Stops (IsDone result)
 Replaces Fail making input path result = Stops (Fails (Tells error.PathExistsFail path) result)
 Replaces Replace making input path result = Then (Does (remove_at path) error.RemoveTarget path) (λ u. Makes making input path) result
 
-abbrev pub MakesOver : Manner → List ℕ → List ℕ → List ℕ → Done → Script
-MakesOver m input path sha256 = Then (Agrees m.consistent path sha256) (λ u. Then (IsKind m.making path) (λ v. Replaces m.exists m.making input path))
+abbrev pub MakesOver : Manner → List ℕ → List ℕ → Chosen → Done → Script
+MakesOver m input path c = Then (Agrees m.consistent path c) (λ u. Then (IsKind m.making path) (λ v. Replaces m.exists m.making input path))
 
-abbrev pub MakesAt : Manner → List ℕ → List ℕ → List ℕ → Bool → Done → Script
-MakesAt m input path sha256 true result = MakesOver m input path sha256 result
-MakesAt m input path sha256 false result = Makes m.making input path result
+abbrev pub MakesAt : Manner → List ℕ → List ℕ → Chosen → Bool → Done → Script
+MakesAt m input path c true result = MakesOver m input path c result
+MakesAt m input path c false result = Makes m.making input path result
 
-abbrev pub Lays : Manner → List ℕ → List ℕ → List ℕ → Done → Script
-Lays m input path sha256 = Then (LooksFor path) (MakesAt m input path sha256)
+abbrev pub Lays : Manner → List ℕ → List ℕ → Chosen → Done → Script
+Lays m input path c = Then (LooksFor path) (MakesAt m input path c)
 
 -- ---- the whole
 
 -- the file is put at its place in this folder
 abbrev pub PutsIn : Manner → List ℕ → Chosen → List ℕ → Done → Script
-PutsIn m input c dir = Then (Places m.consistent dir c) (λ p. Then (Settles c.name dir (parent_of p) (path_of p)) (λ u. Lays m input (path_of p) c.sha256))
+PutsIn m input c dir = Then (Places m.consistent dir c) (λ p. Then (Settles c.name dir (parent_of p) (path_of p)) (λ u. Lays m input (path_of p) c))
 
 -- the path of the output folder is looked up
 abbrev pub PutsChosen : Manner → List ℕ → Chosen → Done → Script

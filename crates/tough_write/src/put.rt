@@ -1,12 +1,13 @@
 //! The file of a target is copied or linked into a folder.
 
-ghost use Rattle.std.specs.Prelude.{◌≡◌, ℕ, List, true, option_map, string_bytes};
+ghost use Rattle.std.specs.Prelude.{◌≡◌, ℕ, List, Ok, true, option_map, string_bytes};
+ghost use Rattle.tough_roles.specs.Timestamp.{hashes_doc};
 ghost use Rattle.tough_names.specs.Named.{Named};
 ghost use Rattle.tough_files.specs.Calls as call;
 ghost use Rattle.tough_write.specs.declared.error.OutputError.TheVariants as error;
 ghost use Rattle.tough_write.specs.declared.path_exists.PathExists.TheVariants as exist;
 ghost use Rattle.tough_write.specs.Errors.{Tells, TellsKind, TellsMismatch, TellsUnsafe};
-ghost use Rattle.tough_write.specs.Putting.{manner_of, given, is_kind, HasContent, TellsUnmeasured, Agrees, Chooses, FindsFile, IsKind, IsListed, IsNamed, IsPlaced, IsWithin, Lays, LooksFor, Makes, MakesOver, Measures, Puts, PutsChosen, PutsIn, Replaces, Settles};
+ghost use Rattle.tough_write.specs.Putting.{manner_of, given, is_kind, has_digests, second_of, AreListed, HasContent, TellsUnmeasured, Agrees, Chooses, FindsFile, IsKind, IsListed, IsNamed, IsPlaced, IsWithin, Lays, LooksFor, Makes, MakesOver, Measures, Puts, PutsChosen, PutsIn, Replaces, Settles};
 
 use crate::error::{OutputError, Step, refusal};
 use crate::path_exists::PathExists;
@@ -16,6 +17,7 @@ use std::alloc::Global;
 use std::path::Path;
 use tough_files::{FileKind, Files, FilesError};
 use tough_names::{NameError, TargetName};
+use tough_roles::Hashes;
 use tough_save::{Place, SaveError, file_name};
 use tough_schema::FileError;
 use tough_schema::file_digest::{Measured, measure, read_all};
@@ -37,11 +39,12 @@ pub(crate) struct Putting<'b, 'a> {
     pub(crate) exists: PathExists,
 }
 
-// The target that a file is: its name, and its digest.
+// The target that a file is: its name, its SHA-256, and its SHA-512 where one is listed.
 #[derive(Drop)]
 struct Chosen {
     name: TargetName,
     sha256: [u8; 32],
+    sha512: Option<[u8; 64]>,
 }
 
 // ---- errors
@@ -209,24 +212,49 @@ fn measured<F: Files>(alloc: Global, files: &mut F, input: &str) -> Result<Measu
     }
 }
 
-// The digest must be the one that is listed.
+// The digests must be those that are listed.
+fn check_hashes(alloc: Global, measured: &Measured, hashes: &Hashes) -> Result<(), OutputError>
+    ensures { AreListed measured.now (hashes_doc hashes.now) result }
+{
+    let (expected, found) = (hashes.sha256.as_slice(), measured.sha256.as_slice());
+    if expected != found {
+        return Err(mismatch(alloc, "target", found, expected));
+    }
+    if let Some(sha512) = &hashes.sha512 {
+        let (expected, found) = (sha512.as_slice(), measured.sha512.as_slice());
+        if expected != found {
+            return Err(mismatch(alloc, "target", found, expected));
+        }
+    }
+    Ok(())
+}
+
+// The same, where some are listed.
 fn check_listed(
     alloc: Global,
     input: &str,
-    sha256: &[u8],
-    listed: Option<&[u8]>,
+    measured: &Measured,
+    listed: Option<&Hashes>,
 ) -> Result<(), OutputError>
-    ensures { IsListed input.now sha256.now (option_map (λ d. d.now) listed.entry) result }
+    ensures { IsListed input.now measured.now (option_map (λ h. hashes_doc h.now) listed.entry)
+        result }
 {
     match listed {
         None => Err(no_target(alloc, input)),
-        Some(expected) => {
-            if expected == sha256 {
-                Ok(())
-            } else {
-                Err(mismatch(alloc, "target", sha256, expected))
-            }
-        }
+        Some(hashes) => check_hashes(alloc, measured, hashes),
+    }
+}
+
+// The SHA-512, where one is listed.
+fn second_of(listed: Option<&Hashes>, measured: &Measured) -> Option<[u8; 64]>
+    ensures { result ≡ second_of (option_map (λ h. hashes_doc h.now) listed.entry) measured.now }
+{
+    match listed {
+        None => None,
+        Some(hashes) => match &hashes.sha512 {
+            None => None,
+            Some(_) => Some(measured.sha512),
+        },
     }
 }
 
@@ -243,25 +271,40 @@ fn is_there<F: Files>(files: &mut F, path: &str) -> Result<bool, OutputError>
     }
 }
 
-// What stands there must have the digest.
+// What was measured at the path must have the digests.
+fn check_measured(
+    alloc: Global,
+    path: &str,
+    measured: &Measured,
+    chosen: &Chosen,
+) -> Result<(), OutputError>
+    ensures { has_digests path.now chosen.now result (Ok measured.now) }
+{
+    let (found, expected) = (measured.sha256.as_slice(), chosen.sha256.as_slice());
+    if found != expected {
+        return Err(mismatch(alloc, path, found, expected));
+    }
+    if let Some(sha512) = &chosen.sha512 {
+        let (found, expected) = (measured.sha512.as_slice(), sha512.as_slice());
+        if found != expected {
+            return Err(mismatch(alloc, path, found, expected));
+        }
+    }
+    Ok(())
+}
+
+// What stands there must have the digests.
 fn check_content<F: Files>(
     alloc: Global,
     files: &mut F,
     path: &str,
-    sha256: &[u8],
+    chosen: &Chosen,
 ) -> Result<(), OutputError>
     ensures { F.tells ≡ true
-        → HasContent path.now sha256.now result (F.calls files.old) (F.calls files.new) }
+        → HasContent path.now chosen.now result (F.calls files.old) (F.calls files.new) }
 {
     match read_all(files, path) {
-        Ok(measured) => {
-            let found: &[u8] = &measured.sha256;
-            if found == sha256 {
-                Ok(())
-            } else {
-                Err(mismatch(alloc, path, found, sha256))
-            }
-        }
+        Ok(measured) => check_measured(alloc, path, &measured, chosen),
         Err(error) => Err(refusal(alloc, Step::Read, path, error)),
     }
 }
@@ -374,9 +417,12 @@ impl<'b, 'a> Putting<'b, 'a> {
         find_file(self.alloc, files, input)?;
         let name = name_of(self.alloc, input, name)?;
         let measured = measured(self.alloc, files, input)?;
-        let sha256 = measured.sha256;
-        check_listed(self.alloc, input, &sha256, self.targets.sha256(&name))?;
-        Ok(Chosen { name, sha256 })
+        check_listed(self.alloc, input, &measured, self.targets.hashes(&name))?;
+        Ok(Chosen {
+            sha512: second_of(self.targets.hashes(&name), &measured),
+            sha256: measured.sha256,
+            name,
+        })
     }
 
     // Where its file is to stand.
@@ -435,16 +481,16 @@ impl<'b, 'a> Putting<'b, 'a> {
         }
     }
 
-    // What stands there must have the digest, unless its name has it.
-    fn agree<F: Files>(&self, files: &mut F, path: &str, sha256: &[u8]) -> Result<(), OutputError>
+    // What stands there must have the digests, unless its name has one.
+    fn agree<F: Files>(&self, files: &mut F, path: &str, chosen: &Chosen) -> Result<(), OutputError>
         ensures { F.tells ≡ true
-            → Agrees (manner_of self.now).consistent path.now sha256.now result
+            → Agrees (manner_of self.now).consistent path.now chosen.now result
             (F.calls files.old) (F.calls files.new) }
     {
         if self.targets.consistent_snapshot() {
             Ok(())
         } else {
-            check_content(self.alloc, files, path, sha256)
+            check_content(self.alloc, files, path, chosen)
         }
     }
 
@@ -454,13 +500,13 @@ impl<'b, 'a> Putting<'b, 'a> {
         files: &mut F,
         input: &str,
         path: &str,
-        sha256: &[u8],
+        chosen: &Chosen,
     ) -> Result<(), OutputError>
         ensures { F.tells ≡ true
-            → MakesOver (manner_of self.now) input.now path.now sha256.now result
+            → MakesOver (manner_of self.now) input.now path.now chosen.now result
             (F.calls files.old) (F.calls files.new) }
     {
-        self.agree(files, path, sha256)?;
+        self.agree(files, path, chosen)?;
         self.making.check_kind(self.alloc, files, path)?;
         self.replace(files, input, path)
     }
@@ -471,15 +517,15 @@ impl<'b, 'a> Putting<'b, 'a> {
         files: &mut F,
         input: &str,
         path: &str,
-        sha256: &[u8],
+        chosen: &Chosen,
     ) -> Result<(), OutputError>
         ensures { F.tells ≡ true
-            → Lays (manner_of self.now) input.now path.now sha256.now result
+            → Lays (manner_of self.now) input.now path.now chosen.now result
             (F.calls files.old) (F.calls files.new) }
     {
         let there = is_there(files, path)?;
         if there {
-            self.make_over(files, input, path, sha256)
+            self.make_over(files, input, path, chosen)
         } else {
             self.making.make(self.alloc, files, input, path)
         }
@@ -499,7 +545,7 @@ impl<'b, 'a> Putting<'b, 'a> {
     {
         let place = self.place(dir, chosen)?;
         self.settle(files, dir, &chosen.name, place.parent(), place.path())?;
-        self.lay(files, input, place.path(), &chosen.sha256)
+        self.lay(files, input, place.path(), chosen)
     }
 
     // Puts the file at its place in the output folder.

@@ -1,10 +1,11 @@
 //! The targets whose files are copied or linked.
 
 ghost use Rattle.std.specs.Prelude.{◌≡◌, [], true, IfOk, OnOk, map, option_map};
+ghost use Rattle.tough_roles.specs.Timestamp.{hashes_doc};
 ghost use Rattle.tough_schema.specs.Entries.{merged_into};
 ghost use Rattle.tough_schema.specs.Gather.{map_docs};
 ghost use Rattle.tough_signed.specs.Standing as signed;
-ghost use Rattle.tough_write.specs.Listed.{listing_in, is_consistent, listed_by, listed_in_role, listed_in_repository, repository_is_consistent, listed_sha256};
+ghost use Rattle.tough_write.specs.Listed.{listing_in, is_consistent, listed_by, listed_in_role, listed_in_repository, repository_is_consistent, listed_hashes};
 ghost use Rattle.tough_write.specs.Putting.{copying, linking, given, manner, manner_of, Puts};
 ghost use Rattle.tough_write.specs.Walking.{PutsAll};
 
@@ -16,6 +17,7 @@ use std::collections::BTreeMap;
 use tough_files::Files;
 use tough_names::TargetName;
 use tough_release::SignedRepository;
+use tough_roles::Hashes;
 use tough_schema::{DelegatedTargets, Target};
 use tough_signed::{SignedDelegatedTargets, SignedRole};
 
@@ -74,12 +76,13 @@ impl<'a> TargetFiles<'a> {
         Ok(TargetFiles::new(targets, consistent_snapshot))
     }
 
-    // The digest that is listed under the name.
-    pub(crate) fn sha256(&self, name: &TargetName) -> Option<&[u8]>
-        ensures { option_map (λ d. d.now) result ≡ listed_sha256 (listing_in self.now) name.now }
+    // The digests that are listed under the name.
+    pub(crate) fn hashes(&self, name: &TargetName) -> Option<&Hashes>
+        ensures { option_map (λ h. hashes_doc h.now) result
+            ≡ listed_hashes (listing_in self.now) name.now }
     {
         match self.targets.get(name) {
-            Some(target) => Some(target.hashes.sha256.as_slice()),
+            Some(target) => Some(&target.hashes),
             None => None,
         }
     }

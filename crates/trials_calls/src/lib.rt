@@ -69,7 +69,7 @@ fn of_devices(rt: &HostRuntime, call: &str, case: &Value) -> Result<Option<Strin
         "RetryCore" => retries::play(rt.alloc(), case)?,
         "TransportError" => streams::made(rt.alloc(), case)?,
         "FilesystemTransport" => streams::fetch_file(rt, case)?,
-        "fetch_max_size" | "fetch_sha256" | "fetch_whole" | "MemoryTransport" => {
+        "fetch_max_size" | "fetch_sha256" | "fetch_digests" | "fetch_whole" | "MemoryTransport" => {
             streams::fetch(rt, call, case)?
         }
         _ => return Ok(None),

@@ -8,7 +8,7 @@ use sha2::{Digest, Sha256};
 use std::alloc::Global;
 use tough_demo::{RepositoryFiles, repository};
 use tough_files::{Files, FilesError, MemoryFiles};
-use tough_schema::Target;
+use tough_schema::{Hashes, Target};
 
 // A file `/f` with these bytes, a link `/l` to it, and a folder `/d`.
 fn files(alloc: Global, bytes: &[u8]) -> Result<MemoryFiles, FilesError> {
@@ -20,13 +20,18 @@ fn files(alloc: Global, bytes: &[u8]) -> Result<MemoryFiles, FilesError> {
     Ok(files)
 }
 
-// The length and the digest of what stands at the path, where the file has this content so many times.
+// The length and the digests of what stands at the path, where the file has this content so many times.
 fn from_path(alloc: Global, path: &str, content: &str, times: u64) -> Result<String> {
     let content = content.repeat(alloc, times as usize)?;
     let mut files = files(alloc, content.as_bytes())?;
     match Target::from_path(alloc, &mut files, path) {
         Ok(target) => {
-            Ok(format!(in alloc; "{} {}", target.length, target.hashes.sha256.as_str())?)
+            let Hashes { sha256, sha512, .. } = &target.hashes;
+            let second = match sha512 {
+                Some(sha512) => sha512.as_str(),
+                None => "none",
+            };
+            Ok(format!(in alloc; "{} {} {second}", target.length, sha256.as_str())?)
         }
         Err(error) => Ok(format!(in alloc; "{error:?}")?),
     }

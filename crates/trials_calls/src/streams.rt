@@ -8,8 +8,9 @@ use serde_json::Value;
 use std::alloc::{AllocError, Global};
 use std::{env, fs, process, str};
 use tough_net::{
-    Cause, FilesystemTransport, HttpError, IntoVec, LastRequest, MemoryTransport, RequestError,
-    Transport, TransportError, TransportErrorKind, fetch_max_size, fetch_sha256, fetch_whole,
+    Cause, Digests, FilesystemTransport, HttpError, IntoVec, LastRequest, MemoryTransport,
+    RequestError, Transport, TransportError, TransportErrorKind, fetch_digests, fetch_max_size,
+    fetch_sha256, fetch_whole,
 };
 use url::Url;
 
@@ -29,11 +30,27 @@ fn memory(alloc: Global, case: &Value) -> Result<MemoryTransport> {
     Ok(transport)
 }
 
-// The digest that the case states.
+// The SHA-256 that the case states.
 fn digest(case: &Value) -> [u8; 32] {
     let mut bytes = [0u8; 32];
     let _ = hex::decode_to_slice(text(case, "sha256"), &mut bytes);
     bytes
+}
+
+// The bytes of the digits under the name, if the case has some.
+fn stated(alloc: Global, case: &Value, name: &str) -> Result<Option<Vec<u8>>> {
+    let digits = text(case, name);
+    if digits.is_empty() {
+        return Ok(None);
+    }
+    Ok(Some(hex::decode(alloc, digits)?))
+}
+
+// The digests that the case states.
+fn digests(alloc: Global, case: &Value) -> Result<Digests> {
+    let sha256 = stated(alloc, case, "sha256")?;
+    let sha512 = stated(alloc, case, "sha512")?;
+    Ok(Digests { sha256, sha512 })
 }
 
 // A fault, with its kind and its place.
@@ -104,14 +121,6 @@ fn whole(alloc: Global, outcome: Option<Result<Vec<u8>, TransportError>>) -> Res
     }
 }
 
-// The digest that the case states, if it states one.
-fn stated(alloc: Global, case: &Value) -> Result<Option<Vec<u8>>> {
-    if text(case, "sha256").is_empty() {
-        return Ok(None);
-    }
-    Ok(Some(Vec::from_slice(alloc, digest(case).as_slice())?))
-}
-
 // The greatest number of bytes that the case allows.
 fn limit(case: &Value) -> u64 {
     number(case, "limit").unwrap_or(u64::MAX)
@@ -137,12 +146,23 @@ fn checked(rt: &HostRuntime, transport: &MemoryTransport, case: &Value) -> Resul
     }
 }
 
+// The same where each digest that the case states is checked.
+fn checked_by_each(rt: &HostRuntime, transport: &MemoryTransport, case: &Value) -> Result<String> {
+    let alloc = rt.alloc();
+    let url = Url::parse(alloc, text(case, "url"))?;
+    let digests = digests(alloc, case)?;
+    match fetch_digests(alloc, transport, &url, limit(case), "a limit", digests) {
+        Ok(stream) => shown(rt, stream, 5),
+        Err(error) => failed(alloc, error),
+    }
+}
+
 // All bytes, if they fit.
 fn collected(rt: &HostRuntime, transport: &MemoryTransport, case: &Value) -> Result<String> {
     let alloc = rt.alloc();
     let url = Url::parse(alloc, text(case, "url"))?;
-    let sha256 = stated(alloc, case)?;
-    match fetch_whole(alloc, transport, &url, limit(case), "a limit", sha256) {
+    let digests = digests(alloc, case)?;
+    match fetch_whole(alloc, transport, &url, limit(case), "a limit", digests) {
         Ok(future) => whole(alloc, future.now_or_never(rt)?),
         Err(error) => failed(alloc, error),
     }
@@ -164,6 +184,7 @@ pub(crate) fn fetch(rt: &HostRuntime, call: &str, case: &Value) -> Result<String
     let told = match call {
         "fetch_max_size" => bounded(rt, &transport, case),
         "fetch_sha256" => checked(rt, &transport, case),
+        "fetch_digests" => checked_by_each(rt, &transport, case),
         "fetch_whole" => collected(rt, &transport, case),
         "MemoryTransport" => fetched(rt, &transport, text(case, "url")),
         _ => Err(anyhow!("no call {call}")),

@@ -74,8 +74,9 @@ pub const CALLS: [(&str, &str, &str); 91] = [
     ("repository", "count,consistent,file,kind,tells", ""),
     ("fetch_max_size", "files,piece,url,limit", ""),
     ("fetch_sha256", "files,piece,url,limit,sha256", ""),
+    ("fetch_digests", "files,piece,url,limit,sha256,sha512", ""),
     ("MemoryTransport", "files,piece,url", ""),
-    ("fetch_whole", "files,piece,url,limit,sha256", ""),
+    ("fetch_whole", "files,piece,url,limit,sha256,sha512", ""),
     ("FilesystemTransport", "url", ""),
     ("TransportError", "url,cause", ""),
     (

@@ -8,7 +8,7 @@ use Rattle.tough_decoded.specs.Spelled.{Spelled, hex_bytes}
 use Rattle.serde_json.specs.Data.{Data, string, Members, no_members, member, put, Items, item}
 use Rattle.serde_json.specs.Find.{get_member}
 use Rattle.serde_json.proofs.Views.{get_member-put}
-use Rattle.tough_json.specs.Reading.{◌>>=◌, without, required, optional, unless_null, hexadecimal, decoded, positive, whole, each, all_at}
+use Rattle.tough_json.specs.Reading.{◌>>=◌, without, required, optional, stated, unless_null, hexadecimal, decoded, positive, whole, each, all_at}
 use Rattle.tough_json.specs.Writing.{if_free, with, with_optional, optional_json, positive_json, length_json, stands_for, hexadecimal_json, decoded_json, named, all_json}
 
 pub is_none-map : {A B : Type 0} (f : A → B) (o : Option A) → is_none (option_map f o) ≡ not (is_some o)
@@ -73,6 +73,16 @@ optional-with_none k f ms new h =
     let free = if_free-ok (get_member k ms) ms new h in
     rw (← free.1, free.0, without-absent k ms free.0) refl
 
+pub stated-with_some : {A : Type 0} (k : List ℕ) (f : Data → Option A) (d : Data) (ms new : Members) (a : A) → with k d ms ≡ Some new → f d ≡ Some a → stated k f new ≡ Some (Some a, ms)
+stated-with_some k f d ms new a h g =
+    let free = if_free-ok (get_member k ms) (put k d ms) new h in
+    rw (← free.1, get_member-put k d ms, g, without-put k d ms free.0) refl
+
+pub stated-with_none : {A : Type 0} (k : List ℕ) (f : Data → Option A) (ms new : Members) → if_free (get_member k ms) ms ≡ Some new → stated k f new ≡ Some (None, ms)
+stated-with_none k f ms new h =
+    let free = if_free-ok (get_member k ms) ms new h in
+    rw (← free.1, free.0, without-absent k ms free.0) refl
+
 pub bind_ok : {A B : Type 0} (o : Option A) (f : A → Option B) (b : B) → (o >>= f) ≡ Some b → (a : A) × (o ≡ Some a) × (f a ≡ Some b)
 bind_ok (Some a) f b h = (a, refl, h)
 bind_ok None f b h = cc
@@ -109,6 +119,15 @@ optional-back k f g (Some x) o ms new back w p =
     let inner = bind_ok (g x) (λ d. Some (Some d)) o w in
     let is = back x inner.0 inner.1 in
     optional-with_some k f inner.0 ms new x (subst (λ (z : Option Data). with_optional k z ms ≡ Some new) (sym (some-inj inner.2)) p) is.0 is.1
+
+-- the same of a member where null is no value
+pub stated-back : {A : Type 0} (k : List ℕ) (f : Data → Option A) (g : A → Option Data) (a : Option A) (o : Option Data) (ms new : Members) → ((x : A) (d : Data) → g x ≡ Some d → f d ≡ Some x)
+    → optional_json g a ≡ Some o → with_optional k o ms ≡ Some new → stated k f new ≡ Some (a, ms)
+stated-back k f g None None ms new back w p = stated-with_none k f ms new p
+stated-back k f g None (Some d) ms new back w p = cc
+stated-back k f g (Some x) o ms new back w p =
+    let inner = bind_ok (g x) (λ d. Some (Some d)) o w in
+    stated-with_some k f inner.0 ms new x (subst (λ (z : Option Data). with_optional k z ms ≡ Some new) (sym (some-inj inner.2)) p) (back x inner.0 inner.1)
 
 pub length-back : (n : ℕ) (d : Data) → length_json n ≡ Some d → (unless_null d ≡ Some d) × (whole d ≡ Some n)
 length-back n d e = rw (← some-inj e) (refl, refl)

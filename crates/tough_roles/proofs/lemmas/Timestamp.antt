@@ -4,7 +4,7 @@ use Rattle.jiff_core.specs.Timestamp.{IsTimestampNanos}
 use Rattle.serde_json.specs.Data.{Data, object}
 use Rattle.tough_json.specs.Reading.{◌>>=◌, unless_null, hexadecimal, positive, whole, mapping}
 use Rattle.tough_json.specs.Writing.{with, with_optional, optional_json, positive_json, length_json, hexadecimal_json, named}
-use Rattle.tough_json.proofs.lemmas.Write.{bind_ok, some-inj, required-with, hexadecimal-back, positive-back, optional-back, length-back, named-back}
+use Rattle.tough_json.proofs.lemmas.Write.{bind_ok, some-inj, required-with, hexadecimal-back, positive-back, optional-back, stated-back, length-back, named-back}
 use Rattle.tough_roles.specs.Head.{head_json}
 use Rattle.tough_roles.specs.Timestamp.{HashesDoc, MetafileDoc, TimestampDoc, hashes_at, hashes_json, metafile_at, metafile_json, timestamp_at, timestamp_json}
 use Rattle.tough_roles.proofs.lemmas.Head.{head-back}
@@ -12,15 +12,23 @@ use Rattle.tough_roles.proofs.lemmas.Head.{head-back}
 pub hashes-back : (h : HashesDoc) (d : Data) → hashes_json h ≡ Some d → hashes_at d ≡ Some h
 unfolding hashes_json hashes_at
 hashes-back h d w =
-    let digits = bind_ok (hexadecimal_json h.sha256) (λ x. with (codes "sha256") x h.extra >>= λ ms. Some (object ms)) d w in
-    let members = bind_ok (with (codes "sha256") digits.0 h.extra) (λ ms. Some (object ms)) d digits.2 in
-    rw (← some-inj members.2, required-with (codes "sha256") hexadecimal digits.0 h.extra members.0 h.sha256 members.1 (hexadecimal-back h.sha256 digits.0 digits.1)) refl
+    let second = bind_ok (optional_json hexadecimal_json h.sha512) _ d w in
+    let rest = bind_ok (with_optional (codes "sha512") second.0 h.extra) _ d second.2 in
+    let digits = bind_ok (hexadecimal_json h.sha256) (λ x. with (codes "sha256") x rest.0 >>= λ ms. Some (object ms)) d rest.2 in
+    let members = bind_ok (with (codes "sha256") digits.0 rest.0) (λ ms. Some (object ms)) d digits.2 in
+    rw (
+      ← some-inj members.2,
+      required-with (codes "sha256") hexadecimal digits.0 rest.0 members.0 h.sha256 members.1 (hexadecimal-back h.sha256 digits.0 digits.1),
+      stated-back (codes "sha512") hexadecimal hexadecimal_json h.sha512 second.0 h.extra rest.0 hexadecimal-back second.1 rest.1,
+    ) refl
 
 object-back : (h : HashesDoc) (d : Data) → hashes_json h ≡ Some d → unless_null d ≡ Some d
 unfolding hashes_json
 object-back h d w =
-    let digits = bind_ok (hexadecimal_json h.sha256) (λ x. with (codes "sha256") x h.extra >>= λ ms. Some (object ms)) d w in
-    let members = bind_ok (with (codes "sha256") digits.0 h.extra) (λ ms. Some (object ms)) d digits.2 in
+    let second = bind_ok (optional_json hexadecimal_json h.sha512) _ d w in
+    let rest = bind_ok (with_optional (codes "sha512") second.0 h.extra) _ d second.2 in
+    let digits = bind_ok (hexadecimal_json h.sha256) (λ x. with (codes "sha256") x rest.0 >>= λ ms. Some (object ms)) d rest.2 in
+    let members = bind_ok (with (codes "sha256") digits.0 rest.0) (λ ms. Some (object ms)) d digits.2 in
     rw (← some-inj members.2) refl
 
 -- what is written for a metafile is read as it

@@ -2,8 +2,6 @@
 use Rattle.std.specs.Prelude.{◌≡◌, ℕ, ℤ, ◌==◌, ◌≤◌, List, length, Option, Some, None, IfSome, Bool, true, false, IsTrue, Result, Ok, Err, not, ◌&&◌, if◌then◌else◌}
 use Rattle.std.proofs.Common.{refl}
 use Rattle.std.proofs.lemmas.Bool.{eqb-true}
-use Rattle.std.proofs.lemmas.Slice.Eq.{bytes_eq-Decides}
-use Rattle.sha2.specs.Sha256.{sha256}
 use Rattle.tough_keys.specs.Same.{Verifies}
 use Rattle.tough_roles.specs.Signature.{SignedDoc}
 use Rattle.tough_roles.specs.Root.{RootDoc}
@@ -18,7 +16,9 @@ use Rattle.tough_checks.specs.Checks.{Reason, refuse, or_else, VersionMismatch, 
 use Rattle.tough_checks.specs.Documents.{timestamp_verdict, snapshot_verdict}
 use Rattle.tough_trust.specs.Failure.{Failure}
 use Rattle.tough_trust.specs.Outcomes.{if_read, unrefused}
-use Rattle.tough_trust.specs.Requests.{bound, has_digest}
+use Rattle.tough_net.specs.Digests.{Digests, HasDigests, has_digests}
+use Rattle.tough_net.proofs.lemmas.Digests.{digests-had}
+use Rattle.tough_trust.specs.Requests.{bound}
 
 -- ---- checks that passed
 
@@ -58,9 +58,8 @@ pub size-stated : (o : Option ℕ) (limit n : ℕ) → n ≤ bound o limit → I
 size-stated None limit n h = tt
 size-stated (Some k) limit n h = h
 
-pub digest-stated : (o : Option (List ℕ)) (bytes : List ℕ) → IsTrue (has_digest o bytes) → IfSome o (λ d. sha256 bytes ≡ d)
-digest-stated None bytes h = tt
-digest-stated (Some d) bytes h = (bytes_eq-Decides _ _).0 h
+pub digests-stated : (d : Digests) (bytes : List ℕ) → IsTrue (has_digests d bytes) → HasDigests d bytes
+digests-stated = digests-had
 
 -- ---- documents that were read
 

@@ -7,7 +7,7 @@ returns-in-Ok-fetch_whole-clause-started g c = record {
   url = c.in-Ok.url;
   joined = search rules;
   asked = c.in-Ok-fetch_whole.ensures.bounds
-      ∙ ap (λ d. record { url = serialize c.in-Ok.url; max = c.args.request.now.max_size; specifier = c.args.request.now.specifier.now; digest = d }) c.in-Ok-copy_digest.ensures;
+      ∙ ap (λ d. record { url = serialize c.in-Ok.url; max = c.args.request.now.max_size; specifier = c.args.request.now.specifier.now; digests = d }) c.in-Ok-clone.ensures.cases;
   fresh = c.in-Ok-fetch_whole.ensures.fresh;
   served = c.in-Ok-fetch_whole.ensures.served;
 }

@@ -1,10 +1,9 @@
 use Rattle.std.proofs.Common.{◌≡◌, [], inr, append-nil, length, subst, refl, ap, sym, ◌∙◌, arith, List, ℕ, Err, Result}
 use Rattle.std.proofs.lemmas.List.{take_all}
 use Rattle.std.proofs.lemmas.Result.{err_from_is_err_and}
-use Rattle.sha2.specs.Hashers.{Holds256}
 use Rattle.tough_files.specs.declared.files.FilesError.{FilesError}
 use Rattle.tough_files.specs.declared.files.FilesError.TheVariants as fault
-use Rattle.tough_schema.specs.FileDigest.{Feeds, MeasuresFile}
+use Rattle.tough_schema.specs.FileDigest.{Feeds, HoldsBoth, MeasuresFile}
 use Rattle.tough_schema.specs.declared.file_digest.Reading.{Reading}
 use Rattle.tough_schema.specs.declared.file_digest.Measured.{Measured}
 use Rattle.std.specs.List.{concat}
@@ -20,7 +19,7 @@ refused bytes old new fault.NotFound r s is was h = subst (MeasuresFile bytes) (
 refused bytes old new fault.Failed r s is was h = subst (MeasuresFile bytes) (sym was) (subst (λ x. Feeds bytes old x new) is h)
 
 pub loop-init : goal.loop-init
-loop-init g c = (λ tells path. refl, λ bytes tells is. (record { within = omega arith; holds = c.new.ensures }, omega arith), λ tells. record { pieces = []; calls = sym (append-nil _); size = refl; holds = c.new.ensures; many = omega arith })
+loop-init g c = (λ tells path. refl, λ bytes tells is. (record { within = omega arith; holds = (c.new.ensures, c.new-2.ensures) }, omega arith), λ tells. record { pieces = []; calls = sym (append-nil _); size = refl; holds = (c.new.ensures, c.new-2.ensures); many = omega arith })
 
 pub returns-in_err-feed-clause-measured : goal.returns-in_err-feed-clause-measured
 returns-in_err-feed-clause-measured g c = λ bytes tells is.
@@ -39,8 +38,8 @@ returns-then-branch-eq0-clause-measured g c = λ bytes tells is.
     let read = c.loop.invariant.1 bytes tells is in
     let fed = c.in_ok-feed.ensures.feeds bytes tells (there-kept c.args.path.now (g.F.Files.contents c.args.files.now) (g.F.Files.contents c.loop.files) same ∙ is) read.0 in
     let all : c.feed.new.reading.length ≡ length bytes = fed.2 c.if-branch-eq0.true in
-    let held : Holds256 c.feed.new.reading.hasher bytes = subst (λ m. Holds256 c.feed.new.reading.hasher m) (take_all c.feed.new.reading.length bytes (omega (arith, all))) fed.0.holds in
-    (all, c.finalize.ensures bytes held)
+    let held : HoldsBoth c.feed.new.reading bytes = subst (λ m. HoldsBoth c.feed.new.reading m) (take_all c.feed.new.reading.length bytes (omega (arith, all))) fed.0.holds in
+    (all, c.finalize.ensures bytes held.0, c.finalize-then-branch-eq0.ensures bytes held.1)
 
 pub returns-then-branch-eq0-clause-kept : goal.returns-then-branch-eq0-clause-kept
 returns-then-branch-eq0-clause-kept g c = λ tells path. c.in_ok-feed.ensures.kept tells path ∙ c.loop.invariant.0 tells path
@@ -80,7 +79,7 @@ pub returns-then-branch-eq0-clause-calls : goal.returns-then-branch-eq0-clause-c
 returns-then-branch-eq0-clause-calls g c = λ tells.
     let h = c.loop.invariant.2 tells in
     let p = read_all c.args.path.now (g.F.Files.calls c.args.files.now) (g.F.Files.calls c.loop.files) (g.F.Files.calls c.feed.new.files) c.loop.counter c.loop.reading c.feed.new.reading h c.in_ok-feed.field-0 (c.in_ok-feed.ensures.calls tells) c.if-branch-eq0.true in
-    (h.pieces, p.0, p.1, c.finalize.ensures (concat h.pieces) p.2)
+    (h.pieces, p.0, p.1, c.finalize.ensures (concat h.pieces) p.2.0, c.finalize-then-branch-eq0.ensures (concat h.pieces) p.2.1)
 
 pub returns-clause-calls : goal.returns-clause-calls
 returns-clause-calls g c = λ tells.

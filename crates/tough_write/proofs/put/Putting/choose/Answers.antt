@@ -35,7 +35,7 @@ returns-in_err-check_listed g c = λ tells. inr (
       c.in_ok-measured.measured,
       g.F.Files.calls c.measured.new.files,
       c.in_ok-measured.ensures tells,
-      inl (c.in_err-check_listed.field-0.0, (refl, rw c.sha256.ensures at c.in_err-check_listed.ensures), search rules),
+      inl (c.in_err-check_listed.field-0.0, (refl, rw c.hashes.ensures at c.in_err-check_listed.ensures), search rules),
     ),
   ),
 )
@@ -53,7 +53,7 @@ returns g c = λ tells. inr (
       c.in_ok-measured.measured,
       g.F.Files.calls c.measured.new.files,
       c.in_ok-measured.ensures tells,
-      inr (c.in_ok-check_listed.field-0, g.F.Files.calls c.measured.new.files, (refl, rw c.sha256.ensures at c.in_ok-check_listed.ensures), (refl, refl)),
+      inr (c.in_ok-check_listed.field-0, g.F.Files.calls c.measured.new.files, (refl, rw c.hashes.ensures at c.in_ok-check_listed.ensures), (refl, search rules)),
     ),
   ),
 )

@@ -8,7 +8,7 @@ returns-then-there g c = λ tells. inr (
   c.in_ok-there.there,
   g.F.Files.calls c.is_there.new.files,
   c.in_ok-there.ensures tells,
-  makes_over (manner_of c.args.self.now) c.args.input.now c.args.path.now c.args.sha256.now c.in_ok-there.there _ _ _ c.if-there.true (c.make_over.ensures tells),
+  makes_over (manner_of c.args.self.now) c.args.input.now c.args.path.now c.args.chosen.now c.in_ok-there.there _ _ _ c.if-there.true (c.make_over.ensures tells),
 )
 
 pub returns-else-there : goal.returns-else-there
@@ -16,5 +16,5 @@ returns-else-there g c = λ tells. inr (
   c.in_ok-there.there,
   g.F.Files.calls c.is_there.new.files,
   c.in_ok-there.ensures tells,
-  makes_new (manner_of c.args.self.now) c.args.input.now c.args.path.now c.args.sha256.now c.in_ok-there.there _ _ _ c.if-there.false (c.make.ensures tells),
+  makes_new (manner_of c.args.self.now) c.args.input.now c.args.path.now c.args.chosen.now c.in_ok-there.there _ _ _ c.if-there.false (c.make.ensures tells),
 )

@@ -26,7 +26,7 @@ returns g c = λ tells.
     let S : List ℕ → List ℕ → Type 0 = λ parent path. Settles c.args.chosen.now.name c.args.dir.now parent path (Ok u) (g.F.Files.calls c.args.files.now) mid in
     let P : List ℕ → Type 0 = λ parent. S parent c.path.result.now in
     let Q : List ℕ → Type 0 = λ path. S (parent_of place) path in
-    let L : List ℕ → Type 0 = λ path. Lays (manner_of c.args.self.now) c.args.input.now path c.args.chosen.now.sha256 c.lay.result mid (g.F.Files.calls c.lay.new.files) in
+    let L : List ℕ → Type 0 = λ path. Lays (manner_of c.args.self.now) c.args.input.now path c.args.chosen.now c.lay.result mid (g.F.Files.calls c.lay.new.files) in
     inr (
       place,
       g.F.Files.calls c.args.files.now,
