@@ -1,4 +1,3 @@
-mod Listed
 mod Planned
 mod Savings
 mod Starting

@@ -15,7 +15,7 @@ use Rattle.tough_schema.specs.Whole.{top_doc}
 use Rattle.tough_roles.specs.Timestamp.{metafile_in}
 use Rattle.tough_checks.specs.Files.{snapshot_file, targets_file}
 use Rattle.tough_net.specs.declared.limits.Limits.{Limits}
-use Rattle.tough_trust.specs.Requests.{RequestDoc, bound, root_request, timestamp_request}
+use Rattle.tough_trust.specs.Requests.{RequestDoc, root_request, timestamp_request, snapshot_request}
 use Rattle.tough_update.specs.Stages.{LoadedDoc, ReceivedDoc}
 use Rattle.tough_error.specs.declared.error.Error.{Error}
 use Rattle.tough_error.specs.declared.error.Error.TheVariants as error
@@ -29,19 +29,22 @@ use Rattle.tough_client.specs.Reading.{TellsFault}
 abbrev pub is_consistent : LoadedDoc → Bool
 is_consistent l = l.known.root.role.consistent_snapshot
 
--- a file that is fetched again, without digests
-abbrev pub unchecked : List ℕ → ℕ → List ℕ → RequestDoc
-unchecked name max specifier = record { name = name; max_size = max; specifier = specifier; digests = no_digests }
+-- the same request, without digests
+abbrev pub unchecked : RequestDoc → RequestDoc
+unchecked r = record { name = r.name; max_size = r.max_size; specifier = r.specifier; digests = no_digests }
 
--- the snapshot, of at most the length that the timestamp's entry states
+-- the snapshot, as the load asked for it, without digests
 abbrev pub snapshot_again : LoadedDoc → Limits → MetafileDoc → RequestDoc
-snapshot_again l limits m = unchecked (file_name (is_consistent l) l.known.snapshot.role.head.version snapshot_file)
-    (bound m.length limits.max_snapshot_size) (codes "timestamp.json")
+snapshot_again l limits m = unchecked (snapshot_request limits (is_consistent l) m)
 
 -- the targets, of at most the length that is taken where none is stated
 abbrev pub targets_again : LoadedDoc → Limits → RequestDoc
-targets_again l limits = unchecked (file_name (is_consistent l) (top_doc l.targets.role).head.version targets_file)
-    limits.max_targets_size (codes "max_targets_size argument")
+targets_again l limits = record {
+  name = file_name (is_consistent l) (top_doc l.targets.role).head.version targets_file;
+  max_size = limits.max_targets_size;
+  specifier = codes "max_targets_size argument";
+  digests = no_digests;
+}
 
 -- how a file is asked for again; the snapshot only where the timestamp lists it
 abbrev pub file_again : LoadedDoc → Limits → Served → Option RequestDoc

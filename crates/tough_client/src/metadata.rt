@@ -1,13 +1,10 @@
 //! The files of metadata that are cached: which are fetched again, and how they are written.
 
-ghost use Rattle.std.specs.Prelude.{◌≡◌, None, Some, IfOk, IfErr, IfSome, IsNone, option_map, string_bytes};
+ghost use Rattle.std.specs.Prelude.{◌≡◌, None, Some, IfOk, IfErr, option_map, string_bytes};
 ghost use Rattle.std.specs.Int.NonZero.{non_zero_u64_get};
 ghost use Rattle.std.specs.Path.{path_join};
 ghost use Rattle.tough_roles.specs.Names.{file_name};
-ghost use Rattle.tough_roles.specs.Timestamp.{metafile_doc, metafiles_doc};
 ghost use Rattle.tough_schema.specs.Targets.{delegated_file};
-ghost use Rattle.tough_roles.specs.Timestamp.{metafile_in};
-ghost use Rattle.tough_trust.specs.Requests.{root_request, timestamp_request};
 ghost use Rattle.tough_update.specs.View.{loaded_doc, received_doc};
 ghost use Rattle.tough_trust.specs.View.{request_doc};
 ghost use Rattle.tough_client.specs.declared.plan.Served.TheVariants as served;
@@ -17,7 +14,6 @@ ghost use Rattle.tough_client.specs.Copying as spec;
 use crate::failure::fault;
 use crate::plan::Served;
 use std::alloc::{AllocError, Global};
-use std::collections::BTreeMap;
 use std::num::NonZeroU64;
 use std::path::Path;
 use tough_error::Error;
@@ -26,8 +22,9 @@ use tough_load::{Limits, Loaded, Received, Request};
 use tough_names::encode_filename;
 use tough_net::{Digests, TransportError};
 use tough_roles::names::{file_name, versioned};
-use tough_roles::{Metafile, RoleType};
+use tough_roles::RoleType;
 use tough_save::write_file;
+use tough_trust::{root_request, snapshot_request, timestamp_request};
 
 /// Makes a folder for what is cached.
 pub(crate) fn make_folder<F: Files>(alloc: Global, files: &mut F, path: &str) -> Result<(), Error>
@@ -95,31 +92,31 @@ fn served_name(
     )
 }
 
-// What a document lists for a file.
-fn entry_of<'a>(meta: &'a BTreeMap<String, Metafile>, file: &str) -> Option<&'a Metafile>
-    ensures listed { IfSome result
-        (λ m. metafile_in (metafiles_doc meta.now.entries) file.now ≡ Some (metafile_doc m.now)) }
-    ensures unlisted { IsNone result
-        → metafile_in (metafiles_doc meta.now.entries) file.now ≡ None }
+// The same request, without digests.
+fn unchecked(request: Request) -> Request
+    ensures { request_doc result ≡ spec.unchecked (request_doc request) }
 {
-    meta.get(file)
+    Request {
+        name: request.name,
+        max_size: request.max_size,
+        specifier: request.specifier,
+        digests: Digests::none(),
+    }
 }
 
-// The snapshot, as the timestamp's entry describes it, but for its digests.
+// The snapshot, as the load asked for it, but for its digests.
 fn snapshot_again(alloc: Global, loaded: &Loaded, limits: &Limits) -> Result<Request, Error>
     ensures asked { IfOk result
         (λ q. file_again (loaded_doc loaded.now) limits.now served.Snapshot
         ≡ Some (request_doc q)) }
     ensures none { IfErr result (IsUnlisted (loaded_doc loaded.now) limits.now served.Snapshot) }
 {
-    let version = loaded.snapshot().signed.version;
-    match entry_of(&loaded.timestamp().signed.meta, "snapshot.json") {
-        Some(meta) => Ok(Request {
-            name: served_name(alloc, loaded, version, "snapshot.json")?,
-            max_size: meta.length.unwrap_or(limits.max_snapshot_size),
-            specifier: "timestamp.json",
-            digests: Digests::none(),
-        }),
+    let consistent = loaded.root().signed.consistent_snapshot;
+    match loaded.timestamp().signed.metafile("snapshot.json") {
+        Some(meta) => {
+            let request = snapshot_request(alloc, limits, consistent, meta)?;
+            Ok(unchecked(request))
+        }
         None => Err(Error::MetaMissing {
             file: "snapshot.json",
             role: RoleType::Timestamp,
@@ -141,30 +138,6 @@ fn targets_again(alloc: Global, loaded: &Loaded, limits: &Limits) -> Result<Requ
     })
 }
 
-// The timestamp.
-fn timestamp_again(alloc: Global, limits: &Limits) -> Result<Request, AllocError>
-    ensures { IfOk result (λ q. request_doc q ≡ timestamp_request limits.now) }
-{
-    Ok(Request {
-        name: String::from_str(alloc, "timestamp.json")?,
-        max_size: limits.max_timestamp_size,
-        specifier: "max_timestamp_size argument",
-        digests: Digests::none(),
-    })
-}
-
-// The root of a version.
-fn root_again(alloc: Global, limits: &Limits, version: u64) -> Result<Request, AllocError>
-    ensures { IfOk result (λ q. request_doc q ≡ root_request limits.now version) }
-{
-    Ok(Request {
-        name: versioned(alloc, version, "root.json")?,
-        max_size: limits.max_root_size,
-        specifier: "max_root_size argument",
-        digests: Digests::none(),
-    })
-}
-
 /// The request by which a file of metadata is fetched again.
 pub(crate) fn file_again(
     alloc: Global,
@@ -179,8 +152,8 @@ pub(crate) fn file_again(
     match served {
         Served::Snapshot => snapshot_again(alloc, loaded, limits),
         Served::Targets => Ok(targets_again(alloc, loaded, limits)?),
-        Served::Timestamp => Ok(timestamp_again(alloc, limits)?),
-        Served::Root(version) => Ok(root_again(alloc, limits, version)?),
+        Served::Timestamp => Ok(timestamp_request(alloc, limits)?),
+        Served::Root(version) => Ok(root_request(alloc, limits, version)?),
     }
 }
 
@@ -203,7 +176,7 @@ fn role_file(alloc: Global, loaded: &Loaded, role: &str) -> Result<Option<String
         return Ok(Some(file));
     }
     let listed = format!(in alloc; "{role}.json")?;
-    match entry_of(&loaded.snapshot().signed.meta, listed.as_str()) {
+    match loaded.snapshot().signed.metafile(listed.as_str()) {
         Some(meta) => {
             let name = versioned(alloc, meta.version.get(), file.as_str())?;
             Ok(Some(name))

@@ -4,18 +4,17 @@ ghost use Rattle.std.specs.Prelude.{◌≡◌, Some, IfOk, IfErr};
 ghost use Rattle.tough_roles.specs.Root.{root_doc};
 ghost use Rattle.tough_schema.specs.Seek.{sought, document_of};
 ghost use Rattle.tough_schema.specs.Whole.{tree_doc, held_doc};
-ghost use Rattle.tough_signed.specs.Holders.{by_root};
-ghost use Rattle.tough_edit.specs.Edits.{edits_doc, opened};
+ghost use Rattle.tough_edit.specs.Edits.{edits_doc};
 ghost use Rattle.tough_release.specs.Closing.{IsEditorBelow, IsEditorOf};
-ghost use Rattle.tough_release.specs.Holding.{top_name};
 ghost use Rattle.tough_editor.specs.Editors.{editor_doc};
 ghost use Rattle.tough_editor.specs.Taking.{IsTaken, IsUntaken, IsUnfound, unfound_as};
 
 use crate::targets::TargetsEditor;
-use std::alloc::{AllocError, Global};
+use std::alloc::Global;
 use tough_edit::TargetEdits;
 use tough_error::Error;
 use tough_parts::RepositoryParts;
+use tough_release::top_editor;
 use tough_roles::{Error as Fault, Root, Signed};
 use tough_schema::{DelegatedTargets, KeyHolder, Targets};
 use tough_signed::bare_delegations;
@@ -54,17 +53,6 @@ fn document_in<'a>(
     }
 }
 
-// The edits of the top-level targets, which the root's keys sign.
-fn top_edits(alloc: Global, root: &Root, targets: &Targets) -> Result<TargetEdits, AllocError>
-    ensures { IfOk result (λ e. edits_doc e
-        ≡ opened top_name (Some (by_root (root_doc root.now))) (tree_doc targets.now)) }
-{
-    let targets = targets.clone()?;
-    let root = root.clone()?;
-    let holder = KeyHolder::Root(root);
-    TargetEdits::from_targets(alloc, "targets", targets, holder)
-}
-
 // The edits of the document of a role below the targets, which the keys of the delegations sign in which the role stands.
 fn edits_below(alloc: Global, targets: &Targets, name: &str) -> Result<TargetEdits, Error>
     ensures opened { IfOk result
@@ -93,7 +81,7 @@ fn edits_of(alloc: Global, root: &Root, targets: &Targets, name: &str) -> Result
     ensures refused { IfErr result (IsUntaken name.now (tree_doc targets.now)) }
 {
     if name == "targets" {
-        let edits = top_edits(alloc, root, targets)?;
+        let edits = top_editor(alloc, root, targets)?;
         return Ok(edits);
     }
     match edits_below(alloc, targets, name) {

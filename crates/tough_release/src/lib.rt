@@ -13,5 +13,6 @@ mod repository;
 mod root;
 
 pub use edits::RepositoryEdits;
+pub use parts::top_editor;
 pub use repository::SignedRepository;
 pub use tough_edit::EditError;

@@ -24,7 +24,7 @@ use tough_schema::{KeyHolder, Targets};
 use tough_signed::EditError;
 
 /// An editor over the top-level targets, which the root's keys sign.
-pub(crate) fn top_editor(
+pub fn top_editor(
     alloc: Global,
     root: &Root,
     targets: &Targets,

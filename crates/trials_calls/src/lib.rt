@@ -8,6 +8,7 @@ mod decoded;
 mod documents;
 mod ed25519;
 mod errors;
+pub mod faulty;
 mod files;
 mod folder;
 mod json;

@@ -5,11 +5,14 @@ use anyhow::Result;
 use serde_json::Value;
 use std::alloc::{AllocError, Global};
 use std::collections::BTreeMap;
+use std::mem;
+use tough_decoded::{Decoded, Hex};
 use tough_files::{Call, Files, MemoryFiles, Request};
 use tough_names::TargetName;
 use tough_schema::Target;
 use tough_write::{NamedFile, OutputError, PathExists, TargetFiles, write_roles};
-use trials_calls::case::{flag, list, text};
+use trials_calls::case::{flag, list, number, text};
+use trials_calls::faulty::FaultyFiles;
 
 // A call, by its name and the paths that it is on.
 fn named(alloc: Global, call: &Call) -> Result<String, AllocError> {
@@ -34,13 +37,13 @@ fn named(alloc: Global, call: &Call) -> Result<String, AllocError> {
 const MOST: usize = 100;
 
 // The calls from this one on, or how many there are.
-fn calls_from(alloc: Global, files: &MemoryFiles, first: usize) -> Result<String> {
-    let count = files.calls().len().saturating_sub(first);
+fn calls_from(alloc: Global, calls: &[Call], first: usize) -> Result<String> {
+    let count = calls.len().saturating_sub(first);
     if count > MOST {
         return Ok(format!(in alloc; "{count} calls")?);
     }
     let mut texts = Vec::new(alloc);
-    for call in files.calls().iter().skip(first) {
+    for call in calls.iter().skip(first) {
         texts.push(named(alloc, call)?)?;
     }
     Ok(texts.as_slice().join(alloc, ", ")?)
@@ -54,6 +57,19 @@ fn outcome(alloc: Global, done: Result<(), OutputError>) -> Result<String> {
     }
 }
 
+// The SHA-512 that the case lists: none, these digits, or else that of the content.
+fn second_digest(
+    alloc: Global,
+    case: &Value,
+    own: Option<Decoded<Hex>>,
+) -> Result<Option<Decoded<Hex>>> {
+    match text(case, "sha512") {
+        "" => Ok(own),
+        "none" => Ok(None),
+        digits => Ok(Some(Decoded::from_str(alloc, digits)?)),
+    }
+}
+
 // Targets by their names, each of the content that the case says.
 fn targets(alloc: Global, case: &Value) -> Result<Vec<(TargetName, Target)>> {
     let mut targets = Vec::new(alloc);
@@ -61,17 +77,20 @@ fn targets(alloc: Global, case: &Value) -> Result<Vec<(TargetName, Target)>> {
         for (name, content) in listed {
             let content = content.as_str().unwrap_or("");
             let name = TargetName::from_str(alloc, name.as_str())?;
-            targets.push((name, target(alloc, content)?))?;
+            let mut target = target(alloc, content)?;
+            let own = mem::replace(&mut target.hashes.sha512, None);
+            target.hashes.sha512 = second_digest(alloc, case, own)?;
+            targets.push((name, target))?;
         }
     }
     Ok(targets)
 }
 
 // Copies or links what the case says.
-fn put(
+fn put<F: Files>(
     alloc: Global,
     listed: &TargetFiles<'_>,
-    files: &mut MemoryFiles,
+    files: &mut F,
     case: &Value,
 ) -> Result<String> {
     let (input, outdir) = (text(case, "input"), text(case, "outdir"));
@@ -100,8 +119,14 @@ pub fn play(alloc: Global, case: &Value) -> Result<String> {
     }
     let listed = TargetFiles::new(by_name, flag(case, "consistent"));
     let first = files.calls().len();
+    if let Some(left) = number(case, "files fail after") {
+        let mut files = FaultyFiles::new(files, left);
+        let told = put(alloc, &listed, &mut files, case)?;
+        let calls = calls_from(alloc, files.calls(), first)?;
+        return Ok(format!(in alloc; "{told}: {calls}")?);
+    }
     let told = put(alloc, &listed, &mut files, case)?;
-    let calls = calls_from(alloc, &files, first)?;
+    let calls = calls_from(alloc, files.calls(), first)?;
     Ok(format!(in alloc; "{told}: {calls}")?)
 }
 
@@ -118,6 +143,6 @@ pub fn write(alloc: Global, case: &Value) -> Result<String> {
         alloc,
         write_roles(alloc, &mut files, text(case, "outdir"), roles.as_slice()),
     )?;
-    let calls = calls_from(alloc, &files, first)?;
+    let calls = calls_from(alloc, files.calls(), first)?;
     Ok(format!(in alloc; "{told}: {calls}")?)
 }

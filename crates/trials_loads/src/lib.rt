@@ -2,7 +2,6 @@
 #![tactic(auto)]
 
 pub mod errors;
-mod faulty;
 pub mod load;
 mod outcome;
 pub mod saves;

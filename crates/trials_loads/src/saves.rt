@@ -1,6 +1,5 @@
 //! What a repository that was loaded answers; targets that are saved, and repositories that are cached, over files in memory.
 
-use crate::faulty::FaultyFiles;
 use crate::load::open;
 use crate::outcome::told;
 use anyhow::Result;
@@ -12,6 +11,7 @@ use tough_files::{Call, Files, MemoryFiles, Request};
 use tough_names::TargetName;
 use tough_net::{MemoryTransport, Transport};
 use trials_calls::case::{flag, list, number, text};
+use trials_calls::faulty::FaultyFiles;
 use trials_calls::shelf::Shelf;
 
 // Adds the files of a member of the case, below the URL.

@@ -9,7 +9,7 @@ use trials_calls::case::text;
 const COMMON: &str = "call,name,answer,words";
 
 /// Each call, with the members of its cases, beside those of every case, and the members of the objects in their lists.
-pub const CALLS: [(&str, &str, &str); 91] = [
+pub const CALLS: [(&str, &str, &str); 92] = [
     ("TargetName::new", "input", ""),
     ("encode_filename", "input", ""),
     ("TargetName::cmp", "input,other", ""),
@@ -140,7 +140,7 @@ pub const CALLS: [(&str, &str, &str); 91] = [
     ),
     (
         "TargetFiles",
-        "op,folders,files,links,targets,consistent,input,outdir,exists,target",
+        "op,folders,files,links,targets,sha512,consistent,input,outdir,exists,target,files fail after",
         "",
     ),
     (

@@ -7,7 +7,7 @@ use tough_files::{Call, FileKind, Files, FilesError, MemoryFiles};
 
 /// Files in memory of which one call fails, and the calls after it don't. They don't say what they hold.
 #[derive(Drop)]
-pub(crate) struct FaultyFiles {
+pub struct FaultyFiles {
     files: MemoryFiles,
     // How many calls come before the one that fails, while it is still to come.
     left: Option<u64>,
@@ -16,7 +16,7 @@ pub(crate) struct FaultyFiles {
 
 impl FaultyFiles {
     /// The files, of which a call fails after so many others.
-    pub(crate) fn new(files: MemoryFiles, left: u64) -> FaultyFiles {
+    pub fn new(files: MemoryFiles, left: u64) -> FaultyFiles {
         FaultyFiles {
             files,
             left: Some(left),
@@ -25,7 +25,7 @@ impl FaultyFiles {
     }
 
     /// The calls that did not fail of themselves.
-    pub(crate) fn calls(&self) -> &[Call] {
+    pub fn calls(&self) -> &[Call] {
         self.files.calls()
     }
 
