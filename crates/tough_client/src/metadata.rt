@@ -21,8 +21,8 @@ use tough_files::{Files, FilesError};
 use tough_load::{Limits, Loaded, Received, Request};
 use tough_names::encode_filename;
 use tough_net::{Digests, TransportError};
-use tough_roles::names::{file_name, versioned};
 use tough_roles::RoleType;
+use tough_roles::names::{file_name, versioned};
 use tough_save::write_file;
 use tough_trust::{root_request, snapshot_request, timestamp_request};
 

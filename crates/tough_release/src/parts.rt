@@ -24,11 +24,7 @@ use tough_schema::{KeyHolder, Targets};
 use tough_signed::EditError;
 
 /// An editor over the top-level targets, which the root's keys sign.
-pub fn top_editor(
-    alloc: Global,
-    root: &Root,
-    targets: &Targets,
-) -> Result<TargetEdits, AllocError>
+pub fn top_editor(alloc: Global, root: &Root, targets: &Targets) -> Result<TargetEdits, AllocError>
     ensures { IfOk result (λ e. edits_doc e
         ≡ opened top_name (Some (by_root (root_doc root.now))) (tree_doc targets.now)) }
 {
