@@ -5,7 +5,6 @@ use Rattle.tough_schema.specs.Whole.{held_doc}
 use Rattle.tough_update.specs.declared.delegations.firsts.Firsts.{Firsts}
 use Rattle.tough_update.specs.declared.delegations.nodes.Node.{Node}
 use Rattle.tough_update.specs.declared.delegations.nodes.Nodes.{Nodes}
-use Rattle.tough_update.specs.declared.delegations.placed.Placed.{Placed}
 use Rattle.tough_update.specs.delegations.Numbered as numbered
 use Rattle.tough_update.specs.delegations.Numbered.{NodeDoc}
 use Rattle.tough_update.specs.delegations.Firsts as plain
@@ -20,9 +19,6 @@ all_also ns (n ∷ rest) = all_also (numbered.also ns n) rest
 
 abbrev pub nodes_doc : Nodes → numbered.Nodes
 nodes_doc ns = all_also (numbered.targets (held_doc ns.top)) (map node_doc ns.others.items)
-
-abbrev pub placed_doc : Placed → numbered.Nodes
-placed_doc p = nodes_doc p.nodes
 
 -- the place of the first role of each name
 abbrev pub firsts_doc : Firsts → plain.Firsts

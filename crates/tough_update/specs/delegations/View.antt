@@ -22,7 +22,7 @@ use Rattle.tough_update.specs.declared.delegations.growth.Progress.{Progress}
 use Rattle.tough_update.specs.declared.delegations.growth.Progress.TheVariants as step
 use Rattle.tough_update.specs.delegations.Numbered as numbered
 use Rattle.tough_update.specs.delegations.Numbered.{last_roles}
-use Rattle.tough_update.specs.delegations.Documents.{placed_doc}
+use Rattle.tough_update.specs.delegations.Placed.{placed_doc}
 use Rattle.tough_update.specs.delegations.Growing as plain
 use Rattle.tough_update.specs.delegations.Growing.{Metas, Fetched, TaskDoc, WorkDoc}
 

@@ -1,9 +1,10 @@
 //! The tree as it grows.
 
 ghost use Rattle.std.specs.Prelude.{◌≡◌, ℕ, List};
-ghost use Rattle.tough_update.specs.delegations.Documents.{firsts_doc, placed_doc};
+ghost use Rattle.tough_update.specs.delegations.Documents.{firsts_doc};
 ghost use Rattle.tough_update.specs.delegations.Firsts.{first_places};
 ghost use Rattle.tough_update.specs.delegations.Numbered.{last_roles};
+ghost use Rattle.tough_update.specs.delegations.Placed.{placed_doc};
 
 use crate::delegations::firsts::Firsts;
 use crate::delegations::look::{Look, look_from};

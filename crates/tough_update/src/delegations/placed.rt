@@ -1,11 +1,7 @@
 //! The documents that have their place, counted.
 
-ghost use Rattle.std.specs.Prelude.{◌≡◌, IfOk, drop, option_map};
-ghost use Rattle.tough_roles.specs.Signature.{signed_doc};
-ghost use Rattle.tough_schema.specs.Whole.{role_tree, tree_doc, held_doc};
-ghost use Rattle.tough_update.specs.delegations.Numbered.{targets, also, last_number, last_document, roles_at, tree_of, unnamed};
-ghost use Rattle.tough_update.specs.delegations.Growing.{first_of};
-ghost use Rattle.tough_update.specs.delegations.Documents.{node_doc, nodes_doc, placed_doc};
+ghost use Rattle.std.specs.Prelude.{◌≡◌};
+ghost use Rattle.tough_update.specs.delegations.Documents.{nodes_doc};
 ghost use Rattle.tough_update.specs.growth.Tallies.{counted_tally};
 
 use crate::delegations::nodes::{Node, Nodes};
@@ -24,6 +20,14 @@ pub(crate) struct Placed {
 }
 
 impl Placed {
+    ghost use Rattle.std.specs.Prelude.{IfOk, drop, option_map};
+    ghost use Rattle.tough_roles.specs.Signature.{signed_doc};
+    ghost use Rattle.tough_schema.specs.Whole.{role_tree, tree_doc, held_doc};
+    ghost use Rattle.tough_update.specs.delegations.Numbered.{targets, also, last_number, last_document, roles_at, tree_of, unnamed};
+    ghost use Rattle.tough_update.specs.delegations.Growing.{first_of};
+    ghost use Rattle.tough_update.specs.delegations.Documents.{node_doc};
+    ghost use Rattle.tough_update.specs.delegations.Placed.{placed_doc};
+
     /// The targets alone.
     pub(crate) fn new(alloc: Global, top: Signed<DelegatedTargets>) -> Placed
         ensures { placed_doc result ≡ targets (held_doc top) }

@@ -4,7 +4,8 @@ ghost use Rattle.std.specs.Prelude.{◌≡◌, IfOk, option_map, string_bytes};
 ghost use Rattle.tough_schema.specs.Whole.{role_tree};
 ghost use Rattle.tough_trust.specs.delegations.Indexed.{names_of};
 ghost use Rattle.tough_update.specs.delegations.Growing.{offer_for, fetched_for, fetched_after, place_node, resumed};
-ghost use Rattle.tough_update.specs.delegations.Documents.{node_doc, placed_doc};
+ghost use Rattle.tough_update.specs.delegations.Documents.{node_doc};
+ghost use Rattle.tough_update.specs.delegations.Placed.{placed_doc};
 ghost use Rattle.tough_update.specs.delegations.View.{metas_of, fetched_doc, task_doc, turn_doc, turns_doc};
 ghost use Rattle.tough_trust.specs.View.{index_doc};
 

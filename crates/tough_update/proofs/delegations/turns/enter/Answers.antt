@@ -4,7 +4,8 @@ use Rattle.tough_update.specs.delegations.Numbered.{also, last_number}
 use Rattle.tough_trust.specs.delegations.Indexed.{put, names_of}
 use Rattle.tough_update.specs.delegations.Growing.{through, unlisted, wanted, look, past}
 use Rattle.tough_trust.specs.delegations.Dressed.{entries_of}
-use Rattle.tough_update.specs.delegations.Documents.{node_doc, placed_doc}
+use Rattle.tough_update.specs.delegations.Documents.{node_doc}
+use Rattle.tough_update.specs.delegations.Placed.{placed_doc}
 use Rattle.tough_update.specs.delegations.View.{metas_of}
 use Rattle.tough_trust.specs.View.{index_doc}
 use Rattle.tough_update.proofs.tree.Turning.{enters, enters-wanted}

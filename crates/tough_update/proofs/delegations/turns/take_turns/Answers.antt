@@ -6,7 +6,8 @@ use Rattle.tough_schema.specs.Whole.{role_tree}
 use Rattle.tough_update.specs.delegations.Numbered.{also, last_number, roles_at}
 use Rattle.tough_trust.specs.delegations.Indexed.{names_of, put}
 use Rattle.tough_update.specs.delegations.Growing.{past, stopped, stopped_at, look, offer_for, fetched_for, place_node, TaskDoc, resumed}
-use Rattle.tough_update.specs.delegations.Documents.{node_doc, placed_doc}
+use Rattle.tough_update.specs.delegations.Documents.{node_doc}
+use Rattle.tough_update.specs.delegations.Placed.{placed_doc}
 use Rattle.tough_update.specs.delegations.View.{metas_of, waiting_in, task_doc}
 use Rattle.tough_trust.specs.View.{index_doc}
 use Rattle.tough_update.proofs.tree.Listing.{role-name}

@@ -1,7 +1,7 @@
 use Rattle.std.proofs.Common.{◌≡◌, ◌-◌, length}
 use Rattle.tough_update.specs.delegations.Numbered.{roles_at}
 use Rattle.tough_update.specs.delegations.Growing.{resumed}
-use Rattle.tough_update.specs.delegations.Documents.{placed_doc}
+use Rattle.tough_update.specs.delegations.Placed.{placed_doc}
 use Rattle.tough_update.specs.delegations.View.{metas_of, task_doc}
 use Rattle.tough_trust.specs.View.{index_doc}
 use Rattle.tough_update.proofs.delegations.turns.take_turns.Given as goal

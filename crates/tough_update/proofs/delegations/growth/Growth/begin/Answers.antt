@@ -1,6 +1,6 @@
 use Rattle.std.proofs.Common.{List, ap, ◌∙◌}
 use Rattle.tough_schema.specs.Tree.{Entry}
-use Rattle.tough_update.specs.delegations.Documents.{placed_doc}
+use Rattle.tough_update.specs.delegations.Placed.{placed_doc}
 use Rattle.tough_update.specs.delegations.Firsts.{Firsts, first_places}
 use Rattle.tough_update.proofs.tree.Turning.{listed-last}
 use Rattle.tough_update.proofs.delegations.growth.Growth.begin.Goals as goal

@@ -1,6 +1,6 @@
 use Rattle.std.proofs.Common.{rules, ◌≡◌, ◌∷◌, map, ap, ◌∙◌}
 use Rattle.tough_update.specs.delegations.Growing.{TaskDoc, give, settle}
-use Rattle.tough_update.specs.delegations.Documents.{placed_doc}
+use Rattle.tough_update.specs.delegations.Placed.{placed_doc}
 use Rattle.tough_update.specs.delegations.View.{metas_of, task_doc, fetched_doc, work_doc, progress_doc}
 use Rattle.tough_trust.specs.View.{index_doc}
 use Rattle.tough_update.specs.declared.delegations.turns.Task.{Task}

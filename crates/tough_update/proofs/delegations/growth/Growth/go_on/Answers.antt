@@ -4,7 +4,7 @@ use Rattle.tough_schema.specs.Tree.{Entry}
 use Rattle.tough_trust.specs.delegations.Indexed.{names_of}
 use Rattle.tough_update.specs.delegations.Growing.{through, unlisted, wanted, look, wants, by_look, give, go_on, settle}
 use Rattle.tough_trust.specs.delegations.Dressed.{entries_of}
-use Rattle.tough_update.specs.delegations.Documents.{placed_doc}
+use Rattle.tough_update.specs.delegations.Placed.{placed_doc}
 use Rattle.tough_update.specs.delegations.View.{metas_of, waiting_in, look_doc, task_doc, work_doc, progress_doc}
 use Rattle.tough_trust.specs.View.{index_doc}
 use Rattle.tough_update.proofs.tree.Turning.{if_ok-to, listed-last}

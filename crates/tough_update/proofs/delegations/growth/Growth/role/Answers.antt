@@ -1,7 +1,7 @@
 use Rattle.std.proofs.Common.{List, drop, ap, ◌∙◌}
 use Rattle.tough_schema.specs.Tree.{Entry}
 use Rattle.tough_update.specs.delegations.Growing.{first_of}
-use Rattle.tough_update.specs.delegations.Documents.{placed_doc}
+use Rattle.tough_update.specs.delegations.Placed.{placed_doc}
 use Rattle.tough_update.proofs.tree.Listing.{first-at}
 use Rattle.tough_update.proofs.tree.Turning.{listed-last}
 use Rattle.tough_update.proofs.delegations.growth.Growth.role.Goals as goal

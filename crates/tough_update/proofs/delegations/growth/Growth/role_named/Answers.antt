@@ -11,7 +11,8 @@ use Rattle.tough_schema.specs.declared.delegations.DelegatedRole.{DelegatedRole}
 use Rattle.tough_schema.specs.declared.targets.DelegatedTargets.{DelegatedTargets}
 use Rattle.tough_update.specs.declared.delegations.growth.Growth.{Growth}
 use Rattle.tough_trust.specs.delegations.Dressed.{entries_of, listed_in}
-use Rattle.tough_update.specs.delegations.Documents.{firsts_doc, placed_doc}
+use Rattle.tough_update.specs.delegations.Documents.{firsts_doc}
+use Rattle.tough_update.specs.delegations.Placed.{placed_doc}
 use Rattle.tough_update.specs.delegations.Firsts.{first_places}
 use Rattle.tough_update.specs.delegations.Numbered.{last_document}
 use Rattle.tough_update.proofs.tree.Firsts.{none-in, some-in}

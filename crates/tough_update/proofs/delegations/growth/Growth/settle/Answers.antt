@@ -3,7 +3,7 @@ use Rattle.tough_roles.specs.Signature.{SignedDoc}
 use Rattle.tough_roles.specs.Timestamp.{metafile_doc}
 use Rattle.tough_schema.specs.Whole.{TreeDoc}
 use Rattle.tough_update.specs.delegations.Growing.{Progress, wants, grown, all_past, stopped_at, resumed, settle}
-use Rattle.tough_update.specs.delegations.Documents.{placed_doc}
+use Rattle.tough_update.specs.delegations.Placed.{placed_doc}
 use Rattle.tough_update.specs.delegations.View.{metas_of, waiting_in, task_doc, progress_doc}
 use Rattle.tough_trust.specs.View.{index_doc}
 use Rattle.tough_update.proofs.tree.Turning.{if_ok-to, settle-past, settle-stopped}

@@ -6,7 +6,7 @@ use Rattle.tough_schema.specs.Update.{listed_roles}
 use Rattle.tough_schema.specs.Whole.{role_tree, held_doc}
 use Rattle.tough_schema.specs.declared.delegations.DelegatedRole.{out-DelegatedRole}
 use Rattle.tough_update.specs.delegations.Numbered.{last_document}
-use Rattle.tough_update.specs.delegations.Documents.{placed_doc}
+use Rattle.tough_update.specs.delegations.Placed.{placed_doc}
 use Rattle.tough_update.specs.delegations.View.{fetched_doc, waiting_in, work_doc}
 use Rattle.tough_update.proofs.tree.Listing.{role-name}
 use Rattle.tough_update.proofs.tree.Sizing.{small-last}
