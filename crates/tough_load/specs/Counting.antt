@@ -1,10 +1,10 @@
 -- What a load has counted (TUF specification 1.0, sections 5.3 and 5.6): how many files its update fetched, and how much of them its tree keeps.
-use Rattle.std.specs.Prelude.{◌≡◌, ◌≤◌, Result, IfOk}
+use Rattle.std.specs.Prelude.{◌≡◌, Result, IfOk}
 use Rattle.tough_keys.specs.Same.{Verifies}
 use Rattle.tough_update.specs.declared.counts.Counts.{Counts}
 use Rattle.tough_net.specs.declared.limits.Limits.{Limits}
 use Rattle.tough_update.specs.declared.machine.Core.{Core}
-use Rattle.tough_update.specs.Counted.{Counted, HadAsMany, KeepsAll, roles_listed}
+use Rattle.tough_update.specs.Counted.{Counted, FetchesFew, KeepsFew, KeepsAll}
 use Rattle.tough_trust.specs.Failure.{Failure}
 use Rattle.tough_update.specs.Stages.{LoadedDoc, CoreDoc, SettingDoc, Done}
 use Rattle.tough_update.specs.View.{core_doc, counts_of}
@@ -20,12 +20,12 @@ pub record EndsCounting (verifies : Verifies) (setting : SettingDoc) (outcome : 
   pub setting_is : last.setting ≡ setting
   pub ended : last.stage ≡ Done outcome
 
--- At most as many roots were fetched as the limit allows, and at most as many delegated documents as roles were listed when one of them was
--- asked for. Where the update succeeded, what is kept is its tree.
+-- At most as many roots were fetched as the limit allows, and at most as many delegated documents as the targets and the documents that are
+-- kept list roles; at most as many are kept as the snapshot lists names. Where the update succeeded, what is kept is its tree.
 pub record CountsFew (verifies : Verifies) (limits : Limits) (outcome : Result LoadedDoc Failure) (n : Counts) : Type 0 where
   pub last : CoreDoc
   pub update : Counted verifies last n
   pub ended : last.stage ≡ Done outcome
-  pub roots : n.roots ≤ limits.max_root_updates
-  pub delegated : HadAsMany update roles_listed n.delegated
-  pub kept : IfOk outcome (λ l. KeepsAll l n)
+  pub fetched : FetchesFew limits n
+  pub kept : KeepsFew update
+  pub whole : IfOk outcome (λ l. KeepsAll l n)

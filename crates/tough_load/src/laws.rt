@@ -59,8 +59,8 @@ pub fn receipts_are_of_steps<K: Keeper>()
 {}
 
 /// A load that a loader made, and that has ended, has fetched at most as many roots as its limit allows, and at most as many documents of
-/// delegated roles as roles were listed when one of them was asked for, whatever came. Where it succeeded, the documents that it counts are
-/// those of its tree, at most as many as the snapshot lists names (TUF specification 5.3 and 5.6). `Load::core` has the counts.
+/// delegated roles as the targets and the documents that it keeps list roles; it keeps at most as many documents as the snapshot lists names,
+/// whatever came. Where it succeeded, what it counts is its tree (TUF specification 5.3 and 5.6). `Load::core` has the counts.
 pub fn loads_count_few<T: Transport, V: Verify + Drop, C: Clock + Drop, K: Keeper>()
     ensures { (from : Loader T V C K) (l new : Load T K C V T.Stream K.Receipt) (r : Result
         LoadedDoc Failure) → IsBegun from l

@@ -1,7 +1,7 @@
 -- How far what an update counts may go.
-use Rattle.std.specs.Prelude.{◌≡◌, ◌≤◌, ◌<◌, ℕ, ◌+◌, ◌-◌, ◌^◌, List, [], length, Option, Some, None, Bool, true, false, IsTrue, Result, Ok, Err, nat_lt, if◌then◌else◌}
+use Rattle.std.specs.Prelude.{◌≡◌, ◌≤◌, ◌<◌, ℕ, ◌+◌, ◌-◌, ◌^◌, min, List, [], length, Option, Some, None, Bool, true, false, IsTrue, Result, Ok, Err, nat_lt, if◌then◌else◌}
 use Rattle.std.proofs.Common.{refl, sym, ◌∙◌, ap, subst, inl, inr, arith}
-use Rattle.std.proofs.Math.Nat.{min-le_left}
+use Rattle.std.proofs.Math.Nat.{min-le_left, min-le_right, le-min}
 use Rattle.std.proofs.lemmas.Bool.{ltb-true}
 use Rattle.tough_keys.specs.Same.{Verifies}
 use Rattle.tough_roles.specs.Signature.{SignedDoc}
@@ -16,7 +16,7 @@ use Rattle.tough_schema.specs.Entries.{entries, documents_below, first_missing}
 use Rattle.tough_schema.specs.Fresh.{IsUnloaded}
 use Rattle.tough_update.specs.delegations.Growing.{WorkDoc, Progress, wants, grown, go_on, begun, wanted_name}
 use Rattle.tough_trust.specs.delegations.Bare.{held_as}
-use Rattle.tough_update.specs.growth.Tallies.{tally_work}
+use Rattle.tough_update.specs.growth.Tallies.{tally, counted_tally}
 use Rattle.tough_trust.proofs.lemmas.Bare.{bare-none}
 use Rattle.tough_update.proofs.growth.Tallied.{IsKeyed, bare-keyed}
 use Rattle.tough_update.proofs.growth.Laws.{WorkGrows, ProgressGrows, begun-grows, taken-grows, grows-more, grows-listed}
@@ -33,8 +33,8 @@ use Rattle.tough_update.specs.Answered.{AnswerDoc}
 use Rattle.tough_update.specs.Answered as got
 use Rattle.tough_update.specs.Machine.{walked, walk_ended, want_snapshot, known_of, want_targets, read_wanted, after, stage_after}
 use Rattle.tough_update.specs.Promises.{Goes}
-use Rattle.tough_update.specs.Counts.{none_yet, one_more, ends_fetch, with_fetch, with_tree}
-use Rattle.tough_update.specs.Counted.{Counted, Passes, HadAsMany, roles_listed, FetchesFew, KeepsAll}
+use Rattle.tough_update.specs.Counts.{none_yet, one_more, ends_fetch, with_fetch, with_work, with_tree}
+use Rattle.tough_update.specs.Counted.{Counted, FetchesFew, KeepsAll}
 use Rattle.tough_update.specs.Counted as counted
 use Rattle.tough_update.proofs.Turning.{Fine, if-fine, and_then-fine, walking, ending, reading, waits, keeps-answer}
 use Rattle.tough_trust.proofs.lemmas.Walking.{next-fine}
@@ -43,6 +43,19 @@ use Rattle.tough_update.proofs.Keeping.{kept_listed}
 
 one-more : (n : ℕ) → one_more n ≤ n + 1
 one-more n = min-le_left (n + 1) (2 ^ 64 - 1)
+
+-- one more than were fetched, as far as both are counted
+counted-one : (d t e : ℕ) → d + 1 ≤ t → e ≡ min t (2 ^ 64 - 1) → min (d + 1) (2 ^ 64 - 1) ≤ e
+counted-one d t e le is =
+    let small : min (d + 1) (2 ^ 64 - 1) ≤ t = omega (arith, min-le_left (d + 1) (2 ^ 64 - 1), le) in
+    subst (λ x. min (d + 1) (2 ^ 64 - 1) ≤ x) (sym is) (le-min small (min-le_right (d + 1) (2 ^ 64 - 1)))
+
+-- as many as were fetched
+counted-all : (d t : ℕ) → d + 1 ≤ t → d ≤ 2 ^ 64 - 1 → d ≤ min t (2 ^ 64 - 1)
+counted-all d t le small = let less : d ≤ t = omega (arith, le) in le-min less small
+
+counted-small : (d t e : ℕ) → d ≤ e → e ≡ min t (2 ^ 64 - 1) → d ≤ 2 ^ 64 - 1
+counted-small d t e le is = omega (arith, le, is, min-le_right t (2 ^ 64 - 1))
 
 below : (first last roots max : ℕ) → first + roots ≤ last → IsTrue (nat_lt (last - first) max) → roots < max
 below first last roots max le h = let k : last - first < max = ltb-true _ _ h in omega (arith, le, k)
@@ -65,8 +78,9 @@ module _ (v : Verifies) (s : SettingDoc) where
   abbrev Early : Counts → Type 0
   Early n = (n.roots ≤ s.limits.max_root_updates) × (n.delegated ≡ 0)
 
+  -- no more than roles are listed
   abbrev Late : Counts → Type 0
-  Late n = n.roots ≤ s.limits.max_root_updates
+  Late n = (n.roots ≤ s.limits.max_root_updates) × (n.delegated ≤ n.entries)
 
   -- nothing was fetched yet
   abbrev First : Counts → Type 0
@@ -78,7 +92,7 @@ module _ (v : Verifies) (s : SettingDoc) where
 
   -- so many more roles are listed than documents were fetched
   abbrev Grows : ℕ → WorkDoc → Counts → Type 0
-  Grows k w n = (n.roots ≤ s.limits.max_root_updates) × WorkGrows n.delegated k w
+  Grows k w n = Late n × WorkGrows n.delegated k w × (n.entries ≡ counted_tally w.nodes)
 
   abbrev Bounded : Counts → StageDoc → Type 0
   Bounded n at.Moment = First n
@@ -95,26 +109,29 @@ module _ (v : Verifies) (s : SettingDoc) where
   Bounded n (at.Step (at.PutTargets k d)) = Early n × IsKeyed d.role × IsUnloaded d.role
   Bounded n (at.Fetch (at.Role k roles listed) r) = Grows 0 roles.work n
   Bounded n (at.Step (at.PutDelegated k roles name d)) = Grows 1 roles.work n × IsKeyed d.role × IsUnloaded d.role
-  Bounded n (at.Done (Ok l)) = Late n × (n.delegated ≤ length (entries l.targets.role)) × (n.kept ≡ length (documents_below l.targets.role)) × (n.entries ≡ length (entries l.targets.role))
+  Bounded n (at.Done (Ok l)) = Late n × (n.kept ≡ length (documents_below l.targets.role)) × (n.entries ≡ length (entries l.targets.role))
   Bounded n (at.Done (Err f)) = Late n
   Bounded n at.Taken = Late n
 
   first-early : (n : Counts) → First n → Early n
   first-early n t = (omega (arith, t.0), t.1)
 
+  early-late : (n : Counts) → Early n → Late n
+  early-late n t = (t.0, omega (arith, t.1))
+
   late-at : (n : Counts) (st : StageDoc) → Bounded n st → Late n
-  late-at n at.Moment t = (first-early n t).0
-  late-at n (at.Step (at.NoteTime now)) t = (first-early n t).0
-  late-at n (at.Fetch (at.Root w) r) t = omega (arith, t.1)
-  late-at n (at.Step (at.PutRoot w)) t = t.1
-  late-at n (at.Step (at.PutLast w)) t = t.0
-  late-at n (at.Step (at.Clear b)) t = t.0
-  late-at n (at.Fetch (at.Timestamp b) r) t = t.0
-  late-at n (at.Step (at.PutTimestamp b x)) t = t.0
-  late-at n (at.Fetch (at.Snapshot b x listed) r) t = t.0
-  late-at n (at.Step (at.PutSnapshot k listed)) t = t.0
-  late-at n (at.Fetch (at.Targets k listed) r) t = t.0
-  late-at n (at.Step (at.PutTargets k d)) t = t.0.0
+  late-at n at.Moment t = early-late n (first-early n t)
+  late-at n (at.Step (at.NoteTime now)) t = early-late n (first-early n t)
+  late-at n (at.Fetch (at.Root w) r) t = (omega (arith, t.1), omega (arith, t.0.1))
+  late-at n (at.Step (at.PutRoot w)) t = early-late n (t.1, t.0.1)
+  late-at n (at.Step (at.PutLast w)) t = early-late n t
+  late-at n (at.Step (at.Clear b)) t = early-late n t
+  late-at n (at.Fetch (at.Timestamp b) r) t = early-late n t
+  late-at n (at.Step (at.PutTimestamp b x)) t = early-late n t
+  late-at n (at.Fetch (at.Snapshot b x listed) r) t = early-late n t
+  late-at n (at.Step (at.PutSnapshot k listed)) t = early-late n t
+  late-at n (at.Fetch (at.Targets k listed) r) t = early-late n t
+  late-at n (at.Step (at.PutTargets k d)) t = early-late n t.0
   late-at n (at.Fetch (at.Role k roles listed) r) t = t.0
   late-at n (at.Step (at.PutDelegated k roles name d)) t = t.0.0
   late-at n (at.Done (Ok l)) t = t.0
@@ -126,13 +143,18 @@ module _ (v : Verifies) (s : SettingDoc) where
   roots-more n true lt none = (omega (arith, one-more n.roots, lt), none)
   roots-more n false lt none = (omega (arith, lt), none)
 
-  delegated-late : (n : Counts) (b : Bool) → Late n → Late (if b then more_delegated n else n)
-  delegated-late n true le = le
-  delegated-late n false le = le
+  -- a delegated document more, where one was fetched
+  delegated-late : (n : Counts) (b : Bool) (w : WorkDoc) → Grows 0 w n → Late (if b then more_delegated n else n)
+  delegated-late n true w g = (g.0.0, counted-one n.delegated (tally w.nodes) n.entries (grows-listed n.delegated w g.1) g.2)
+  delegated-late n false w g = g.0
+
+  -- the tree is counted again
+  grows-counted : (k : ℕ) (w : WorkDoc) (n : Counts) → Grows k w n → Grows k w (with_work w n)
+  grows-counted k w n g = ((g.0.0, subst (λ x. n.delegated ≤ x) g.2 g.0.1), g.1, refl)
 
   late-next : (n : Counts) (st : StageDoc) (a : AnswerDoc) → Bounded n st → Late (with_fetch st a n)
-  late-next n (at.Fetch (at.Root w) r) a t = (roots-more n (ends_fetch a) t.1 t.0.1).0
-  late-next n (at.Fetch (at.Role k roles listed) r) a t = delegated-late n (ends_fetch a) t.0
+  late-next n (at.Fetch (at.Root w) r) a t = early-late (if ends_fetch a then more_roots n else n) (roots-more n (ends_fetch a) t.1 t.0.1)
+  late-next n (at.Fetch (at.Role k roles listed) r) a t = delegated-late n (ends_fetch a) roles.work t
   late-next n at.Moment a t = late-at n at.Moment t
   late-next n (at.Step p) a t = late-at n (at.Step p) t
   late-next n (at.Fetch (at.Timestamp b) r) a t = late-at n (at.Fetch (at.Timestamp b) r) t
@@ -174,23 +196,23 @@ module _ (v : Verifies) (s : SettingDoc) where
     want_targets-bounded k (Some e) f = f
 
     found-bounded : (o : Option Named) (l : LoadedDoc) → m.delegated ≤ length (entries l.targets.role) → Well (if_found o l)
-    found-bounded None l le = (enough, le, refl, refl)
+    found-bounded None l le = ((enough.0, le), refl, refl)
     found-bounded (Some name) l le = enough
 
-    grown-bounded : (k : KnownDoc) (received : List ReceivedDoc) (p : Progress) → ProgressGrows m.delegated p → Well (grown_on s.limits k received p)
-    grown-bounded k received (wants w e) g = (enough, g)
-    grown-bounded k received (grown t) g = found-bounded (first_missing t.role) (record { known = k; targets = t; received = received }) g
+    grown-bounded : (k : KnownDoc) (received : List ReceivedDoc) (p : Progress) → m.delegated ≤ 2 ^ 64 - 1 → ProgressGrows m.delegated p → Well (grown_on s.limits k received p)
+    grown-bounded k received (wants w e) small g = ((enough.0, counted-all m.delegated (tally w.nodes) (grows-listed m.delegated w g) small), g, refl)
+    grown-bounded k received (grown t) small g = found-bounded (first_missing t.role) (record { known = k; targets = t; received = received }) g
 
     given-bounded : (k : KnownDoc) (roles : RolesDoc) (d : SignedDoc TreeDoc) → Grows 1 roles.work m → IsKeyed d.role → IsUnloaded d.role → Well (role_given s.limits k roles d)
     given-bounded k roles d g keyed bare =
-        grown-bounded k roles.received (go_on (metas_in k) (given roles.work d)) (taken-grows (metas_in k) m.delegated roles.work (held_as (wanted_name roles.work) d) bare keyed g.1)
+        grown-bounded k roles.received (go_on (metas_in k) (given roles.work d)) (counted-small m.delegated (tally roles.work.nodes) m.entries g.0.1 g.2) (taken-grows (metas_in k) m.delegated roles.work (held_as (wanted_name roles.work) d) bare keyed g.1)
 
     read-bounded : (w : WantedDoc) (r : RequestDoc) (bytes : List ℕ) → Bounded n (at.Fetch w r) → Heard (at.Fetch w r) (got.Bytes bytes) → Well (read_wanted v s w r bytes)
     read-bounded (at.Root w) r bytes t l = and_then-fine Next bad (next_root v w.last.role bytes) (λ root. Ok (at.Step (at.PutRoot (record { start = w.start; first = w.first; last = root })))) (λ root is.
         let version = (next-fine v w.last bytes root is).version in
         let roots : m.roots ≤ n.roots + 1 = subst (λ x. x ≤ n.roots + 1) (sym (ap (λ (x : Counts). x.roots) l)) (one-more n.roots) in
         let over : w.first.role.head.version + m.roots ≤ root.role.head.version = omega (arith, version, roots, t.0.0) in
-        ((over, ap (λ (x : Counts). x.delegated) l ∙ t.0.1), enough))
+        ((over, ap (λ (x : Counts). x.delegated) l ∙ t.0.1), enough.0))
     read-bounded (at.Timestamp b) r bytes t l = reading Next bad (ParseMetadata role.Timestamp (holds_json bytes)) (timestamp_in bytes) (λ d. at.Step (at.PutTimestamp b d)) (λ d. early l t)
     read-bounded (at.Snapshot b x listed) r bytes t l = reading Next bad (ParseMetadata role.Snapshot (holds_json bytes)) (snapshot_in bytes) (λ d. at.Step (at.PutSnapshot (known_of b x d) listed)) (λ d. early l t)
     read-bounded (at.Targets k listed) r bytes t l = and_then-fine Next bad (judged v s.enforced k.start (by_root k.root.role) listed bytes) (λ d. Ok (at.Step (at.PutTargets k d))) (λ d is.
@@ -202,20 +224,20 @@ module _ (v : Verifies) (s : SettingDoc) where
     read-bounded (at.Role k roles listed) r bytes t l =
         let kept = with_received roles bytes in
         let delegated : m.delegated ≤ n.delegated + 1 = subst (λ x. x ≤ n.delegated + 1) (sym (ap (λ (x : Counts). x.delegated) l)) (one-more n.delegated) in
-        let grows : Grows 1 roles.work m = (enough, grows-more n.delegated m.delegated roles.work delegated t.1) in
+        let grows : Grows 1 roles.work m = (enough, grows-more n.delegated m.delegated roles.work delegated t.1, ap (λ (x : Counts). x.entries) l ∙ t.2) in
         and_then-fine Next bad (judged v s.enforced k.start (role_holder roles.work) listed bytes) (role_stored s.limits k kept r.name) (λ d is.
         let p = judged-ok v s.enforced k.start (role_holder roles.work) listed bytes d is in
         let keyed : IsKeyed d.role = subst (λ (x : SignedDoc TreeDoc). IsKeyed x.role) (sym p.is) (bare-keyed p.page.role) in
         let bare : IsUnloaded d.role = subst (λ (x : SignedDoc TreeDoc). IsUnloaded x.role) (sym p.is) (bare-none p.page) in
         if-fine Next bad (is_reserved r.name) (role_given s.limits k kept d) (Ok (at.Step (at.PutDelegated k kept r.name d))) (λ _. given-bounded k kept d grows keyed bare)
-        (grows, keyed, bare))
+        (grows-counted 1 roles.work m grows, keyed, bare))
 
     step-bounded : (p : PendingDoc) → Bounded n (at.Step p) → Heard (at.Step p) (got.Step (Ok (tt {0}))) → Well (after v s p)
     step-bounded (at.NoteTime now) t l = and_then-fine Next bad (first_root v s.trusted) (λ root. walked s.limits (record { start = now; first = root; last = root })) (λ root is.
         let none : First m = subst First (sym l) t in
         let over : root.role.head.version + m.roots ≤ root.role.head.version = omega (arith, none.0) in
-        walked-bounded (record { start = now; first = root; last = root }) (over, none.1) enough)
-    step-bounded (at.PutRoot w) t l = walked-bounded w (subst (Over w) (sym l) t.0) enough
+        walked-bounded (record { start = now; first = root; last = root }) (over, none.1) enough.0)
+    step-bounded (at.PutRoot w) t l = walked-bounded w (subst (Over w) (sym l) t.0) enough.0
     step-bounded (at.PutLast w) t l = walk_ended-bounded w (early l t)
     step-bounded (at.Clear b) t l = early l t
     step-bounded (at.PutTimestamp b x) t l = want_snapshot-bounded b x (metafile_in x.role.meta snapshot_file) (early l t)
@@ -223,7 +245,7 @@ module _ (v : Verifies) (s : SettingDoc) where
     step-bounded (at.PutTargets k d) t l =
         let none : m.delegated ≡ 0 = (early l t.0).1 in
         let top = held_as [] d in
-        grown-bounded k [] (begun (metas_in k) top) (subst (λ x. ProgressGrows x (begun (metas_in k) top)) (sym none) (begun-grows (metas_in k) top t.2 t.1))
+        grown-bounded k [] (begun (metas_in k) top) (omega (arith, none)) (subst (λ x. ProgressGrows x (begun (metas_in k) top)) (sym none) (begun-grows (metas_in k) top t.2 t.1))
     step-bounded (at.PutDelegated k roles name d) t l = given-bounded k roles d (subst (Grows 1 roles.work) (sym l) t.0) t.1 t.2
 
     -- an answer that isn't waited for
@@ -245,11 +267,12 @@ module _ (v : Verifies) (s : SettingDoc) where
     same-bounded (at.Fetch (at.Targets k listed) r) a e t l = early l t
     same-bounded (at.Step (at.PutTargets k d)) a e t l = (early l t.0, t.1, t.2)
     same-bounded (at.Fetch (at.Role k roles listed) r) a e t l =
-        subst (Grows 0 roles.work) (sym (kept-counts (more_delegated n) (ends_fetch a) (unended (at.Role k roles listed) r a e) l)) t
-    same-bounded (at.Step (at.PutDelegated k roles name d)) a e t l = subst (λ x. Bounded x (at.Step (at.PutDelegated k roles name d))) (sym l) t
+        grows-counted 0 roles.work m (subst (Grows 0 roles.work) (sym (kept-counts (more_delegated n) (ends_fetch a) (unended (at.Role k roles listed) r a e) l)) t)
+    same-bounded (at.Step (at.PutDelegated k roles name d)) a e t l = (grows-counted 1 roles.work m (subst (Grows 1 roles.work) (sym l) t.0), t.1, t.2)
     same-bounded (at.Done (Ok x)) a e t l =
         let is : m.delegated ≡ n.delegated = ap (λ (y : Counts). y.delegated) l in
-        (enough, omega (arith, is, t.1), refl, refl)
+        let le : m.delegated ≤ length (entries x.targets.role) = omega (arith, is, t.0.1, t.2) in
+        ((enough.0, le), refl, refl)
     same-bounded (at.Done (Err f)) a e t l = enough
     same-bounded at.Taken a e t l = enough
 
@@ -275,56 +298,12 @@ bounded : (v : Verifies) (c : CoreDoc) (n : Counts) → Counted v c n → Bounde
 bounded v c n (counted.begun d fresh) = subst (Bounded v d.setting none_yet) (sym fresh) (refl, refl)
 bounded v c n (counted.turned b d k a h g) = goes-bounded v b d k a (bounded v b k h) g
 
--- ---- what was listed by then
+-- ---- the laws
 
--- a fetch of a delegated document is counted where one is asked for, and the tree lists more roles than were fetched before
-fetch-few : (v : Verifies) (s : SettingDoc) (k : Counts) (w : WorkDoc) (b : Bool) → Grows v s 0 w k → (if b then more_delegated k else k).delegated ≤ tally_work w
-fetch-few v s k w true g = omega (arith, one-more k.delegated, grows-listed k.delegated w g.1)
-fetch-few v s k w false g = omega (arith, grows-listed k.delegated w g.1)
-
--- the state that the update stands in
-stands : (v : Verifies) (c : CoreDoc) (n : Counts) (h : Counted v c n) → Passes h c
-stands v c n (counted.begun d fresh) = refl
-stands v c n (counted.turned b d k a h g) = inl refl
-
-roots-if : (b : Bool) (k : Counts) → (if b then more_roots k else k).delegated ≡ k.delegated
-roots-if true k = refl
-roots-if false k = refl
-
--- with the fetch that an answer ends
-fetched-had : (v : Verifies) (c : CoreDoc) (k : Counts) (h : Counted v c k) (st : StageDoc) (a : AnswerDoc) → c.stage ≡ st → Bounded v c.setting k st → HadAsMany h roles_listed k.delegated → HadAsMany h roles_listed (with_fetch st a k).delegated
-fetched-had v c k h (at.Fetch (at.Role known roles listed) r) a is t x =
-    let wanted = at.Fetch (at.Role known roles listed) r in
-    record { earlier = c; passed = stands v c k h; few = subst (λ y. (with_fetch wanted a k).delegated ≤ roles_listed y) (sym is) (fetch-few v c.setting k roles.work (ends_fetch a) t) }
-fetched-had v c k h (at.Fetch (at.Root w) r) a is t x =
-    record { earlier = x.earlier; passed = x.passed; few = subst (λ y. y ≤ roles_listed x.earlier.stage) (sym (roots-if (ends_fetch a) k)) x.few }
-fetched-had v c k h (at.Fetch (at.Timestamp b) r) a is t x = x
-fetched-had v c k h (at.Fetch (at.Snapshot b y listed) r) a is t x = x
-fetched-had v c k h (at.Fetch (at.Targets known listed) r) a is t x = x
-fetched-had v c k h at.Moment a is t x = x
-fetched-had v c k h (at.Step p) a is t x = x
-fetched-had v c k h (at.Done r) a is t x = x
-fetched-had v c k h at.Taken a is t x = x
-
--- the tree leaves what was fetched
-tree-fetched : (st : StageDoc) (m : Counts) → (with_tree st m).delegated ≡ m.delegated
-tree-fetched at.Moment m = refl
-tree-fetched (at.Fetch w r) m = refl
-tree-fetched (at.Step p) m = refl
-tree-fetched (at.Done (Ok l)) m = refl
-tree-fetched (at.Done (Err f)) m = refl
-tree-fetched at.Taken m = refl
-
-had : (v : Verifies) (c : CoreDoc) (n : Counts) (h : Counted v c n) → HadAsMany h roles_listed n.delegated
-had v c n (counted.begun d fresh) = record { earlier = d; passed = refl; few = omega arith }
-had v c n (counted.turned b d k a h g) =
-    let x = fetched-had v b k h b.stage a refl (bounded v b k h) (had v b k h) in
-    record { earlier = x.earlier; passed = inr x.passed; few = subst (λ y. y ≤ roles_listed x.earlier.stage) (sym (tree-fetched d.stage (with_fetch b.stage a k))) x.few }
-
-pub fetches_few : (v : Verifies) (c : CoreDoc) (n : Counts) (h : Counted v c n) → FetchesFew h
-fetches_few v c n h = record { roots = late-at v c.setting n c.stage (bounded v c n h); delegated = had v c n h }
+pub fetches_few : (v : Verifies) (c : CoreDoc) (n : Counts) → Counted v c n → FetchesFew c.setting.limits n
+fetches_few v c n h = let t = late-at v c.setting n c.stage (bounded v c n h) in record { roots = t.0; delegated = t.1 }
 
 pub keeps_all : (v : Verifies) (c : CoreDoc) (n : Counts) (l : LoadedDoc) → Counted v c n → c.stage ≡ at.Done (Ok l) → KeepsAll l n
 keeps_all v c n l h is =
     let t = subst (Bounded v c.setting n) is (bounded v c n h) in
-    record { kept = t.2; few = kept_listed v c n l h is; entries = t.3; fetched = omega (arith, t.1, t.3) }
+    record { kept = t.1; few = kept_listed v c n l h is; entries = t.2; fetched = t.0.1 }

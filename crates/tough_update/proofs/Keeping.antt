@@ -1,4 +1,4 @@
--- That an update keeps no delegated document before it has succeeded, and then at most as many as the snapshot lists names.
+-- That an update keeps at most as many delegated documents as the snapshot lists names.
 use Rattle.std.specs.Prelude.{◌≡◌, ◌≤◌, ⊤, ℕ, List, [], length, Option, Some, None, Bool, true, false, Result, Ok, Err, if◌then◌else◌}
 use Rattle.std.proofs.Common.{refl, sym, ◌∙◌, subst, inl, inr, arith}
 use Rattle.tough_keys.specs.Same.{Verifies}
@@ -12,11 +12,13 @@ use Rattle.tough_names.specs.Named.{Named}
 use Rattle.tough_schema.specs.Whole.{TreeDoc}
 use Rattle.tough_schema.specs.Entries.{documents_below, first_missing}
 use Rattle.tough_schema.specs.Fresh.{IsUnloaded}
+use Rattle.tough_update.specs.delegations.Numbered.{last_number}
 use Rattle.tough_update.specs.delegations.Growing.{Progress, wants, grown, go_on, begun, wanted_name}
 use Rattle.tough_trust.specs.delegations.Bare.{held_as}
 use Rattle.tough_trust.proofs.lemmas.Bare.{bare-none}
 use Rattle.tough_update.proofs.growth.Kept.{tree-few}
 use Rattle.tough_update.proofs.growth.Laws.{WorkKeeps, ProgressKeeps, begun-keeps, taken-keeps}
+use Rattle.tough_update.proofs.growth.Placed.{WorkCarries, ProgressCarries, begun-carries, taken-carries, placed-few}
 use Rattle.tough_update.specs.declared.counts.Counts.{Counts}
 use Rattle.tough_trust.specs.Failure.{Failure, ParseMetadata}
 use Rattle.tough_trust.specs.Walk.{first_root, next_root}
@@ -54,8 +56,8 @@ fetch-kept at.Taken a n = refl
 
 abbrev Keeps : Counts → StageDoc → Type 0
 Keeps n (at.Step (at.PutTargets k d)) = (n.kept ≡ 0) × IsUnloaded d.role
-Keeps n (at.Fetch (at.Role k roles listed) r) = (n.kept ≡ 0) × WorkKeeps (metas_in k) roles.work
-Keeps n (at.Step (at.PutDelegated k roles name d)) = (n.kept ≡ 0) × WorkKeeps (metas_in k) roles.work × IsUnloaded d.role
+Keeps n (at.Fetch (at.Role k roles listed) r) = (n.kept ≡ last_number roles.work.nodes) × WorkKeeps (metas_in k) roles.work × WorkCarries (metas_in k) roles.work
+Keeps n (at.Step (at.PutDelegated k roles name d)) = (n.kept ≡ last_number roles.work.nodes) × WorkKeeps (metas_in k) roles.work × WorkCarries (metas_in k) roles.work × IsUnloaded d.role
 Keeps n (at.Done (Ok l)) = (n.kept ≡ length (documents_below l.targets.role)) × (length (documents_below l.targets.role) ≤ length (metas_in l.known))
 Keeps n (at.Done (Err f)) = ⊤
 Keeps n at.Taken = ⊤
@@ -103,13 +105,14 @@ module _ (v : Verifies) (s : SettingDoc) (n m : Counts) (same : m.kept ≡ n.kep
   found-keeps None l le = (refl, le)
   found-keeps (Some name) l le = tt
 
-  grown-keeps : (k : KnownDoc) (received : List ReceivedDoc) (p : Progress) → m.kept ≡ 0 → ProgressKeeps (metas_in k) p → Well (grown_on s.limits k received p)
-  grown-keeps k received (wants w e) h g = (h, g)
-  grown-keeps k received (grown t) h g = found-keeps (first_missing t.role) (record { known = k; targets = t; received = received }) (tree-few (metas_in k) t.role g.0 g.1)
+  grown-keeps : (k : KnownDoc) (received : List ReceivedDoc) (p : Progress) → ProgressKeeps (metas_in k) p → ProgressCarries (metas_in k) p → Well (grown_on s.limits k received p)
+  grown-keeps k received (wants w e) g c = (refl, g, c)
+  grown-keeps k received (grown t) g c = found-keeps (first_missing t.role) (record { known = k; targets = t; received = received }) (tree-few (metas_in k) t.role g.0 g.1)
 
-  given-keeps : (k : KnownDoc) (roles : RolesDoc) (d : SignedDoc TreeDoc) → m.kept ≡ 0 → WorkKeeps (metas_in k) roles.work → IsUnloaded d.role → Well (role_given s.limits k roles d)
-  given-keeps k roles d h g bare =
-      grown-keeps k roles.received (go_on (metas_in k) (given roles.work d)) h (taken-keeps (metas_in k) roles.work (held_as (wanted_name roles.work) d) bare g)
+  given-keeps : (k : KnownDoc) (roles : RolesDoc) (d : SignedDoc TreeDoc) → WorkKeeps (metas_in k) roles.work → WorkCarries (metas_in k) roles.work → IsUnloaded d.role → Well (role_given s.limits k roles d)
+  given-keeps k roles d g c bare =
+      let h = held_as (wanted_name roles.work) d in
+      grown-keeps k roles.received (go_on (metas_in k) (given roles.work d)) (taken-keeps (metas_in k) roles.work h bare g) (taken-carries (metas_in k) roles.work h c)
 
   read-keeps : (w : WantedDoc) (r : RequestDoc) (bytes : List ℕ) → Keeps n (at.Fetch w r) → Heard (at.Fetch w r) (got.Bytes bytes) → Well (read_wanted v s w r bytes)
   read-keeps (at.Root w) r bytes t _ = and_then-fine Next bad (next_root v w.last.role bytes) (λ root. Ok (at.Step (at.PutRoot (record { start = w.start; first = w.first; last = root })))) (λ root is. same ∙ t)
@@ -120,11 +123,10 @@ module _ (v : Verifies) (s : SettingDoc) (n m : Counts) (same : m.kept ≡ n.kep
       (same ∙ t, subst (λ (x : SignedDoc TreeDoc). IsUnloaded x.role) (sym p.is) (bare-none p.page)))
   read-keeps (at.Role k roles listed) r bytes t _ =
       let kept = with_received roles bytes in
-      let none : m.kept ≡ 0 = same ∙ t.0 in
       and_then-fine Next bad (judged v s.enforced k.start (role_holder roles.work) listed bytes) (role_stored s.limits k kept r.name) (λ d is.
       let p = judged-ok v s.enforced k.start (role_holder roles.work) listed bytes d is in
       let bare : IsUnloaded d.role = subst (λ (x : SignedDoc TreeDoc). IsUnloaded x.role) (sym p.is) (bare-none p.page) in
-      if-fine Next bad (is_reserved r.name) (role_given s.limits k kept d) (Ok (at.Step (at.PutDelegated k kept r.name d))) (λ _. given-keeps k kept d none t.1 bare) (none, t.1, bare))
+      if-fine Next bad (is_reserved r.name) (role_given s.limits k kept d) (Ok (at.Step (at.PutDelegated k kept r.name d))) (λ _. given-keeps k kept d t.1 t.2 bare) (refl, t.1, t.2, bare))
 
   step-keeps : (p : PendingDoc) → Keeps n (at.Step p) → Heard (at.Step p) (got.Step (Ok (tt {0}))) → Well (after v s p)
   step-keeps (at.NoteTime now) t _ = and_then-fine Next bad (first_root v s.trusted) (λ root. walked s.limits (record { start = now; first = root; last = root })) (λ root is.
@@ -134,14 +136,14 @@ module _ (v : Verifies) (s : SettingDoc) (n m : Counts) (same : m.kept ≡ n.kep
   step-keeps (at.Clear b) t _ = same ∙ t
   step-keeps (at.PutTimestamp b x) t _ = want_snapshot-keeps b x (metafile_in x.role.meta snapshot_file) (same ∙ t)
   step-keeps (at.PutSnapshot k listed) t _ = want_targets-keeps k (metafile_in k.snapshot.role.meta targets_file) (same ∙ t)
-  step-keeps (at.PutTargets k d) t _ = let top = held_as [] d in grown-keeps k [] (begun (metas_in k) top) (same ∙ t.0) (begun-keeps (metas_in k) top t.1)
-  step-keeps (at.PutDelegated k roles name d) t _ = given-keeps k roles d (same ∙ t.0) t.1 t.2
+  step-keeps (at.PutTargets k d) t _ = let top = held_as [] d in grown-keeps k [] (begun (metas_in k) top) (begun-keeps (metas_in k) top t.1) (begun-carries (metas_in k) top)
+  step-keeps (at.PutDelegated k roles name d) t _ = given-keeps k roles d t.1 t.2 t.3
 
   -- an answer that isn't waited for
   same-keeps : (st : StageDoc) → Keeps n st → Next st
   same-keeps (at.Step (at.PutTargets k d)) t = (same ∙ t.0, t.1)
-  same-keeps (at.Fetch (at.Role k roles listed) r) t = (same ∙ t.0, t.1)
-  same-keeps (at.Step (at.PutDelegated k roles name d)) t = (same ∙ t.0, t.1, t.2)
+  same-keeps (at.Fetch (at.Role k roles listed) r) t = (refl, t.1, t.2)
+  same-keeps (at.Step (at.PutDelegated k roles name d)) t = (refl, t.1, t.2, t.3)
   same-keeps (at.Done (Ok l)) t = (refl, t.1)
   same-keeps (at.Done (Err f)) t = tt
   same-keeps at.Taken t = tt
@@ -184,16 +186,29 @@ keeps v c n (counted.turned b d k a h g) = goes-keeps v b d k a (keeps v b k h) 
 left : (v : Verifies) (c d : CoreDoc) (k : Counts) (a : AnswerDoc) (h : Counted v c k) (g : Goes v c a d) → HadAsMany h names_listed k.kept → HadAsMany (counted.turned c d k a h g) names_listed (with_fetch c.stage a k).kept
 left v c d k a h g x = record { earlier = x.earlier; passed = inr x.passed; few = subst (λ y. y ≤ names_listed x.earlier.stage) (sym (fetch-kept c.stage a k)) x.few }
 
--- one answer later: the update has succeeded, or what is kept is left
+-- one answer later: the tree has grown, or what is kept is left
 kept-had : (v : Verifies) (c d : CoreDoc) (k : Counts) (a : AnswerDoc) (h : Counted v c k) (g : Goes v c a d) (st : StageDoc) → d.stage ≡ st → Keeps (with_tree st (with_fetch c.stage a k)) st → HadAsMany h names_listed k.kept
     → HadAsMany (counted.turned c d k a h g) names_listed (with_tree st (with_fetch c.stage a k)).kept
 kept-had v c d k a h g (at.Done (Ok l)) e t x =
     record { earlier = d; passed = inl refl; few = subst (λ y. length (documents_below l.targets.role) ≤ names_listed y) (sym e) t.1 }
+kept-had v c d k a h g (at.Fetch (at.Role known roles listed) r) e t x =
+    record { earlier = d; passed = inl refl; few = subst (λ y. last_number roles.work.nodes ≤ names_listed y) (sym e) (placed-few (metas_in known) roles.work t.2) }
+kept-had v c d k a h g (at.Step (at.PutDelegated known roles name doc)) e t x =
+    record { earlier = d; passed = inl refl; few = subst (λ y. last_number roles.work.nodes ≤ names_listed y) (sym e) (placed-few (metas_in known) roles.work t.2) }
 kept-had v c d k a h g (at.Done (Err f)) e t x = left v c d k a h g x
-kept-had v c d k a h g (at.Step p) e t x = left v c d k a h g x
 kept-had v c d k a h g at.Moment e t x = left v c d k a h g x
 kept-had v c d k a h g at.Taken e t x = left v c d k a h g x
-kept-had v c d k a h g (at.Fetch w r) e t x = left v c d k a h g x
+kept-had v c d k a h g (at.Fetch (at.Root w) r) e t x = left v c d k a h g x
+kept-had v c d k a h g (at.Fetch (at.Timestamp b) r) e t x = left v c d k a h g x
+kept-had v c d k a h g (at.Fetch (at.Snapshot b y listed) r) e t x = left v c d k a h g x
+kept-had v c d k a h g (at.Fetch (at.Targets known listed) r) e t x = left v c d k a h g x
+kept-had v c d k a h g (at.Step (at.NoteTime now)) e t x = left v c d k a h g x
+kept-had v c d k a h g (at.Step (at.PutRoot w)) e t x = left v c d k a h g x
+kept-had v c d k a h g (at.Step (at.PutLast w)) e t x = left v c d k a h g x
+kept-had v c d k a h g (at.Step (at.Clear b)) e t x = left v c d k a h g x
+kept-had v c d k a h g (at.Step (at.PutTimestamp b y)) e t x = left v c d k a h g x
+kept-had v c d k a h g (at.Step (at.PutSnapshot known listed)) e t x = left v c d k a h g x
+kept-had v c d k a h g (at.Step (at.PutTargets known doc)) e t x = left v c d k a h g x
 
 pub keeps_few : (v : Verifies) (c : CoreDoc) (n : Counts) (h : Counted v c n) → KeepsFew h
 keeps_few v c n (counted.begun d fresh) = record { earlier = d; passed = refl; few = omega arith }

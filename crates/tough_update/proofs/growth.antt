@@ -9,4 +9,5 @@ pub mod Tallied
 pub mod Kept
 pub mod Trees
 pub mod Standing
+pub mod Placed
 pub mod Laws

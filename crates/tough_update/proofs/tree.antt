@@ -3,5 +3,6 @@ pub mod Noding
 pub mod Listing
 pub mod Firsts
 pub mod Sizing
+pub mod Counted
 pub mod NodeSteps
 pub mod Turning

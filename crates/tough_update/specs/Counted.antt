@@ -1,8 +1,8 @@
 -- How far what an update counts may go, over any answers.
 use Rattle.std.specs.Prelude.{◌≡◌, ◌≤◌, ◌⊎◌, ℕ, length, Ok}
 use Rattle.tough_keys.specs.Same.{Verifies}
+use Rattle.tough_net.specs.declared.limits.Limits.{Limits}
 use Rattle.tough_schema.specs.Entries.{entries, documents_below}
-use Rattle.tough_update.specs.growth.Tallies.{tally_work}
 use Rattle.tough_update.specs.declared.counts.Counts.{Counts}
 use Rattle.tough_update.specs.Answered.{AnswerDoc}
 use Rattle.tough_update.specs.Counts.{none_yet, with_fetch, with_tree}
@@ -29,23 +29,22 @@ pub record HadAsMany {verifies : Verifies} {c : CoreDoc} {n : Counts} (update : 
   pub passed : Passes update earlier
   pub few : count ≤ at_stage earlier.stage
 
--- where a delegated document is asked for: the roles that are listed by the targets and the documents that have their place
-abbrev pub roles_listed : StageDoc → ℕ
-roles_listed (at.Fetch (at.Role k roles listed) r) = tally_work roles.work
-roles_listed _ = 0
-
--- once the update has succeeded: the names that the accepted snapshot lists
+-- once the snapshot was accepted: the names that it lists
 abbrev pub names_listed : StageDoc → ℕ
+names_listed (at.Fetch (at.Targets k listed) r) = length k.snapshot.role.meta
+names_listed (at.Step (at.PutTargets k d)) = length k.snapshot.role.meta
+names_listed (at.Fetch (at.Role k roles listed) r) = length k.snapshot.role.meta
+names_listed (at.Step (at.PutDelegated k roles name d)) = length k.snapshot.role.meta
 names_listed (at.Done (Ok l)) = length l.known.snapshot.role.meta
 names_listed _ = 0
 
--- at most as many roots were fetched as the limit allows, and at most as many delegated documents as roles were listed when one of them was
--- asked for
-pub record FetchesFew {verifies : Verifies} {c : CoreDoc} {n : Counts} (update : Counted verifies c n) : Type 0 where
-  pub roots : n.roots ≤ c.setting.limits.max_root_updates
-  pub delegated : HadAsMany update roles_listed n.delegated
+-- at most as many roots were fetched as the limit allows, and at most as many delegated documents as the targets and the documents that are
+-- kept list roles
+pub record FetchesFew (limits : Limits) (n : Counts) : Type 0 where
+  pub roots : n.roots ≤ limits.max_root_updates
+  pub delegated : n.delegated ≤ n.entries
 
--- no document is kept before the update has succeeded, and then no more than the snapshot lists
+-- at most as many documents are kept as the accepted snapshot lists names
 abbrev pub KeepsFew : {verifies : Verifies} {c : CoreDoc} {n : Counts} → Counted verifies c n → Type 0
 KeepsFew {n = n} update = HadAsMany update names_listed n.kept
 

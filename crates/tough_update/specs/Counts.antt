@@ -1,8 +1,11 @@
--- How much an update fetched, and how much of it stands in the tree that it loaded.
+-- How much an update fetched, and how much of it stands in the tree, as far as that has grown.
 use Rattle.std.specs.Prelude.{ℕ, ◌+◌, ◌-◌, ◌^◌, min, length, Bool, true, false, if◌then◌else◌, Ok}
 use Rattle.tough_schema.specs.Whole.{TreeDoc}
 use Rattle.tough_schema.specs.Entries.{entries, documents_below}
 use Rattle.tough_update.specs.declared.counts.Counts.{Counts}
+use Rattle.tough_update.specs.delegations.Numbered.{last_number}
+use Rattle.tough_update.specs.delegations.Growing.{WorkDoc}
+use Rattle.tough_update.specs.growth.Tallies.{counted_tally}
 use Rattle.tough_update.specs.Stages.{StageDoc}
 use Rattle.tough_update.specs.Stages as at
 use Rattle.tough_update.specs.Answered.{AnswerDoc}
@@ -28,11 +31,17 @@ with_fetch (at.Fetch (at.Root w) r) a n = if ends_fetch a then record n { roots 
 with_fetch (at.Fetch (at.Role k roles listed) r) a n = if ends_fetch a then record n { delegated = one_more n.delegated } else n
 with_fetch _ a n = n
 
+-- with the documents that have their place, and the roles that these and the targets list
+abbrev pub with_work : WorkDoc → Counts → Counts
+with_work w n = record n { kept = last_number w.nodes; entries = counted_tally w.nodes }
+
 -- with the documents and the roles below targets
 abbrev pub with_roles : TreeDoc → Counts → Counts
 with_roles t n = record n { kept = length (documents_below t); entries = length (entries t) }
 
--- with the tree, once the update has succeeded
+-- with the tree, as far as it has grown; after a failure, what was counted before it stands
 abbrev pub with_tree : StageDoc → Counts → Counts
+with_tree (at.Fetch (at.Role k roles listed) r) n = with_work roles.work n
+with_tree (at.Step (at.PutDelegated k roles name d)) n = with_work roles.work n
 with_tree (at.Done (Ok l)) n = with_roles l.targets.role n
 with_tree _ n = n

@@ -4,6 +4,7 @@ mod firsts;
 mod growth;
 mod look;
 mod nodes;
+mod placed;
 mod turns;
 
 pub use growth::{Growth, Progress};

@@ -61,12 +61,11 @@ pub fn asks_few()
 {}
 
 /// Whatever was answered, and also where the update failed: at most as many roots were fetched as the limit allows, and at most as many
-/// documents of delegated roles as the targets and the documents that had their place listed roles when one of them was asked for. No
-/// document is kept before the update has succeeded, and then at most as many as the accepted snapshot lists names. Of an update that
-/// succeeded the counts are those of its tree, which has at least as many roles as documents were fetched.
+/// documents of delegated roles as the targets and the documents that are kept list roles; at most as many documents are kept as the accepted
+/// snapshot lists names. Of an update that succeeded the counts are those of its tree.
 pub fn counts_few()
     ensures fetches { (verifies : Verifies) (c : CoreDoc) (n : Counts)
-        (update : Counted verifies c n) → FetchesFew update }
+        → Counted verifies c n → FetchesFew c.setting.limits n }
     ensures keeps { (verifies : Verifies) (c : CoreDoc) (n : Counts)
         (update : Counted verifies c n) → KeepsFew update }
     ensures loaded { (verifies : Verifies) (c : CoreDoc) (n : Counts) (l : LoadedDoc)

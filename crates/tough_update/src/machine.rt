@@ -186,7 +186,7 @@ impl Core {
         }
     }
 
-    /// How much was fetched by now and, once the update has succeeded, how much of it stands in the tree of delegated roles.
+    /// How much was fetched by now, and how much of it stands in the tree of delegated roles; after a failure as it was counted before.
     pub fn counts(&self) -> Counts
         ensures { result ≡ counts_of self.now }
     {

@@ -65,10 +65,10 @@ halves true b h = absurd (cc h)
 halves false b h = (refl, h)
 
 module _ {X : Type 0} (end : List ℕ) where
-  abbrev Finds : List (List ℕ × X) → List ℕ → Type 0
+  abbrev pub Finds : List (List ℕ × X) → List ℕ → Type 0
   Finds es name = (x : X) × (lookup (bytes_eq (name ++ end)) es ≡ Some x)
 
-  abbrev AllFind : List (List ℕ × X) → List (List ℕ) → Type 0
+  abbrev pub AllFind : List (List ℕ × X) → List (List ℕ) → Type 0
   AllFind es [] = ⊤
   AllFind es (n ∷ ns) = Finds es n × AllFind es ns
 
@@ -96,7 +96,7 @@ module _ {X : Type 0} (end : List ℕ) where
       let both = halves (bytes_eq p n) (is_among n ns) d in
       ((h.0.0, found-other n p es both.0 ∙ h.0.1), find-others n ns es both.1 h.1)
 
-  few : (ns : List (List ℕ)) (es : List (List ℕ × X)) → Distinct ns → AllFind es ns → length ns ≤ length es
+  pub few : (ns : List (List ℕ)) (es : List (List ℕ × X)) → Distinct ns → AllFind es ns → length ns ≤ length es
   few [] es d h = omega arith
   few (n ∷ ns) es d h =
       let less = remove_entry (bytes_eq (n ++ end)) es in
@@ -110,13 +110,13 @@ module _ {X : Type 0} (end : List ℕ) where
 
 module _ (metas : Metas) where
   -- the snapshot lists each of these names
-  abbrev Listed : List (List ℕ) → Type 0
+  abbrev pub Listed : List (List ℕ) → Type 0
   Listed ns = AllFind (codes ".json") metas ns
 
-  abbrev IsListed : List ℕ → Type 0
+  abbrev pub IsListed : List ℕ → Type 0
   IsListed name = Finds (codes ".json") metas name
 
-  both : (xs ys : List (List ℕ)) → Listed xs → Listed ys → Listed (xs ++ ys)
+  pub both : (xs ys : List (List ℕ)) → Listed xs → Listed ys → Listed (xs ++ ys)
   both xs ys h k = find-both (codes ".json") xs ys metas h k
 
   abbrev RolesListed : List RoleTree → Type 0
@@ -179,11 +179,11 @@ module _ (metas : Metas) where
   -- ---- the turns
 
   -- the first role that waits is listed
-  abbrev FirstListed : List Entry → Type 0
+  abbrev pub FirstListed : List Entry → Type 0
   FirstListed [] = ⊤
   FirstListed (e ∷ rest) = IsListed e.name
 
-  abbrev LookListed : Look → Type 0
+  abbrev pub LookListed : Look → Type 0
   LookListed through = ⊤
   LookListed (unlisted n) = ⊤
   LookListed (wanted waiting m) = FirstListed waiting
@@ -196,7 +196,7 @@ module _ (metas : Metas) where
   look-on true s t x y = x
   look-on false s t x y = y
 
-  look-listed : (l : Names) (waiting : List Entry) → LookListed (look metas l waiting)
+  pub look-listed : (l : Names) (waiting : List Entry) → LookListed (look metas l waiting)
   look-listed l [] = tt
   look-listed l (e ∷ rest) = look-on (l e.name) (look metas l rest) (looked e rest (listed_as metas e.name)) (look-listed l rest) (looked-listed e rest (listed_as metas e.name) refl)
 

@@ -19,12 +19,12 @@ use Rattle.tough_update.specs.growth.Once.{is_among, Distinct, IsBare, AreBare}
 
 -- ---- marked names
 
-abbrev Marked : List (List ℕ) → Names → Type 0
+abbrev pub Marked : List (List ℕ) → Names → Type 0
 Marked [] loaded = ⊤
 Marked (x ∷ xs) loaded = (loaded x ≡ true) × Marked xs loaded
 
 -- these names are marked, and no one twice
-abbrev Once : List (List ℕ) → Names → Type 0
+abbrev pub Once : List (List ℕ) → Names → Type 0
 Once xs loaded = Distinct xs × Marked xs loaded
 
 or-true : (x y : Bool) → y ≡ true → (x || y) ≡ true
@@ -42,7 +42,7 @@ marked-more : (xs : List (List ℕ)) (n : List ℕ) (loaded : Names) → Marked 
 marked-more [] n loaded h = tt
 marked-more (x ∷ xs) n loaded h = (or-true (bytes_eq n x) (loaded x) h.0, marked-more xs n loaded h.1)
 
-once-more : (xs : List (List ℕ)) (n : List ℕ) (loaded : Names) → Once xs loaded → Once xs (add n loaded)
+pub once-more : (xs : List (List ℕ)) (n : List ℕ) (loaded : Names) → Once xs loaded → Once xs (add n loaded)
 once-more xs n loaded h = (h.0, marked-more xs n loaded h.1)
 
 apart : (x n : List ℕ) (loaded : Names) (b : Bool) → loaded x ≡ true → loaded n ≡ false → bytes_eq n x ≡ b → bytes_eq n x ≡ false
@@ -65,7 +65,7 @@ marked-last (x ∷ xs) n loaded h k = (h.0, marked-last xs n loaded h.1 k)
 itself : (n : List ℕ) (loaded : Names) → add n loaded n ≡ true
 itself n loaded = ap (λ b. b || loaded n) ((bytes_eq-Decides n n).1 refl)
 
-once-last : (xs : List (List ℕ)) (n : List ℕ) (loaded : Names) → Once xs loaded → loaded n ≡ false → Once (xs ++ n ∷ []) (add n loaded)
+pub once-last : (xs : List (List ℕ)) (n : List ℕ) (loaded : Names) → Once xs loaded → loaded n ≡ false → Once (xs ++ n ∷ []) (add n loaded)
 once-last xs n loaded h new =
     (distinct-last xs n loaded h.0 h.1 new, marked-last xs n (add n loaded) (marked-more xs n loaded h.1) (itself n loaded))
 

@@ -23,11 +23,13 @@ small-under : (o : Option Delegations) → length (roles_under o) < 2 ^ 63
 small-under None = omega arith
 small-under (Some g) = let v = (out-Delegations g).roles in let is : v.len ≡ length v.items = v.ok.0 in let within : v.len ≤ v.cap = v.ok.1 in let fits : v.cap < 2 ^ 63 = v.small in omega arith
 
-small-held : (s : Signed DelegatedTargets) → IsSmall (listed_roles (held_doc s).below)
+pub same-held : (s : Signed DelegatedTargets) → length (listed_roles (held_doc s).below) ≡ length (listed_in s)
+same-held s = ap length (sym (listed-held s)) ∙ length-map (listed_in s) (λ r. (role_tree r).0)
+
+pub small-held : (s : Signed DelegatedTargets) → IsSmall (listed_roles (held_doc s).below)
 small-held s =
     let short : length (listed_in s) < 2 ^ 63 = small-under (out-Targets (out-DelegatedTargets s.signed).targets).delegations in
-    let same : length (listed_roles (held_doc s).below) ≡ length (listed_in s) = ap length (sym (listed-held s)) ∙ length-map (listed_in s) (λ r. (role_tree r).0) in
-    omega arith
+    omega (arith, short, same-held s)
 
 small-if : (b : Bool) (xs ys : List Entry) → IsSmall xs → IsSmall ys → IsSmall (if b then xs else ys)
 small-if true xs ys h k = h

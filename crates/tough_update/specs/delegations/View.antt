@@ -22,7 +22,7 @@ use Rattle.tough_update.specs.declared.delegations.growth.Progress.{Progress}
 use Rattle.tough_update.specs.declared.delegations.growth.Progress.TheVariants as step
 use Rattle.tough_update.specs.delegations.Numbered as numbered
 use Rattle.tough_update.specs.delegations.Numbered.{last_roles}
-use Rattle.tough_update.specs.delegations.Documents.{nodes_doc}
+use Rattle.tough_update.specs.delegations.Placed.{placed_doc}
 use Rattle.tough_update.specs.delegations.Growing as plain
 use Rattle.tough_update.specs.delegations.Growing.{Metas, Fetched, TaskDoc, WorkDoc}
 
@@ -60,11 +60,11 @@ turns_doc ns index (Some s) = plain.stopped_at ns (task_doc s.task) (waiting_in 
 
 abbrev pub work_doc : Growth → WorkDoc
 work_doc g = record {
-  nodes = nodes_doc g.nodes;
+  nodes = placed_doc g.nodes;
   outer = map task_doc g.outer.items;
   index = index_doc g.index;
   fetched = fetched_doc g.fetched.entries;
-  waiting = waiting_in (nodes_doc g.nodes) g.at;
+  waiting = waiting_in (placed_doc g.nodes) g.at;
 }
 
 abbrev pub progress_doc : Progress → plain.Progress

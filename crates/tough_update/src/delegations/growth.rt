@@ -1,13 +1,14 @@
 //! The tree as it grows.
 
 ghost use Rattle.std.specs.Prelude.{◌≡◌, ℕ, List};
-ghost use Rattle.tough_update.specs.delegations.Documents.{firsts_doc, nodes_doc};
+ghost use Rattle.tough_update.specs.delegations.Documents.{firsts_doc};
 ghost use Rattle.tough_update.specs.delegations.Firsts.{first_places};
 ghost use Rattle.tough_update.specs.delegations.Numbered.{last_roles};
+ghost use Rattle.tough_update.specs.delegations.Placed.{placed_doc};
 
 use crate::delegations::firsts::Firsts;
 use crate::delegations::look::{Look, look_from};
-use crate::delegations::nodes::Nodes;
+use crate::delegations::placed::Placed;
 use crate::delegations::turns::{Stop, Task, take_turns};
 use std::alloc::{AllocError, Global};
 use std::collections::{BTreeMap, VecDeque};
@@ -19,7 +20,7 @@ use tough_trust::{Index, RoleHolder, roles_of};
 #[derive(Drop)]
 pub struct Growth {
     // The documents that have their place; the list of the last one is being fetched.
-    nodes: Nodes,
+    nodes: Placed,
     // The lists whose roles get their documents, the innermost first.
     outer: VecDeque<Task>,
     // Where the document of each name stands.
@@ -31,7 +32,7 @@ pub struct Growth {
     // Where the first role of each name stands in the list.
     firsts: Firsts,
     ghost first: { (name : List ℕ)
-        → firsts_doc firsts name ≡ first_places (last_roles (nodes_doc nodes)) name },
+        → firsts_doc firsts name ≡ first_places (last_roles (placed_doc nodes)) name },
 }
 
 /// How far a tree has grown.
@@ -53,21 +54,23 @@ impl Growth {
     ghost use Rattle.tough_update.specs.Delegated.{role_holder};
     ghost use Rattle.tough_trust.specs.View.{role_holder_doc, index_doc};
     ghost use Rattle.tough_update.specs.delegations.View.{metas_of, top_held, waiting_in, task_doc, work_doc, progress_doc};
+    ghost use Rattle.tough_update.specs.delegations.Numbered.{last_number};
+    ghost use Rattle.tough_update.specs.growth.Tallies.{counted_tally};
 
     // The list of the last document is to be fetched, from the role at this place on.
     fn begin(
         alloc: Global,
-        nodes: Nodes,
+        nodes: Placed,
         outer: VecDeque<Task>,
         index: Index,
         at: usize,
     ) -> Result<Growth, AllocError>
         ensures { IfOk result (λ g. work_doc g ≡ record {
-          nodes = nodes_doc nodes;
+          nodes = placed_doc nodes;
           outer = map task_doc outer.items;
           index = index_doc index;
           fetched = [];
-          waiting = waiting_in (nodes_doc nodes) at;
+          waiting = waiting_in (placed_doc nodes) at;
         }) }
     {
         let firsts = Firsts::new(alloc, roles_of(nodes.last()))?;
@@ -84,18 +87,18 @@ impl Growth {
     // The list of the last document is to be fetched, before the turns of those that stop for it.
     fn stop_at<'a>(
         alloc: Global,
-        nodes: Nodes,
+        nodes: Placed,
         mut outer: VecDeque<Task>,
         index: Index,
         stop: Stop<'a>,
     ) -> Result<Progress<'a>, AllocError>
         ensures { IfOk result (λ p. progress_doc p
             ≡ wants (record {
-              nodes = nodes_doc nodes;
+              nodes = placed_doc nodes;
               outer = task_doc stop.entry.task ∷ map task_doc outer.items;
               index = index_doc index;
               fetched = [];
-              waiting = waiting_in (nodes_doc nodes) stop.entry.at;
+              waiting = waiting_in (placed_doc nodes) stop.entry.at;
             })
             (metafile_doc stop.entry.entry.now)) }
     {
@@ -109,12 +112,12 @@ impl Growth {
     fn settle<'a>(
         alloc: Global,
         snapshot: &'a Snapshot,
-        mut nodes: Nodes,
+        mut nodes: Placed,
         mut outer: VecDeque<Task>,
         mut index: Index,
     ) -> Result<Progress<'a>, AllocError>
         ensures { IfOk result (λ p. progress_doc p
-            ≡ settle (metas_of snapshot.now) (index_doc index) (nodes_doc nodes)
+            ≡ settle (metas_of snapshot.now) (index_doc index) (placed_doc nodes)
             (map task_doc outer.items)) }
     {
         while let Some(task) = outer.pop_front() {
@@ -150,8 +153,22 @@ impl Growth {
     pub fn new(alloc: Global, targets: Signed<Targets>) -> Result<Growth, AllocError>
         ensures { IfOk result (λ g. work_doc g ≡ first_work (top_held targets)) }
     {
-        let nodes = Nodes::new(alloc, Targets::named(targets, String::new(alloc)));
+        let nodes = Placed::new(alloc, Targets::named(targets, String::new(alloc)));
         Growth::begin(alloc, nodes, VecDeque::new(alloc), Index::new(alloc), 0)
+    }
+
+    /// How many documents of delegated roles have their place.
+    pub(crate) fn placed(&self) -> usize
+        ensures { result ≡ last_number (work_doc self.now).nodes }
+    {
+        self.nodes.last_number()
+    }
+
+    /// How many roles the targets and these documents list, up to the largest number.
+    pub(crate) fn entries(&self) -> u64
+        ensures { result ≡ counted_tally (work_doc self.now).nodes }
+    {
+        self.nodes.entries()
     }
 
     /// The role whose document is wanted.

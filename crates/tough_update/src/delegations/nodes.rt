@@ -1,6 +1,6 @@
 //! Documents by numbers.
 
-ghost use Rattle.std.specs.Prelude.{◌≡◌, IfOk, drop, option_map};
+ghost use Rattle.std.specs.Prelude.{◌≡◌, IfOk, IfErr, drop, option_map};
 ghost use Rattle.tough_roles.specs.Signature.{signed_doc};
 ghost use Rattle.tough_schema.specs.Whole.{role_tree, tree_doc, held_doc};
 ghost use Rattle.tough_update.specs.delegations.Numbered.{targets, also, last_number, last_document, roles_at, tree_of, unnamed, put_at};
@@ -93,8 +93,9 @@ impl Nodes {
 
     /// Gives a document its place.
     pub(crate) fn push(&mut self, node: Node) -> Result<(), AllocError>
-        ensures { IfOk result
+        ensures placed { IfOk result
             (λ _. nodes_doc self.new ≡ also (nodes_doc self.old) (node_doc node)) }
+        ensures refused { IfErr result (λ _. nodes_doc self.new ≡ nodes_doc self.old) }
     {
         self.others.push(node)?;
         Ok(())

@@ -4,12 +4,14 @@ ghost use Rattle.std.specs.Prelude.{◌≡◌, IfOk, option_map, string_bytes};
 ghost use Rattle.tough_schema.specs.Whole.{role_tree};
 ghost use Rattle.tough_trust.specs.delegations.Indexed.{names_of};
 ghost use Rattle.tough_update.specs.delegations.Growing.{offer_for, fetched_for, fetched_after, place_node, resumed};
-ghost use Rattle.tough_update.specs.delegations.Documents.{node_doc, nodes_doc};
+ghost use Rattle.tough_update.specs.delegations.Documents.{node_doc};
+ghost use Rattle.tough_update.specs.delegations.Placed.{placed_doc};
 ghost use Rattle.tough_update.specs.delegations.View.{metas_of, fetched_doc, task_doc, turn_doc, turns_doc};
 ghost use Rattle.tough_trust.specs.View.{index_doc};
 
 use crate::delegations::look::{Look, look_from};
-use crate::delegations::nodes::{Node, Nodes};
+use crate::delegations::nodes::Node;
+use crate::delegations::placed::Placed;
 use std::alloc::{AllocError, Global};
 use std::collections::BTreeMap;
 use tough_roles::{Metafile, Signed, Snapshot};
@@ -62,13 +64,13 @@ fn take_offer(task: &mut Task, role: &DelegatedRole, index: &Index) -> Option<No
 fn enter<'a>(
     alloc: Global,
     snapshot: &'a Snapshot,
-    nodes: &mut Nodes,
+    nodes: &mut Placed,
     index: &mut Index,
     name: String,
     node: Node,
 ) -> Result<Option<(usize, &'a Metafile)>, AllocError>
-    ensures { IfOk result (λ o. turn_doc (nodes_doc nodes.new) (index_doc index.new) o
-        ≡ place_node (metas_of snapshot.now) (nodes_doc nodes.old) (index_doc index.old)
+    ensures { IfOk result (λ o. turn_doc (placed_doc nodes.new) (index_doc index.new) o
+        ≡ place_node (metas_of snapshot.now) (placed_doc nodes.old) (index_doc index.old)
         (string_bytes name) (node_doc node)) }
 {
     nodes.push(node)?;
@@ -87,12 +89,12 @@ fn enter<'a>(
 pub(crate) fn take_turns<'a>(
     alloc: Global,
     snapshot: &'a Snapshot,
-    nodes: &mut Nodes,
+    nodes: &mut Placed,
     index: &mut Index,
     mut task: Task,
 ) -> Result<Option<Stop<'a>>, AllocError>
-    ensures { IfOk result (λ s. turns_doc (nodes_doc nodes.new) (index_doc index.new) s
-        ≡ resumed (metas_of snapshot.now) (index_doc index.old) (nodes_doc nodes.old)
+    ensures { IfOk result (λ s. turns_doc (placed_doc nodes.new) (index_doc index.new) s
+        ≡ resumed (metas_of snapshot.now) (index_doc index.old) (placed_doc nodes.old)
         (task_doc task)) }
 {
     while let Some(role) = nodes.role(task.node, task.at) {

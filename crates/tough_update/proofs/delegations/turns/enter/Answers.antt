@@ -4,7 +4,8 @@ use Rattle.tough_update.specs.delegations.Numbered.{also, last_number}
 use Rattle.tough_trust.specs.delegations.Indexed.{put, names_of}
 use Rattle.tough_update.specs.delegations.Growing.{through, unlisted, wanted, look, past}
 use Rattle.tough_trust.specs.delegations.Dressed.{entries_of}
-use Rattle.tough_update.specs.delegations.Documents.{node_doc, nodes_doc}
+use Rattle.tough_update.specs.delegations.Documents.{node_doc}
+use Rattle.tough_update.specs.delegations.Placed.{placed_doc}
 use Rattle.tough_update.specs.delegations.View.{metas_of}
 use Rattle.tough_trust.specs.View.{index_doc}
 use Rattle.tough_update.proofs.tree.Turning.{enters, enters-wanted}
@@ -16,9 +17,9 @@ returns-in-Through c =
     let x = index_doc c.args.index.now in
     let name = string_bytes c.args.name in
     let more = index_doc c.insert.new.self in
-    let ns = nodes_doc c.args.nodes.now in
+    let ns = placed_doc c.args.nodes.now in
     let n = node_doc c.args.node in
-    let ms = nodes_doc c.push.new.self in
+    let ms = placed_doc c.push.new.self in
     let rs = c.roles_of.result.now in
     let marked : more ≡ put name (Some (last_number ms)) x = c.in_ok-insert.ensures ∙ ap (λ k. put name (Some k) x) c.last_number.ensures in
     let pushed : ms ≡ also ns n = c.in_ok-push.ensures in
@@ -31,9 +32,9 @@ returns-in_ok-pass_over-in-Unlisted c =
     let x = index_doc c.args.index.now in
     let name = string_bytes c.args.name in
     let more = index_doc c.insert.new.self in
-    let ns = nodes_doc c.args.nodes.now in
+    let ns = placed_doc c.args.nodes.now in
     let n = node_doc c.args.node in
-    let ms = nodes_doc c.push.new.self in
+    let ms = placed_doc c.push.new.self in
     let rs = c.roles_of.result.now in
     let other = string_bytes c.in-Unlisted.name in
     let marked : more ≡ put name (Some (last_number ms)) x = c.in_ok-insert.ensures ∙ ap (λ k. put name (Some k) x) c.last_number.ensures in
@@ -48,9 +49,9 @@ returns-in-Wanted c =
     let x = index_doc c.args.index.now in
     let name = string_bytes c.args.name in
     let more = index_doc c.insert.new.self in
-    let ns = nodes_doc c.args.nodes.now in
+    let ns = placed_doc c.args.nodes.now in
     let n = node_doc c.args.node in
-    let ms = nodes_doc c.push.new.self in
+    let ms = placed_doc c.push.new.self in
     let rs = c.roles_of.result.now in
     let marked : more ≡ put name (Some (last_number ms)) x = c.in_ok-insert.ensures ∙ ap (λ k. put name (Some k) x) c.last_number.ensures in
     let pushed : ms ≡ also ns n = c.in_ok-push.ensures in

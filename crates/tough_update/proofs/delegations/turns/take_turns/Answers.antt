@@ -6,7 +6,8 @@ use Rattle.tough_schema.specs.Whole.{role_tree}
 use Rattle.tough_update.specs.delegations.Numbered.{also, last_number, roles_at}
 use Rattle.tough_trust.specs.delegations.Indexed.{names_of, put}
 use Rattle.tough_update.specs.delegations.Growing.{past, stopped, stopped_at, look, offer_for, fetched_for, place_node, TaskDoc, resumed}
-use Rattle.tough_update.specs.delegations.Documents.{node_doc, nodes_doc}
+use Rattle.tough_update.specs.delegations.Documents.{node_doc}
+use Rattle.tough_update.specs.delegations.Placed.{placed_doc}
 use Rattle.tough_update.specs.delegations.View.{metas_of, waiting_in, task_doc}
 use Rattle.tough_trust.specs.View.{index_doc}
 use Rattle.tough_update.proofs.tree.Listing.{role-name}
@@ -17,9 +18,9 @@ use Rattle.tough_update.proofs.delegations.turns.take_turns.Goals as goal
 pub overflow_add-task : goal.overflow_add-task
 overflow_add-task c =
     let t = task_doc c.loop-role.task in
-    let es = roles_at t.node (nodes_doc c.loop-role.nodes) in
+    let es = roles_at t.node (placed_doc c.loop-role.nodes) in
     let within : t.at < length es = some-within es t.at (role_tree c.in-Some.role.now).0 c.in-Some.ensures in
-    let small : length es < 2 ^ 63 = small-roles c.loop-role.nodes t.node in
+    let small : length es < 2 ^ 63 = small-roles c.loop-role.nodes.nodes t.node in
     let same : c.take_offer-offer.new.task.at ≡ t.at = c.take_offer-offer.ensures.place.1 in
     omega arith
 
@@ -28,8 +29,8 @@ returns-in-Some-2 c =
     let metas = metas_of c.args.snapshot.now in
     let x = index_doc c.loop-role.index in
     let more = index_doc c.enter.new.index in
-    let ns = nodes_doc c.loop-role.nodes in
-    let ms = nodes_doc c.enter.new.nodes in
+    let ns = placed_doc c.loop-role.nodes in
+    let ms = placed_doc c.enter.new.nodes in
     let t = task_doc c.loop-role.task in
     let r = c.in-Some.role.now in
     let e = (role_tree r).0 in
@@ -50,8 +51,8 @@ loop-role-smaller-in_default-2 c =
     let metas = metas_of c.args.snapshot.now in
     let x = index_doc c.loop-role.index in
     let more = index_doc c.enter.new.index in
-    let ns = nodes_doc c.loop-role.nodes in
-    let ms = nodes_doc c.enter.new.nodes in
+    let ns = placed_doc c.loop-role.nodes in
+    let ms = placed_doc c.enter.new.nodes in
     let t = task_doc c.loop-role.task in
     let e = (role_tree c.in-Some.role.now).0 in
     let n = node_doc c.in-Some-offer.node in
@@ -71,8 +72,8 @@ loop-role-preserved-in_default-2 c =
     let metas = metas_of c.args.snapshot.now in
     let x = index_doc c.loop-role.index in
     let more = index_doc c.enter.new.index in
-    let ns = nodes_doc c.loop-role.nodes in
-    let ms = nodes_doc c.enter.new.nodes in
+    let ns = placed_doc c.loop-role.nodes in
+    let ms = placed_doc c.enter.new.nodes in
     let t = task_doc c.loop-role.task in
     let r = c.in-Some.role.now in
     let e = (role_tree r).0 in
@@ -93,7 +94,7 @@ pub loop-role-preserved : goal.loop-role-preserved
 loop-role-preserved c =
     let metas = metas_of c.args.snapshot.now in
     let x = index_doc c.loop-role.index in
-    let ns = nodes_doc c.loop-role.nodes in
+    let ns = placed_doc c.loop-role.nodes in
     let t = task_doc c.loop-role.task in
     let e = (role_tree c.in-Some.role.now).0 in
     let offer : None ≡ offer_for (names_of x) t.node t.at e (fetched_for e t.fetched) = search rules in

@@ -1,6 +1,6 @@
 use Rattle.std.proofs.Common.{rules, ◌≡◌, ◌∷◌, map, ap, ◌∙◌}
 use Rattle.tough_update.specs.delegations.Growing.{TaskDoc, give, settle}
-use Rattle.tough_update.specs.delegations.Documents.{nodes_doc}
+use Rattle.tough_update.specs.delegations.Placed.{placed_doc}
 use Rattle.tough_update.specs.delegations.View.{metas_of, task_doc, fetched_doc, work_doc, progress_doc}
 use Rattle.tough_trust.specs.View.{index_doc}
 use Rattle.tough_update.specs.declared.delegations.turns.Task.{Task}
@@ -12,7 +12,7 @@ returns c =
     let metas = metas_of c.args.snapshot.now in
     let g = c.args.self in
     let x = index_doc g.index in
-    let ns = nodes_doc g.nodes in
+    let ns = placed_doc g.nodes in
     let task : Task = record { node = c.last_number-node.result; at = 0; fetched = g.fetched } in
     let pushed : c.push_front.new.self.items ≡ task ∷ g.outer.items = search rules in
     if_ok-to c.settle.result (λ p. progress_doc p ≡ settle metas x ns (map task_doc c.push_front.new.self.items)) (λ p. progress_doc p ≡ give metas (work_doc g))

@@ -4,7 +4,7 @@ use Rattle.tough_schema.specs.Tree.{Entry}
 use Rattle.tough_trust.specs.delegations.Indexed.{names_of}
 use Rattle.tough_update.specs.delegations.Growing.{through, unlisted, wanted, look, wants, by_look, give, go_on, settle}
 use Rattle.tough_trust.specs.delegations.Dressed.{entries_of}
-use Rattle.tough_update.specs.delegations.Documents.{nodes_doc}
+use Rattle.tough_update.specs.delegations.Placed.{placed_doc}
 use Rattle.tough_update.specs.delegations.View.{metas_of, waiting_in, look_doc, task_doc, work_doc, progress_doc}
 use Rattle.tough_trust.specs.View.{index_doc}
 use Rattle.tough_update.proofs.tree.Turning.{if_ok-to, listed-last}
@@ -15,7 +15,7 @@ returns-in-Through c =
     let metas = metas_of c.args.snapshot.now in
     let g = c.args.self in
     let names = names_of (index_doc g.index) in
-    let ns = nodes_doc g.nodes in
+    let ns = placed_doc g.nodes in
     let rs = c.roles_of.result.now in
     let listed = listed-last ns c.last.result.now rs c.last.ensures c.roles_of.ensures in
     let seen : through ≡ look metas names (waiting_in ns g.at) =
@@ -27,7 +27,7 @@ returns-in-Unlisted c =
     let metas = metas_of c.args.snapshot.now in
     let g = c.args.self in
     let names = names_of (index_doc g.index) in
-    let ns = nodes_doc g.nodes in
+    let ns = placed_doc g.nodes in
     let outer = map task_doc g.outer.items in
     let rs = c.roles_of.result.now in
     let listed = listed-last ns c.last.result.now rs c.last.ensures c.roles_of.ensures in
@@ -42,7 +42,7 @@ returns c =
     let metas = metas_of c.args.snapshot.now in
     let g = c.args.self in
     let names = names_of (index_doc g.index) in
-    let ns = nodes_doc g.nodes in
+    let ns = placed_doc g.nodes in
     let rs = c.roles_of.result.now in
     let at = c.in-Wanted.at in
     let m = metafile_doc c.in-Wanted.entry.now in

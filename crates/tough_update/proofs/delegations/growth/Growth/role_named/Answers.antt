@@ -11,7 +11,8 @@ use Rattle.tough_schema.specs.declared.delegations.DelegatedRole.{DelegatedRole}
 use Rattle.tough_schema.specs.declared.targets.DelegatedTargets.{DelegatedTargets}
 use Rattle.tough_update.specs.declared.delegations.growth.Growth.{Growth}
 use Rattle.tough_trust.specs.delegations.Dressed.{entries_of, listed_in}
-use Rattle.tough_update.specs.delegations.Documents.{firsts_doc, nodes_doc}
+use Rattle.tough_update.specs.delegations.Documents.{firsts_doc}
+use Rattle.tough_update.specs.delegations.Placed.{placed_doc}
 use Rattle.tough_update.specs.delegations.Firsts.{first_places}
 use Rattle.tough_update.specs.delegations.Numbered.{last_document}
 use Rattle.tough_update.proofs.tree.Firsts.{none-in, some-in}
@@ -19,7 +20,7 @@ use Rattle.tough_update.proofs.tree.Listing.{listed-held}
 use Rattle.tough_update.proofs.delegations.growth.Growth.role_named.Goals as goal
 
 -- what the map tells is so in the document whose list it is
-told : (g : Growth) (s : Signed DelegatedTargets) (name : List ℕ) (place : Option ℕ) → held_doc s ≡ last_document (nodes_doc g.nodes) → place ≡ firsts_doc g.firsts name → first_places (entries_of (listed_in s)) name ≡ place
+told : (g : Growth) (s : Signed DelegatedTargets) (name : List ℕ) (place : Option ℕ) → held_doc s ≡ last_document (placed_doc g.nodes) → place ≡ firsts_doc g.firsts name → first_places (entries_of (listed_in s)) name ≡ place
 told g s name place last found =
     ap (λ (es : List Entry). first_places es name) (listed-held s) ∙ ap (λ (h : HeldDoc). first_places (listed_roles h.below) name) last ∙ sym (found ∙ g.first name)
 
