@@ -7,3 +7,4 @@ mod Choosing
 mod Listings
 mod Walked
 mod Named
+mod Differing
