@@ -1,6 +1,6 @@
 -- How a saving follows from where it stands.
-use Rattle.std.specs.Prelude.{◌≡◌, ℤ, ℕ, Bool, List, Option, Some, None, IsSomeAnd, Result, Ok, Err}
-use Rattle.std.proofs.Common.{refl, inl, inr}
+use Rattle.std.specs.Prelude.{◌≡◌, ℤ, ℕ, Bool, true, List, Option, Some, None, IsSomeAnd, Result, Ok, Err}
+use Rattle.std.proofs.Common.{refl, inl, inr, subst}
 use Rattle.url.specs.Parts.{Parts}
 use Rattle.futures.specs.declared.task.Poll.{Poll}
 use Rattle.futures.specs.declared.task.Poll.TheVariants.{Ready, Pending}
@@ -17,11 +17,29 @@ use Rattle.tough_vault.specs.Act.{Act}
 use Rattle.tough_checks.specs.declared.checks.StepError.{StepError}
 use Rattle.tough_trust.specs.Steps.{Keeping}
 use Rattle.tough_error.specs.declared.error.Error.{Error}
+use Rattle.tough_save.specs.declared.error.SaveError.{SaveError}
 use Rattle.tough_save.specs.declared.saving.Saving.{Saving}
+use Rattle.tough_save.specs.Savings.{Saves, Tells, stream_of, temp_of, target_of}
 use Rattle.tough_client.specs.declared.repository.Repository.{Repository}
 use Rattle.tough_client.specs.declared.save.Prefix.{Prefix}
 use Rattle.tough_client.specs.Repositories.{keeping_of}
-use Rattle.tough_client.specs.Saving.{Finishes, Continues, Starts, SavesTarget, GoesOnSaving}
+use Rattle.tough_client.specs.Saving.{Finishes, Continues, Starts, SavesTarget, GoesOnSaving, pieces_of}
+
+-- a saving that goes on by its stream, into the same files, has come to where the later one stands
+module _ {S : Type 0} (yields : S → Runs Item) (tells : Bool) (name : Named) (s later : Saving (DigestCheck (MaxSize S))) (old mid : List Told) where
+  pub goes_on : ((r : Result (Unit {0}) SaveError) → Tells (pieces_of yields tells (stream_of later)) r → Tells (pieces_of yields tells (stream_of s)) r)
+      → (tells ≡ true → (r : Result (Unit {0}) SaveError) (calls : List Told) → Saves (pieces_of yields tells (stream_of later)) (temp_of s) (target_of s) r mid calls
+      → Saves (pieces_of yields tells (stream_of s)) (temp_of s) (target_of s) r old calls)
+      → temp_of later ≡ temp_of s → target_of later ≡ target_of s → Continues yields tells name s old mid later
+  goes_on same follows temp target result new fin =
+      let pieces = pieces_of yields tells (stream_of later) in
+      record {
+        outcome = fin.outcome;
+        came = same fin.outcome fin.came;
+        saved = λ is. follows is fin.outcome new
+            (subst (λ p. Saves pieces p (target_of s) fin.outcome mid new) temp (subst (λ p. Saves pieces (temp_of later) p fin.outcome mid new) target (fin.saved is)));
+        told = fin.told;
+      }
 
 module _ {T K C S R : Type 0} (refuses : T → Parts → TransportError → Type 0) (serves : T → Parts → Runs Item) (yields : S → Runs Item) (can_poll : S → Type 0)
     (keeps : Verifies → K → Act → Result R StepError → K → Type 0) (may_give : C → ℤ → Type 0) (tells : Bool)
