@@ -3,11 +3,12 @@
 ghost use Rattle.std.specs.Prelude.{⊤};
 ghost use Rattle.url.specs.Parts.{Parts};
 
+use std::alloc::Global;
 use std::rt::Clock;
 use std::sync::atomic::{AtomicU64, Ordering};
 use std::thread;
 use std::time::Duration;
-use tough_net::{Transport, TransportError};
+use tough_net::{Transport, TransportError, TransportErrorKind};
 use url::Url;
 
 /// How often a thread looks for another one, 10 ms apart.
@@ -20,14 +21,15 @@ pub(crate) struct Signals {
     ended: AtomicU64,
 }
 
-// Looks at the signal until it is given.
-fn wait_for<R: Clock>(rt: &R, signal: &AtomicU64, looks: u32) {
+// Looks at the signal until it is given, at most so often, and returns whether it was.
+fn wait_for<R: Clock>(rt: &R, signal: &AtomicU64, looks: u32) -> bool {
     for _ in 0..looks {
         if signal.load(Ordering::SeqCst) != 0 {
-            return;
+            return true;
         }
         thread::sleep(rt, Duration::from_millis(10));
     }
+    false
 }
 
 impl Signals {
@@ -38,9 +40,9 @@ impl Signals {
         }
     }
 
-    /// Waits until the first thread has begun a fetch.
-    pub(crate) fn wait_for_start<R: Clock>(&self, rt: &R, looks: u32) {
-        wait_for(rt, &self.started, looks);
+    /// Waits until the first thread has begun a fetch, and returns whether it has.
+    pub(crate) fn wait_for_start<R: Clock>(&self, rt: &R, looks: u32) -> bool {
+        wait_for(rt, &self.started, looks)
     }
 
     /// Says that the second thread is through.
@@ -49,9 +51,10 @@ impl Signals {
     }
 }
 
-/// A transport whose fetches begin once the second thread is through.
+/// A transport whose fetches begin once the second thread is through; they fail where it isn't in time.
 #[derive(Drop)]
 pub(crate) struct Held<'a, R, T> {
+    pub(crate) alloc: Global,
     pub(crate) rt: &'a R,
     pub(crate) signals: &'a Signals,
     pub(crate) within: T,
@@ -66,7 +69,11 @@ impl<'a, R: Clock, T: Transport> Transport for Held<'a, R, T> {
 
     fn fetch(&self, url: &Url) -> Result<T::Stream, TransportError> {
         self.signals.started.store(1, Ordering::SeqCst);
-        wait_for(self.rt, &self.signals.ended, LOOKS);
-        self.within.fetch(url)
+        if wait_for(self.rt, &self.signals.ended, LOOKS) {
+            self.within.fetch(url)
+        } else {
+            let kind = TransportErrorKind::Other;
+            Err(TransportError::new(self.alloc, kind, url.as_str())?)
+        }
     }
 }

@@ -5,7 +5,7 @@ ghost use Rattle.tough_shared.specs.Opened.{book_of};
 
 use crate::held::{Held, LOOKS, Signals};
 use crate::journal::{is_entry, journal, rises};
-use anyhow::Result;
+use anyhow::{Result, anyhow};
 use bytes::Bytes;
 use jiff::Timestamp as Instant;
 use serde_json::Value;
@@ -203,6 +203,7 @@ where
         served(rt.alloc(), case, "files")?,
     );
     let within = Held {
+        alloc: rt.alloc(),
         rt,
         signals: &signals,
         within: slow,
@@ -211,7 +212,9 @@ where
         rt,
         || load(rt, case, within, one),
         || {
-            signals.wait_for_start(rt, LOOKS);
+            if !signals.wait_for_start(rt, LOOKS) {
+                return Err(anyhow!("the first load fetches nothing"));
+            }
             let loaded = load(rt, case, fast, two);
             signals.end();
             loaded
