@@ -5,6 +5,7 @@
 mod checker;
 mod checks;
 mod document_name;
+mod rotation;
 mod snapshot_checks;
 mod stored;
 mod versions;
@@ -15,6 +16,7 @@ pub use checks::{
     check_timestamp, check_timestamp_late, check_version, snapshot_version,
 };
 pub use document_name::DocumentName;
+pub use rotation::is_rotated;
 pub use snapshot_checks::{check_snapshot, check_snapshot_late, read_snapshot, versions_of};
 pub use stored::{read_time, read_timestamp};
 pub use versions::{ListedVersion, SnapshotVersions, TimestampVersions};

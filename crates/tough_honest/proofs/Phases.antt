@@ -21,7 +21,7 @@ use Rattle.tough_trust.specs.Walk.{next_request, next_root, first_root}
 use Rattle.tough_trust.specs.delegations.Bare.{held_as}
 use Rattle.tough_roles.specs.declared.role_type.RoleType.TheVariants as role
 use Rattle.tough_checks.specs.Checks.{ExpiredMetadata, is_expired}
-use Rattle.tough_trust.specs.Rotation.{is_rotated}
+use Rattle.tough_checks.specs.Rotation.{is_rotated}
 use Rattle.tough_update.specs.delegations.Growing.{Progress, wants, grown, go_on, first_work}
 use Rattle.tough_update.specs.Delegated.{is_reserved, grown_on, if_found, role_stored, metas_in, given, with_received, role_holder}
 use Rattle.tough_update.specs.Stages.{WalkDoc, BaseDoc, KnownDoc, RolesDoc, ReceivedDoc, LoadedDoc, WantedDoc, PendingDoc, StageDoc, SettingDoc}

@@ -5,7 +5,7 @@ use Rattle.tough_keys.specs.Equals.{same_doc-refl}
 use Rattle.tough_roles.specs.Root.{RootDoc}
 use Rattle.tough_roles.specs.declared.role_type.RoleType.{RoleType}
 use Rattle.tough_roles.specs.declared.role_type.RoleType.TheVariants as role
-use Rattle.tough_trust.specs.Rotation.{keys_in, same_keys, is_rotated_role, is_rotated}
+use Rattle.tough_checks.specs.Rotation.{keys_in, same_keys, is_rotated_role, is_rotated}
 
 keys-same : (ks : List KeyDoc) → same_keys ks ks ≡ true
 keys-same [] = refl

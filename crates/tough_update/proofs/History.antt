@@ -15,7 +15,7 @@ use Rattle.tough_trust.specs.Failure.{Failure, ParseMetadata, Checked}
 use Rattle.tough_trust.specs.Walk.{first_root, next_root}
 use Rattle.tough_trust.specs.Outcomes.{holds_json, unless}
 use Rattle.tough_trust.specs.Requests.{RequestDoc, root_request, timestamp_request}
-use Rattle.tough_trust.specs.Rotation.{is_rotated}
+use Rattle.tough_checks.specs.Rotation.{is_rotated}
 use Rattle.tough_trust.specs.Listed.{by_root, judged}
 use Rattle.tough_update.specs.Delegated.{metas_in, is_reserved, if_found, grown_on, given, role_given, role_stored, with_received, role_holder}
 use Rattle.tough_update.specs.delegations.Growing.{first_name, wanted_name, Progress, wants, grown, go_on, begun}

@@ -20,18 +20,18 @@ use Rattle.tough_roles.specs.declared.role_type.RoleType.TheVariants as role
 use Rattle.tough_roles.proofs.lemmas.Reached.{reaches-to}
 use Rattle.tough_schema.specs.Targets.{TargetsDoc, targets_json}
 use Rattle.tough_checks.specs.Checks.{Reason, VersionMismatch, TimestampMetaLength, MissingSnapshotMeta, SnapshotTargetsMetaMissing, ExpiredMetadata, refuse, or_else, is_expired, expiry, verified, timestamp_form, snapshot_form}
-use Rattle.tough_checks.specs.Documents.{root_text, snapshot_verdict}
+use Rattle.tough_checks.specs.Documents.{root_text, root_verdict, snapshot_verdict}
 use Rattle.tough_roles.specs.Timestamp.{metafile_in}
 use Rattle.tough_vault.specs.Steps.{time_text, needs}
 use Rattle.tough_vault.specs.Act.{Act}
 use Rattle.tough_vault.specs.Act as act
 use Rattle.tough_checks.specs.Files.{snapshot_file, targets_file}
 use Rattle.tough_trust.specs.Failure.{Failure, ParseTrustedMetadata, ParseMetadata, MaxUpdatesExceeded, Checked}
-use Rattle.tough_trust.specs.Walk.{if_trusted, root_verdict, first_root}
+use Rattle.tough_trust.specs.Walk.{if_trusted, first_root}
 use Rattle.tough_trust.specs.Outcomes.{holds_json, if_read, unless, and_then}
 use Rattle.tough_trust.proofs.lemmas.Judging.{judged-to}
 use Rattle.tough_trust.specs.Requests.{RequestDoc, fits_request, root_request, timestamp_request, snapshot_request, targets_request, role_request}
-use Rattle.tough_trust.specs.Rotation.{is_rotated}
+use Rattle.tough_checks.specs.Rotation.{is_rotated}
 use Rattle.tough_trust.specs.Listed.{by_root, by_delegations, targets_text, targets_verdict, targets_refusal, judged}
 use Rattle.tough_update.specs.Delegated.{metas_in, is_reserved, if_found, grown_on, roles_begun, role_given, role_stored, with_received, role_holder}
 use Rattle.tough_trust.specs.delegations.Bare.{bare, top_page, held_as}

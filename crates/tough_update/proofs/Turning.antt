@@ -12,7 +12,7 @@ use Rattle.tough_trust.specs.Failure.{Failure, MaxUpdatesExceeded, Checked}
 use Rattle.tough_net.specs.declared.limits.Limits.{Limits}
 use Rattle.tough_trust.specs.Outcomes.{unless, if_read, and_then}
 use Rattle.tough_trust.specs.Requests.{RequestDoc, root_request, timestamp_request}
-use Rattle.tough_trust.specs.Rotation.{is_rotated}
+use Rattle.tough_checks.specs.Rotation.{is_rotated}
 use Rattle.tough_update.specs.Stages.{WalkDoc, WantedDoc, PendingDoc, StageDoc, SettingDoc}
 use Rattle.tough_update.specs.Stages as at
 use Rattle.tough_trust.specs.declared.fault.Fault.{Fault}

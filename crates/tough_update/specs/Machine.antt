@@ -19,7 +19,7 @@ use Rattle.tough_trust.specs.Walk.{first_root, next_root, next_request}
 use Rattle.tough_trust.specs.Faults.{fault_failure, ends_start, ends_stream}
 use Rattle.tough_trust.specs.Outcomes.{unless, if_read, holds_json, and_then}
 use Rattle.tough_trust.specs.Requests.{RequestDoc, timestamp_request, snapshot_request, targets_request}
-use Rattle.tough_trust.specs.Rotation.{is_rotated}
+use Rattle.tough_checks.specs.Rotation.{is_rotated}
 use Rattle.tough_trust.specs.delegations.Bare.{top_page}
 use Rattle.tough_trust.specs.Listed.{by_root, targets_text, judged}
 use Rattle.tough_update.specs.Delegated.{roles_begun, role_given, new_role}

@@ -17,7 +17,7 @@ use Rattle.tough_update.specs.Answered.{AnswerDoc}
 use Rattle.tough_update.specs.Answered as got
 use Rattle.tough_update.specs.Machine.{question, answered}
 use Rattle.tough_checks.specs.Documents.{root_in}
-use Rattle.tough_trust.specs.Rotation.{is_rotated}
+use Rattle.tough_checks.specs.Rotation.{is_rotated}
 use Rattle.tough_update.specs.Trusted.{Chain, Trusted, Unexpired}
 
 -- What an answer promises, by what was asked: bytes fit, and a step that succeeds has made its checks on what it was given.

@@ -18,7 +18,7 @@ use Rattle.tough_trust.specs.Failure.{Failure, ParseMetadata}
 use Rattle.tough_trust.specs.Listed.{by_root, judged}
 use Rattle.tough_trust.specs.Outcomes.{if_read, holds_json}
 use Rattle.tough_trust.specs.Requests.{RequestDoc}
-use Rattle.tough_trust.specs.Rotation.{is_rotated}
+use Rattle.tough_checks.specs.Rotation.{is_rotated}
 use Rattle.tough_trust.specs.Walk.{first_root, next_root}
 use Rattle.tough_trust.specs.delegations.Bare.{held_as}
 use Rattle.tough_update.specs.Answered.{AnswerDoc}

@@ -2,8 +2,8 @@ use Rattle.std.proofs.Common.{option_map, sym, ap, ◌∙◌}
 use Rattle.tough_keys.specs.Key.{key_doc}
 use Rattle.tough_roles.specs.Root.{keys_doc}
 use Rattle.tough_roles.proofs.lemmas.Entry.{get-keys_doc}
-use Rattle.tough_trust.proofs.Rotated.{key_in-at}
-use Rattle.tough_trust.proofs.rotation.key_at.Goals as goal
+use Rattle.tough_checks.proofs.Rotated.{key_in-at}
+use Rattle.tough_checks.proofs.rotation.key_at.Goals as goal
 
 pub returns-in-Some : goal.returns-in-Some
 returns-in-Some c =

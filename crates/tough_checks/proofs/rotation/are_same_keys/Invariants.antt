@@ -1,8 +1,8 @@
 use Rattle.std.proofs.Common.{◌≡◌, drop}
 use Rattle.tough_roles.specs.Root.{root_doc}
 use Rattle.tough_roles.specs.Keyring.{keys_along}
-use Rattle.tough_trust.specs.Rotation.{same_keys}
-use Rattle.tough_trust.proofs.rotation.are_same_keys.Given as goal
+use Rattle.tough_checks.specs.Rotation.{same_keys}
+use Rattle.tough_checks.proofs.rotation.are_same_keys.Given as goal
 
 abbrev pub invariant-loop-place : goal.invariant-loop-place
 invariant-loop-place l =

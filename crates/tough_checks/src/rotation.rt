@@ -7,7 +7,7 @@ ghost use Rattle.tough_keys.specs.Key.{key_doc};
 ghost use Rattle.tough_roles.specs.Roles.{role_cmp};
 ghost use Rattle.tough_roles.specs.Root.{root_doc};
 ghost use Rattle.tough_roles.specs.Keyring.{keys_along};
-ghost use Rattle.tough_trust.specs.Rotation.{key_in, same_keys, ids_of, is_rotated_role, is_rotated};
+ghost use Rattle.tough_checks.specs.Rotation.{key_in, same_keys, ids_of, is_rotated_role, is_rotated};
 
 use tough_decoded::{Decoded, Hex};
 use tough_keys::Key;

@@ -1,8 +1,8 @@
 use Rattle.std.proofs.Common.{not, sym, ap, ◌∙◌}
 use Rattle.tough_keys.specs.Key.{key_doc}
 use Rattle.tough_roles.specs.Root.{keys_doc}
-use Rattle.tough_trust.proofs.Rotated.{next-place, other-place, turned}
-use Rattle.tough_trust.proofs.rotation.are_same_keys.Goals as goal
+use Rattle.tough_checks.proofs.Rotated.{next-place, other-place, turned}
+use Rattle.tough_checks.proofs.rotation.are_same_keys.Goals as goal
 
 pub loop-place-preserved : goal.loop-place-preserved
 loop-place-preserved c =

@@ -6,7 +6,7 @@ use Rattle.tough_keys.specs.Key.{KeyDoc}
 use Rattle.tough_roles.specs.Root.{key_under}
 use Rattle.tough_keys.specs.Equal.{same_doc}
 use Rattle.tough_roles.specs.Keyring.{ahead_of, keys_along}
-use Rattle.tough_trust.specs.Rotation.{key_in, same_keys}
+use Rattle.tough_checks.specs.Rotation.{key_in, same_keys}
 
 pub key_in-at : (keys : List (Spelled × KeyDoc)) (ids : List Spelled) (place : ℕ) (id : Spelled) → place < length ids → id ≡ get_or ids place id → key_in keys (drop place ids) ≡ key_under keys id
 key_in-at keys [] place id h e = absurd (omega (arith, h))
