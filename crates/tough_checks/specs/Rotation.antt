@@ -9,6 +9,7 @@ use Rattle.tough_keys.specs.Equal.{same_doc}
 use Rattle.tough_roles.specs.Keyring.{keys_along}
 use Rattle.tough_roles.specs.Roles.{role_cmp}
 use Rattle.tough_roles.specs.Root.{RootDoc, RoleKeysDoc, key_under}
+use Rattle.tough_roles.specs.Signature.{SignedDoc}
 use Rattle.tough_roles.specs.declared.role_type.RoleType.{RoleType}
 use Rattle.tough_roles.specs.declared.role_type.RoleType.TheVariants as role
 
@@ -35,3 +36,8 @@ is_rotated_role old new type = not (same_keys (keys_in old type) (keys_in new ty
 
 abbrev pub is_rotated : RootDoc → RootDoc → Bool
 is_rotated old new = is_rotated_role old new role.Timestamp || is_rotated_role old new role.Snapshot
+
+-- the stored root has other lists of keys than the new one
+abbrev pub rotates : Option (SignedDoc RootDoc) → RootDoc → Bool
+rotates None new = false
+rotates (Some old) new = is_rotated old.role new

@@ -7,11 +7,12 @@ ghost use Rattle.tough_keys.specs.Key.{key_doc};
 ghost use Rattle.tough_roles.specs.Roles.{role_cmp};
 ghost use Rattle.tough_roles.specs.Root.{root_doc};
 ghost use Rattle.tough_roles.specs.Keyring.{keys_along};
-ghost use Rattle.tough_checks.specs.Rotation.{key_in, same_keys, ids_of, is_rotated_role, is_rotated};
+ghost use Rattle.tough_checks.specs.Rotation.{key_in, same_keys, ids_of, is_rotated_role, is_rotated, rotates};
+ghost use Rattle.tough_checks.specs.StoredDocuments.{root_where};
 
 use tough_decoded::{Decoded, Hex};
 use tough_keys::Key;
-use tough_roles::{RoleType, Root};
+use tough_roles::{RoleType, Root, Signed};
 
 // The key of the identifier at that place.
 fn key_at<'a>(root: &'a Root, ids: &[Decoded<Hex>], place: usize) -> Option<&'a Key>
@@ -64,4 +65,14 @@ pub fn is_rotated(old: &Root, new: &Root) -> bool
     ensures { result ≡ is_rotated (root_doc old.now) (root_doc new.now) }
 {
     is_rotated_role(old, new, RoleType::Timestamp) || is_rotated_role(old, new, RoleType::Snapshot)
+}
+
+/// Whether the stored root, where there is one, has another list of keys of timestamp or snapshot.
+pub fn rotates(old: &Option<Signed<Root>>, new: &Root) -> bool
+    ensures { result ≡ rotates (root_where old.now) (root_doc new.now) }
+{
+    match old {
+        Some(old) => is_rotated(&old.signed, new),
+        None => false,
+    }
 }
