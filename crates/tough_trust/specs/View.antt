@@ -55,6 +55,11 @@ act_of (to.AdvanceSnapshot root listed new start enforcement) = act.AdvanceSnaps
 act_of (to.PutDelegated name d) = act.PutDocument (name_of name.now) (targets_text (signed_doc targets_doc d.now))
 act_of (to.PutTargets d) = act.PutDocument targets_file (targets_text (signed_doc targets_doc d.now))
 
+-- the stored root, as a keeper reads it
+abbrev pub read_doc : Result (Option (SignedDoc RootDoc)) StepError → Result (Option (SignedDoc RootDoc)) Failure
+read_doc (Ok r) = Ok r
+read_doc (Err e) = Err (step_failure e)
+
 abbrev pub step_doc : Result ⊤ StepError → Result Unit Failure
 step_doc (Ok u) = Ok (tt {0})
 step_doc (Err e) = Err (step_failure e)
