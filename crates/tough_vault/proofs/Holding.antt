@@ -1,5 +1,5 @@
 -- What the files hold after a write.
-use Rattle.std.proofs.Common.{◌≡◌, ◌≢◌, ℕ, ℤ, List, [], ◌∷◌, ◌++◌, Option, None, Some, Bool, false, slice_get, refl, sym, ap, ◌∙◌, subst, inl, inr, nat_eq, length, arith}
+use Rattle.std.proofs.Common.{◌≡◌, ◌≢◌, ℕ, ℤ, List, [], ◌∷◌, ◌++◌, Option, None, Some, Bool, true, false, slice_get, refl, sym, ap, ◌∙◌, subst, inl, inr, nat_eq, length, arith}
 use Rattle.std.proofs.lemmas.Bool.Decides.{nat_tests}
 use Rattle.tough_keys.specs.Same.{Verifies}
 use Rattle.tough_roles.specs.Chain.{ReachesUnder}

@@ -64,7 +64,7 @@ same_pair u v s w a b o p q =
     ∙ (ap (λ x. Timestamp (record { version = v; snapshot = x }) a) p ∙ ap (λ x. Timestamp (record { version = v; snapshot = w }) x) q)
 
 pub same_root : (u v : ℕ) (o p : Option (SignedDoc RootDoc)) (new : RootDoc) {b : Bool} → u ≡ v → b ≡ rotates o new → o ≡ p → Root u b ≡ Root v (rotates p new)
-same_root u v o p new n h e = ap (λ x. Root x _) n ∙ ap (Root v) (h ∙ ap (λ x. rotates x new) e)
+same_root u v o p new {b} n h e = ap (λ x. Root x b) n ∙ ap (Root v) (h ∙ ap (λ x. rotates x new) e)
 
 pub or_second : (a b : Option Reason) (r : Reason) → a ≡ None → b ≡ Some r → or_else a b ≡ Some r
 or_second a b r p q = ap (λ x. or_else x b) p ∙ q

@@ -24,7 +24,7 @@ use Rattle.tough_vault.proofs.Keeping.{Sound, kept, kept_refused, ended, apart}
 use Rattle.tough_vault.proofs.Taking.{takes}
 
 root_inj : (v w : ℕ) (a b : Bool) → Root v a ≡ Root w b → (v ≡ w) × (a ≡ b)
-root_inj v w a b h = cc
+root_inj v w a b h = (cc (h), cc (h))
 
 module _ {S : Type 0} (tells : Bool) (files : S → Files) (count : S → ℕ) (verifies : Verifies) (root : SignedDoc RootDoc) (old new : Parts S) (mid : S) where
   abbrev between : Parts S
@@ -43,7 +43,7 @@ module _ {S : Type 0} (tells : Bool) (files : S → Files) (count : S → ℕ) (
 
   -- a write that failed is one of a step that clears nothing
   unwritten : (p : Prepared) (e : StepError) → Unwritten tells files count between new e → Writes tells files count root_file p between new (Err e)
-  unwritten p e u = record { done = tt; stored = tt; fault = u.fault; broken = u.broken; same = u.same; elsewhere = u.elsewhere }
+  unwritten p e u = record { done = tt; stored = tt; fault = u.fault; broken = u.broken; same = λ is. u.same (cc (is)); elsewhere = u.elsewhere }
 
   -- ---- what a root's step does
 
@@ -97,12 +97,12 @@ module _ {S : Type 0} (tells : Bool) (files : S → Files) (count : S → ℕ) (
       (not_stored e (without e result h c))
 
 -- where it succeeded, what was prepared is so
-pub ready_on : {S : Type 0} (tells : Bool) (files : S → Files) (count : S → ℕ) {P : Type 0} (old new : Parts S) (prepared : Result Prepared StepError) (result : Result Receipt StepError)
+pub ready_on : {S : Type 0} (tells : Bool) (files : S → Files) (count : S → ℕ) (P : Type 0) (old new : Parts S) (prepared : Result Prepared StepError) (result : Result Receipt StepError)
     → ConcludesRoot tells files count prepared old new result → OnOk prepared P → OnOk result P
-ready_on tells files count old new (Ok p) (Ok r) c back = back
-ready_on tells files count old new (Ok p) (Err e) c back = tt
-ready_on tells files count old new (Err f) (Ok r) c back = absurd (cc (c.0))
-ready_on tells files count old new (Err f) (Err e) c back = tt
+ready_on tells files count P old new (Ok p) (Ok r) c back = back
+ready_on tells files count P old new (Ok p) (Err e) c back = tt
+ready_on tells files count P old new (Err f) (Ok r) c back = absurd (cc (c.0))
+ready_on tells files count P old new (Err f) (Err e) c back = tt
 
 -- ---- what a vault keeps
 

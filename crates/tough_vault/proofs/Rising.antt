@@ -4,7 +4,7 @@ use Rattle.std.proofs.lemmas.Bool.Decides.{nat_tests}
 use Rattle.std.specs.Int.Signed.{≤ℤ_refl}
 use Rattle.tough_vault.proofs.Instants.{no_later}
 use Rattle.tough_checks.specs.Versions.{Pair, Item, version_in, Roles}
-use Rattle.tough_vault.specs.Journal.{Note, Noted, Root, Timestamp, Snapshot, Cleared, Document, Broken, Last, no_tip, applied, replay, Rises, Legal, NothingGoesBack, RootsRise, KeepsNames, PairAtMost, RolesAtMost, has_at_least, has_cleared}
+use Rattle.tough_vault.specs.Journal.{Note, Noted, Root, Timestamp, Snapshot, Cleared, Document, Broken, Last, no_tip, applied, replay, Follows, Rises, Legal, NothingGoesBack, RootsRise, KeepsNames, PairAtMost, RolesAtMost, has_at_least, has_cleared}
 
 rises-behind : (tip : Last) (xs ys : List Note) → Rises tip (xs ++ ys) → Rises (replay tip xs) ys
 rises-behind tip [] ys h = h

@@ -1,6 +1,6 @@
 use Rattle.tough_roles.specs.Signature.{signed_doc}
 use Rattle.tough_roles.specs.Root.{root_doc}
-use Rattle.tough_vault.specs.Parts.{parts}
+use Rattle.tough_vault.specs.Parts.{RootReadsBack, parts}
 use Rattle.tough_vault.proofs.Putting.{puts, after_put, ready_on}
 use Rattle.tough_vault.proofs.vault.Vault.put_root.Goals as goal
 
@@ -8,7 +8,7 @@ pub returns-clause-puts : goal.returns-clause-puts
 returns-clause-puts g c = puts _ _ _ _ _ _ _ _ _ _ c.prepare_root-prepared.ensures.step c.conclude_root.ensures
 
 pub returns-clause-back : goal.returns-clause-back
-returns-clause-back g c = ready_on _ _ _ _ _ c.prepare_root-prepared.result c.conclude_root.result c.conclude_root.ensures c.prepare_root-prepared.ensures.back
+returns-clause-back g c = ready_on _ _ _ (RootReadsBack (signed_doc root_doc c.args.root.now)) _ _ c.prepare_root-prepared.result c.conclude_root.result c.conclude_root.ensures c.prepare_root-prepared.ensures.back
 
 pub invariant_of-self : goal.invariant_of-self
 invariant_of-self g c =
