@@ -1,6 +1,6 @@
 -- Where the files have no root after the one that was handed in, none is stored before the walk's end.
-use Rattle.std.specs.Prelude.{◌≡◌, ℕ, ◌+◌, ℤ, List, [], Option, Some, None, Bool, ⊤, Result, Ok, Err}
-use Rattle.std.proofs.Common.{refl, sym, ap, ◌∙◌, subst}
+use Rattle.std.specs.Prelude.{◌≡◌, ℕ, ◌+◌, ℤ, List, [], Option, Some, None, ⊤, Result, Ok, Err}
+use Rattle.std.proofs.Common.{sym, ap, ◌∙◌, subst}
 use Rattle.tough_keys.specs.Same.{Verifies}
 use Rattle.tough_names.specs.Named.{Named}
 use Rattle.tough_roles.specs.Root.{RootDoc}
@@ -26,7 +26,7 @@ use Rattle.tough_update.specs.Questions as ask
 use Rattle.tough_update.specs.Answered.{AnswerDoc}
 use Rattle.tough_update.specs.Answered as got
 use Rattle.tough_update.specs.Loadable.{Files, Gets, Honest}
-use Rattle.tough_update.specs.Machine.{walked, walk_from, walk_ended, want_snapshot, known_of, want_targets, read_wanted, after, stage_after, settled, question_at}
+use Rattle.tough_update.specs.Machine.{walked, walk_from, want_snapshot, known_of, want_targets, read_wanted, after, stage_after, settled, question_at}
 use Rattle.tough_update.proofs.Turning.{Fine, if-fine, and_then-fine, walking, ending, beginning, reading, keeps-answer}
 
 -- no root but the walk's last one is to be stored

@@ -1,5 +1,5 @@
 -- The journal one entry longer.
-use Rattle.std.proofs.Common.{◌≡◌, ◌⊎◌, ℕ, suc, zero, List, [], ◌∷◌, ◌++◌, Option, Some, true, false, slice_get, refl, inl, inr}
+use Rattle.std.proofs.Common.{◌≡◌, ◌⊎◌, ℕ, suc, zero, List, [], ◌∷◌, ◌++◌, Some, true, false, slice_get, refl, inl, inr}
 use Rattle.tough_checks.specs.Files.{IsFree}
 use Rattle.tough_vault.specs.Journal.{Note, Noted, Root, Timestamp, Snapshot, Cleared, Document, Broken, Last, applied, replay, Follows, Rises, has_broken}
 use Rattle.tough_vault.specs.Parts.{NamesFree}

@@ -1,9 +1,9 @@
 -- A root's step is its first part and its last part, and a vault keeps through it all that it keeps.
-use Rattle.std.proofs.Common.{◌≡◌, ◌≢◌, ℕ, List, [], ◌∷◌, ◌++◌, Option, Some, None, Result, Ok, Err, OnOk, IfErr, Bool, true, false, refl, sym, ap, ◌∙◌, subst, inl, inr}
+use Rattle.std.proofs.Common.{◌≡◌, ◌≢◌, ℕ, [], ◌∷◌, ◌++◌, Result, Ok, Err, OnOk, Bool, true, false, refl, sym, ap, ◌∙◌, subst, inl, inr}
 use Rattle.tough_keys.specs.Same.{Verifies}
 use Rattle.tough_roles.specs.Root.{RootDoc}
 use Rattle.tough_roles.specs.Signature.{SignedDoc}
-use Rattle.tough_checks.specs.Checks.{first_of, root_after}
+use Rattle.tough_checks.specs.Checks.{first_of}
 use Rattle.tough_checks.specs.Documents.{root_text}
 use Rattle.tough_checks.specs.Files.{root_file}
 use Rattle.tough_checks.specs.Rotation.{rotates}
@@ -11,11 +11,11 @@ use Rattle.tough_checks.specs.StoredDocuments.{stored_root}
 use Rattle.tough_checks.specs.declared.checks.StepError.{StepError}
 use Rattle.tough_vault.specs.declared.entry.Receipt.{Receipt}
 use Rattle.tough_vault.specs.declared.parts.Prepared.{Prepared}
-use Rattle.tough_vault.specs.Journal.{Note, Noted, Root, Timestamp, Snapshot, Cleared, Document, Broken, Last, note_of, entry_of}
-use Rattle.tough_vault.specs.Parts.{Carries, RootReadsBack, Prepares, Writes, Concludes}
+use Rattle.tough_vault.specs.Journal.{Note, Root, note_of}
+use Rattle.tough_vault.specs.Parts.{RootReadsBack, Prepares, Writes, Concludes}
 use Rattle.tough_vault.specs.Puts.{Stores, Replaces, Puts}
-use Rattle.tough_vault.specs.Rotated.{Written, Unwritten, IsUnwrittenAs, WritesAnew, ConcludesAs, ConcludesRoot}
-use Rattle.tough_vault.specs.Step.{Parts, Passes, Takes}
+use Rattle.tough_vault.specs.Rotated.{Unwritten, WritesAnew, ConcludesAs, ConcludesRoot}
+use Rattle.tough_vault.specs.Step.{Parts, Takes}
 use Rattle.tough_vault.specs.Steps.{needs, root_step}
 use Rattle.tough_vault.specs.Stored.{Files}
 use Rattle.tough_vault.proofs.Fitting.{fits_root, root_follows, own_root}

@@ -1,17 +1,16 @@
 -- A root that is stored ends a chain from one that was handed in.
 use Rattle.std.proofs.Common.{◌≡◌, ℕ, List, [], ◌∷◌, ◌++◌, Option, Some, None, Result, Ok, Err, Bool, true, false, ◌⊎◌, inl, inr, refl, sym, ap, ◌∙◌, subst}
-use Rattle.std.specs.Prelude.{⊤, slice_set}
+use Rattle.std.specs.Prelude.{⊤}
 use Rattle.tough_keys.specs.Same.{Verifies}
 use Rattle.tough_roles.specs.Root.{RootDoc}
 use Rattle.tough_roles.specs.Signature.{SignedDoc}
 use Rattle.tough_checks.specs.Files.{root_file}
 use Rattle.tough_checks.specs.StoredDocuments.{stored_root}
-use Rattle.tough_vault.specs.Act.{Act, PutRoot, Acts}
+use Rattle.tough_vault.specs.Act.{Act}
 use Rattle.tough_vault.specs.Journal.{Note, has_broken}
-use Rattle.tough_vault.specs.Step.{Parts, Finds}
-use Rattle.tough_vault.specs.Stored.{Files, SameFiles}
+use Rattle.tough_vault.specs.Step.{Parts}
+use Rattle.tough_vault.specs.Stored.{Files}
 use Rattle.tough_vault.proofs.Journals.{some_inj}
-use Rattle.tough_trust.specs.Walk.{first_root, next_root}
 use Rattle.tough_trust.proofs.lemmas.Walking.{first-passed, next-fine}
 use Rattle.tough_update.specs.declared.machine.Core.{Core}
 use Rattle.tough_update.specs.Answered.{AnswerDoc}
@@ -26,13 +25,13 @@ use Rattle.tough_world.specs.declared.turns.Answer.TheVariants as by
 use Rattle.tough_world.specs.declared.turns.Turn.{Turn}
 use Rattle.tough_world.specs.declared.turns.TurnError.{TurnError}
 use Rattle.tough_world.specs.declared.turns.TurnError.TheVariants.{NotAsked, Misfit}
-use Rattle.tough_world.specs.Lives.{joined, BeginFresh, IsGivenTo, IsGivenIn, IsChained, begun, Lives, TurnSteps}
+use Rattle.tough_world.specs.Lives.{joined, BeginFresh, IsGivenTo, IsGivenIn, IsChained, begun, Lives}
 use Rattle.tough_world.specs.Steps.{all_notes}
 use Rattle.tough_world.specs.Turns.{WorldDoc, Replies, Turned, Runs}
 use Rattle.tough_world.proofs.Lists.{unbroken-front, unbroken-behind}
 use Rattle.tough_world.proofs.Living.{AllSure, AllBegin, sure-get, sure-set, all-fresh, all-read}
 use Rattle.tough_world.proofs.Roots.{Roots, acts}
-use Rattle.tough_world.proofs.Standing.{WasRead, Stands, Tells, Begins, HandsOn, Sure, next-read, first-read, goes-sure}
+use Rattle.tough_world.proofs.Standing.{WasRead, Begins, HandsOn, next-read, goes-sure}
 use Rattle.tough_world.proofs.Telling.{replies-tell-of}
 use Rattle.tough_world.proofs.Walking.{GivesGood, Sane, asked-sane, acts-grows, turned-turns, run-moves}
 

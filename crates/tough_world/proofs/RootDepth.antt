@@ -1,9 +1,9 @@
 -- A root that was read from bytes nests, as it is written, no deeper than is read, and its keys stand under their own identifiers.
-use Rattle.std.proofs.Common.{◌≡◌, ◌≤◌, ℕ, zero, suc, List, [], ◌∷◌, Option, None, Some, option_and_then, is_none, Ordering, Less, Equal, Greater, codes, refl, sym, ap, ◌∙◌, subst, arith}
+use Rattle.std.proofs.Common.{◌≡◌, ◌≤◌, ℕ, suc, List, [], ◌∷◌, Option, None, Some, option_and_then, is_none, Ordering, Less, Equal, Greater, codes, refl, sym, ap, ◌∙◌, subst, arith}
 use Rattle.std.specs.BTreeMap.{insert_entry, is_at}
 use Rattle.std.specs.Map.{lookup}
 use Rattle.std.specs.Ordering.{match_ordering}
-use Rattle.std.specs.Prelude.{max, Bool, true, false, if◌then◌else◌}
+use Rattle.std.specs.Prelude.{Bool, true, false, if◌then◌else◌}
 use Rattle.std.specs.Str.{bytes_eq}
 use Rattle.serde_json.specs.Read.{max_depth}
 use Rattle.serde_json.specs.Data.{Data, boolean, string, array, object, Members, no_members, member, depth, members_depth, Items, item, items_depth}
@@ -16,14 +16,14 @@ use Rattle.tough_json.specs.Writing.{with, stands_for, positive_json, decoded_js
 use Rattle.tough_json.proofs.lemmas.Write.{bind_ok, some-inj}
 use Rattle.tough_keys.specs.Key.{KeyDoc, kind_at, scheme_at, kind_name, scheme_name, public_bytes, keyval_at, key_at, keyval_json, kind_json, key_json, key_id_of}
 use Rattle.tough_keys.specs.declared.kind.Kind.{Kind}
-use Rattle.tough_roles.specs.Head.{Head, head_at, head_json}
+use Rattle.tough_roles.specs.Head.{head_at, head_json}
 use Rattle.tough_roles.specs.Readable.{NestsWithin}
 use Rattle.tough_roles.specs.Roles.{role_type, role_name, role_cmp}
 use Rattle.tough_roles.specs.Root.{RootDoc, RoleKeysDoc, AreOwn, by_bytes, if_own, key_entry_at, keys_at, keys_json, id_name, role_keys_at, role_keys_json, role_entry_at, roles_at, roles_json, root_at, tables_json, root_json}
-use Rattle.tough_roles.specs.Signature.{SignatureDoc, SignedDoc, signed_parts, signed_at, signed_json}
+use Rattle.tough_roles.specs.Signature.{SignedDoc, signed_parts, signed_at, signed_json}
 use Rattle.tough_roles.specs.declared.role_type.RoleType.{RoleType}
 use Rattle.tough_roles.proofs.lemmas.Entry.{root-own}
-use Rattle.tough_world.proofs.Shallow.{Below, both, first, second, with-below, get-below, some-below, Came, came, left-below, inside, outside, text-if, number-flat, flat, and_ok, AddsNone, head-left, head-written, shallow}
+use Rattle.tough_world.proofs.Shallow.{Below, both, first, second, with-below, get-below, some-below, came, left-below, inside, outside, text-if, number-flat, flat, and_ok, AddsNone, head-left, head-written, shallow}
 
 -- ---- tables
 

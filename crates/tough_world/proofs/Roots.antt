@@ -1,7 +1,6 @@
 -- No root that is accepted is older than one accepted before on the same store, while it tells its files and no write failed.
-use Rattle.std.proofs.Common.{◌≡◌, ◌≢◌, ℕ, ◌≤◌, List, [], ◌∷◌, ◌++◌, Option, None, Some, option_and_then, Result, Ok, Err, OnOk, Bool, true, false, nat_lt, ◌⊎◌, refl, sym, ap, ◌∙◌, subst, inl, inr, append_assoc}
+use Rattle.std.proofs.Common.{◌≡◌, ◌≢◌, ℕ, ◌≤◌, List, [], ◌∷◌, ◌++◌, Option, None, Some, Result, Ok, Err, OnOk, Bool, true, false, nat_lt, ◌⊎◌, refl, sym, ap, ◌∙◌, subst, inl, inr, append_assoc}
 use Rattle.std.proofs.lemmas.List.{append-nil}
-use Rattle.std.specs.Prelude.{⊤}
 use Rattle.tough_json.specs.Reading.{◌>>=◌}
 use Rattle.tough_keys.specs.Same.{Verifies}
 use Rattle.tough_roles.specs.Root.{RootDoc}
@@ -9,9 +8,9 @@ use Rattle.tough_roles.specs.Signature.{SignedDoc}
 use Rattle.tough_roles.specs.declared.role_type.RoleType.TheVariants as role
 use Rattle.tough_checks.specs.Checks.{OlderMetadata, first_of, verified, root_against, root_tip, root_after}
 use Rattle.tough_checks.specs.Documents.{root_in, root_text, root_verdict}
-use Rattle.tough_checks.specs.Files.{time_file, root_file, timestamp_file, snapshot_file}
+use Rattle.tough_checks.specs.Files.{root_file}
 use Rattle.tough_checks.specs.Rotation.{rotates}
-use Rattle.tough_checks.specs.StoredDocuments.{if_verified, stored_root, stored_timestamp, stored_snapshot}
+use Rattle.tough_checks.specs.StoredDocuments.{if_verified, stored_root}
 use Rattle.tough_checks.specs.declared.checks.StepError.{StepError}
 use Rattle.tough_checks.specs.declared.checks.StepError.TheVariants.{Refused as ByCheck, DatastoreOpen, DatastoreCreate, DatastoreRemove, Memory}
 use Rattle.tough_vault.specs.declared.entry.Receipt.{Receipt}

@@ -1,5 +1,5 @@
 -- Lives as steps on one store, whatever policies their roots ask.
-use Rattle.std.proofs.Common.{◌≡◌, ℕ, List, [], ◌∷◌, ◌++◌, Option, Some, None, Result, Ok, Err, Bool, true, false, refl, sym, ap, ◌∙◌, subst, inl, inr, append_assoc}
+use Rattle.std.proofs.Common.{◌≡◌, ℕ, List, [], ◌∷◌, ◌++◌, Result, Ok, Err, Bool, true, false, refl, sym, ap, ◌∙◌, subst, inl, inr, append_assoc}
 use Rattle.std.proofs.lemmas.List.{append-nil}
 use Rattle.std.specs.Prelude.{⊤}
 use Rattle.tough_keys.specs.Same.{Verifies}
@@ -28,7 +28,7 @@ use Rattle.tough_world.specs.declared.turns.Answer.TheVariants as by
 use Rattle.tough_world.specs.declared.turns.Turn.{Turn}
 use Rattle.tough_world.specs.declared.turns.TurnError.{TurnError}
 use Rattle.tough_world.specs.declared.turns.TurnError.TheVariants.{NotAsked, Misfit}
-use Rattle.tough_world.specs.Lives.{joined, BeginFresh, begun, Lives, StepsOf, TurnSteps, RunSteps, LivesSteps, TakenIn}
+use Rattle.tough_world.specs.Lives.{joined, BeginFresh, begun, Lives, StepsOf, TurnSteps, RunSteps, TakenIn}
 use Rattle.tough_world.specs.Steps.{IsProper, IsRead, Taken, all_notes, AllProper, AllRead, Trail}
 use Rattle.tough_world.specs.Turns.{WorldDoc, Replies, Turned, Runs}
 use Rattle.tough_world.proofs.Living.{AllSure, sure-get, sure-set, all-fresh, all-read, read-on}

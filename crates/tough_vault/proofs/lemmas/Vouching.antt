@@ -12,7 +12,7 @@ use Rattle.tough_roles.proofs.lemmas.Reached.{ok-reaches}
 use Rattle.tough_checks.specs.Documents.{root_in, root_verdict}
 use Rattle.tough_checks.specs.StoredDocuments.{if_verified, stored_root, newer_root}
 use Rattle.tough_checks.specs.declared.checks.StepError.{StepError}
-use Rattle.tough_vault.specs.Looking.{VouchesRoot, VouchesLook, Sees, Looks}
+use Rattle.tough_vault.specs.Looking.{VouchesRoot, VouchesLook, Looks}
 use Rattle.tough_vault.specs.Step.{Parts}
 use Rattle.tough_vault.specs.Stored.{Files}
 

@@ -1,4 +1,4 @@
-use Rattle.std.proofs.Common.{◌≤◌, ◌+◌, Ok, Err}
+use Rattle.std.proofs.Common.{◌≤◌, ◌+◌}
 use Rattle.tough_load.specs.Words as load
 use Rattle.tough_shared.specs.Keeping.{next_of, shared_keeps, shared_reads}
 use Rattle.tough_shared.proofs.Rising.{at-least}

@@ -1,14 +1,12 @@
 use Rattle.std.proofs.Common.{[], ◌∷◌, sym, ap, ◌∙◌}
 use Rattle.tough_roles.specs.Root.{root_at, root_doc, root_json}
-use Rattle.tough_roles.specs.Signature.{signed_doc}
 use Rattle.tough_checks.specs.Checks.{root_after, first_of}
-use Rattle.tough_checks.specs.Documents.{root_text}
 use Rattle.tough_checks.specs.StoredDocuments.{content}
 use Rattle.tough_checks.specs.declared.checks.Refusal.TheVariants.{DatastoreSerialize}
 use Rattle.tough_checks.specs.declared.checks.StepError.TheVariants.{Refused}
 use Rattle.tough_vault.specs.Steps.{needs}
 use Rattle.tough_vault.proofs.Backs.{reads-back}
-use Rattle.tough_vault.proofs.Preparing.{prepared, refused_after, checked_more, checked_at, or_none, or_second, needs_none, same_root}
+use Rattle.tough_vault.proofs.Preparing.{prepared, refused_after, checked_more, checked_at, or_none, or_second, same_root}
 use Rattle.tough_vault.proofs.root_step.prepare_root.Goals as goal
 
 pub returns-in-Err-check_root_late-clause-step : goal.returns-in-Err-check_root_late-clause-step
