@@ -12,9 +12,9 @@ returns-clause-nodes c =
     first-stepped c.args.steps.now.items c.push.new.self.items c.push-2.new.self.items c.push-3.new.self.items (node_spans found.items) (node_spans c.push-4.new.self.items)
     c.in-Some.role c.in-Some.others c.roles_under.result c.args.roles.now c.len.result
     c.in_ok-push.ensures.items c.in_ok-push-2.ensures.items c.in_ok-push-3.ensures.items (spans-push found.items c.push-4.new.self.items node c.in_ok-push-4.ensures.items)
-    (c.len.ensures ∙ size ∙ sym (length-node_spans found.items)) c.in-Some.ensures.cases.0 c.roles_under.ensures
+    (c.len.ensures ∙ size ∙ sym (length-node_spans found.items)) c.in-Some.ensures.cases.0 c.roles_under.ensures.branches
 
 pub returns-clause-fewer : goal.returns-clause-fewer
 returns-clause-fewer c =
     first-fewer c.args.steps.now.items c.push.new.self.items c.push-2.new.self.items c.push-3.new.self.items c.in-Some.role c.in-Some.others c.roles_under.result c.args.roles.now c.len.result
-    c.in_ok-push.ensures.items c.in_ok-push-2.ensures.items c.in_ok-push-3.ensures.items c.in-Some.ensures.cases.0 c.roles_under.ensures
+    c.in_ok-push.ensures.items c.in_ok-push-2.ensures.items c.in_ok-push-3.ensures.items c.in-Some.ensures.cases.0 c.roles_under.ensures.branches

@@ -43,9 +43,9 @@ returns-clause-passed c =
     ∙ step-push c.enter.new.steps.items (Visit below is_open) (pass with_it new more)
     ∙ c.in_ok-enter.ensures.back (names_past (names_in new) (role_branches below.now)) (names_of more ++ strays (names_in new) (way is_open with_it) (role_branches below.now))
     ∙ ap (all_stepped c.args.steps.now.items)
-    (document-passed c.args.above.now.items with_it set new found more r c.in-Some.signed c.args.is_open first below.now named c.in-Some.is new_name c.in_ok-enter.ensures.way c.roles_of.ensures own)
+    (document-passed c.args.above.now.items with_it set new found more r c.in-Some.signed c.args.is_open first below.now named c.in-Some.is new_name c.in_ok-enter.ensures.way c.roles_of.ensures.branches own)
 
 pub returns-clause-few : goal.returns-clause-few
 returns-clause-few c =
     let is_open = c.args.is_open && not c.contains.result in
-    omega (arith, ap weights c.in_ok-push.ensures.items, weights-push c.enter.new.steps.items (Visit c.roles_of.result is_open), c.in_ok-enter.ensures.few, ap count c.roles_of.ensures, ap count (under-some c.args.role.now c.in-Some.signed c.in-Some.is))
+    omega (arith, ap weights c.in_ok-push.ensures.items, weights-push c.enter.new.steps.items (Visit c.roles_of.result is_open), c.in_ok-enter.ensures.few, ap count c.roles_of.ensures.branches, ap count (under-some c.args.role.now c.in-Some.signed c.in-Some.is))
