@@ -1,7 +1,9 @@
 -- Keeping components one by one.
 use Rattle.std.proofs.Common.{◌≡◌, ℕ, Bool, true, false, List, [], ◌∷◌, ◌++◌, refl, sym, ◌∙◌, ap, take, length, ◌-◌, map, Bor, cond}
 use Rattle.std.proofs.lemmas.List.{map-append, take-map, length-map}
-use Rattle.tough_names.specs.Clean.{keep, keep_all, is_idle, is_parent}
+use Rattle.std.proofs.lemmas.List.Splits.{join_with_byte-slice_split}
+use Rattle.std.specs.List.{join_with_byte}
+use Rattle.tough_names.specs.Clean.{components, keep, keep_all, kept_of, mark, resolve, is_idle, is_parent}
 
 pub keep_all-snoc : (kept xs : List (List ℕ)) (x : List ℕ) → keep_all kept (xs ++ x ∷ []) ≡ keep (keep_all kept xs) x
 keep_all-snoc kept [] x = refl
@@ -32,3 +34,10 @@ keeps_idle kept x e f = sym (chosen_second _ (is_parent x.now) _ _ e ∙ chosen_
 
 pub keeps_named : (kept : List (Bor (List ℕ))) (x : Bor (List ℕ)) → is_parent x.now ≡ false → is_idle x.now ≡ false → texts (kept ++ x ∷ []) ≡ keep (texts kept) x.now
 keeps_named kept x e f = map-append (λ y. y.now) kept (x ∷ []) ∙ sym (chosen_second _ (is_parent x.now) _ _ e ∙ chosen_second _ (is_idle x.now) _ _ f)
+
+-- a text of which each component is kept, and with no slash before the first, resolves to itself
+pub all_kept : (text : List ℕ) (seen : List (Bor (List ℕ))) → mark text ≡ [] → texts seen ≡ components text → texts seen ≡ keep_all [] (texts seen) → resolve text ≡ text
+all_kept text seen m e h =
+    ap (λ t. t ++ join_with_byte 47 (kept_of text)) m
+    ∙ ap (join_with_byte 47) (ap (keep_all []) (sym e) ∙ sym h ∙ e)
+    ∙ join_with_byte-slice_split 47 text

@@ -3,6 +3,7 @@ pub mod Keeping
 pub mod Joining
 pub mod Safe
 pub mod Cleaned
+pub mod Alone
 pub mod Greedy
 pub mod Retry
 pub mod Texts

@@ -1,5 +1,5 @@
 -- A target name, and which texts are refused.
-use Rattle.std.specs.Prelude.{◌≡◌, ◌≢◌, ℕ, List, [], Result, Ok, Err, bytes_eq, codes, if◌then◌else◌}
+use Rattle.std.specs.Prelude.{◌≡◌, ◌≢◌, ℕ, List, [], length, ◌==◌, Result, Ok, Err, bytes_eq, codes, if◌then◌else◌}
 use Rattle.tough_names.specs.declared.name.NameError.{NameError}
 use Rattle.tough_names.specs.declared.name.NameError.TheVariants.{UnsafeTargetNameDotDot, UnsafeTargetNameEmpty, UnsafeTargetNameSlash, Memory}
 use Rattle.std.specs.declared.cmp.Ordering.{Ordering}
@@ -19,6 +19,10 @@ clean text =
     else if bytes_eq (resolve text) [] then Err UnsafeTargetNameEmpty
     else if bytes_eq (resolve text) (codes "/") then Err UnsafeTargetNameSlash
     else Ok (resolve text)
+
+-- the other text, or the first where that is empty
+abbrev pub unless_empty : List ℕ → List ℕ → List ℕ
+unless_empty text other = if length other == 0 then text else other
 
 abbrev pub by_raw_then_resolved : Named → Named → Ordering
 by_raw_then_resolved = then_cmp (on (λ n. n.raw) (slice_cmp nat_cmp)) (on (λ n. n.resolved) (slice_cmp nat_cmp))

@@ -1,5 +1,5 @@
 //! Target names and what they resolve to.
-ghost use Rattle.std.specs.Prelude.{◌≡◌, ◌≢◌, Ok, Err, IfOk, IfErr, string_bytes, bytes_eq, ◌&&◌, codes, ◌++◌, [], map};
+ghost use Rattle.std.specs.Prelude.{◌≡◌, ◌≢◌, Ok, Err, IfOk, IfErr, IsTrue, string_bytes, bytes_eq, ◌&&◌, codes, ◌++◌, [], map};
 ghost use Rattle.std.specs.List.{join_with_byte};
 ghost use Rattle.tough_names.specs.Clean.{kept_of, resolve, IsSafe, ResolvesOnce};
 ghost use Rattle.std.proofs.Common.{rules};
@@ -11,6 +11,7 @@ ghost use Rattle.std.specs.Cmp.{partial_order_from_own_ties, both_tied};
 ghost use Rattle.std.specs.Cmp.Lexicographic.{texts_ties};
 ghost use Rattle.tough_names.specs.Named.{by_raw_then_resolved};
 ghost use Rattle.tough_names.specs.Clean as spec;
+ghost use Rattle.tough_names.specs.Named as named;
 
 use std::alloc::{AllocError, Global};
 use std::cmp::Ordering;
@@ -49,18 +50,24 @@ impl From<AllocError> for NameError {
 #[derive(Debug, Drop)]
 pub struct TargetName {
     raw: String,
-    resolved: String,
+
+    // What the name resolves to. The empty text stands for the raw one.
+    other: String,
 }
 
 impl Model for TargetName {
     ghost use Rattle.std.specs.Prelude.{◌≡◌, Ok, string_bytes};
-    ghost use Rattle.tough_names.specs.Named.{Named, clean};
+    ghost use Rattle.tough_names.specs.Named.{Named, clean, unless_empty};
 
     ghost Value = { Named };
 
-    ghost view = { λ n. record { raw = string_bytes n.raw; resolved = string_bytes n.resolved } };
+    ghost view = { λ n. record {
+      raw = string_bytes n.raw;
+      resolved = unless_empty (string_bytes n.raw) (string_bytes n.other);
+    } };
 
-    ghost invariant = { λ n. clean (string_bytes n.raw) ≡ Ok (string_bytes n.resolved) };
+    ghost invariant = { λ n. clean (string_bytes n.raw)
+        ≡ Ok (unless_empty (string_bytes n.raw) (string_bytes n.other)) };
 }
 
 impl TargetName {
@@ -79,6 +86,12 @@ impl TargetName {
         if raw.is_empty() {
             return Err(NameError::UnsafeTargetNameEmpty);
         }
+        if raw.as_str() != "/" && is_resolved(raw.as_str()) {
+            return Ok(TargetName {
+                raw,
+                other: String::new(alloc),
+            });
+        }
         let resolved = resolved_text(alloc, raw.as_str())?;
         if resolved.is_empty() {
             return Err(NameError::UnsafeTargetNameEmpty);
@@ -86,7 +99,10 @@ impl TargetName {
         if resolved.as_str() == "/" {
             return Err(NameError::UnsafeTargetNameSlash);
         }
-        Ok(TargetName { raw, resolved })
+        Ok(TargetName {
+            raw,
+            other: resolved,
+        })
     }
 
     /// The name that a text is, or the first refusal, as `new` has it.
@@ -114,7 +130,7 @@ impl TargetName {
         ensures parts { IsSafe result.now }
         ensures again { resolve result.now ≡ result.now }
     {
-        self.resolved.as_str()
+        unless_empty(self.raw.as_str(), self.other.as_str())
     }
 }
 
@@ -137,7 +153,7 @@ impl Clone for TargetName {
     fn clone(&self) -> Result<TargetName, AllocError> {
         Ok(TargetName {
             raw: self.raw.clone()?,
-            resolved: self.resolved.clone()?,
+            other: self.other.clone()?,
         })
     }
 }
@@ -148,7 +164,7 @@ impl PartialEq for TargetName {
     ghost laws = { Prim.search (comparing, rules) };
 
     fn eq(&self, other: &TargetName) -> bool {
-        self.raw == other.raw && self.resolved == other.resolved
+        self.raw == other.raw
     }
 }
 
@@ -178,10 +194,7 @@ impl Ord for TargetName {
         (texts_ties a.resolved b.resolved) };
 
     fn cmp(&self, other: &TargetName) -> Ordering {
-        self.raw
-            .as_str()
-            .cmp(other.raw.as_str())
-            .then(self.resolved.as_str().cmp(other.resolved.as_str()))
+        self.raw.as_str().cmp(other.raw.as_str())
     }
 }
 
@@ -192,8 +205,15 @@ impl Hash for TargetName {
 
     fn hash<H: Hasher>(&self, state: &mut H) {
         self.raw.as_str().hash(state);
-        self.resolved.as_str().hash(state);
+        self.resolved().hash(state);
     }
+}
+
+// The other text, or the first where that is empty.
+fn unless_empty<'a>(text: &'a str, other: &'a str) -> &'a str
+    ensures { result.now ≡ named.unless_empty text.now other.now }
+{
+    if other.is_empty() { text } else { other }
 }
 
 /// Whether a component says nothing.
@@ -223,6 +243,21 @@ fn kept_components(alloc: Global, text: &str) -> Result<Vec<&str>, AllocError>
         }
     }
     Ok(kept)
+}
+
+// Whether the text has no component that is taken out, and no slash before the first.
+fn is_resolved(text: &str) -> bool
+    ensures { IsTrue result → resolve text.now ≡ text.now }
+{
+    if text.starts_with('/') {
+        return false;
+    }
+    for component in text.split('/') {
+        if is_parent(component) || is_idle(component) {
+            return false;
+        }
+    }
+    true
 }
 
 /// The text that a name resolves to.
