@@ -37,11 +37,11 @@ where
     V: Verify + Drop,
     requires { CanPoll T.Stream.can_poll (part.fetch_of load) }
     ensures done { IfOk result
-        (λ both. Finishes T.refuses T.serves K.keeps C.may_give T.Stream.yields V.verifies load
-        (outcome_doc both.0) both.1) }
+        (λ both. Finishes T.refuses T.serves K.keeps K.reads C.may_give T.Stream.yields V.verifies
+        load (outcome_doc both.0) both.1) }
     ensures trusted { (from : _) → IsBegun from load
         → IfOk result (λ both. IfOk (outcome_doc both.0)
-        (Vouches T.refuses T.serves K.keeps C.may_give T.Stream.yields
+        (Vouches T.refuses T.serves K.keeps K.reads C.may_give T.Stream.yields
         (V.verifies (verifier_of from)) (part.base_of load) (transport_of from)
         (first_core (settings_of from)) (held_of from)
         (core_doc (part.core_of both.1)) (part.held_of both.1))) }
@@ -65,10 +65,10 @@ where
     V: Verify + Drop,
     requires { CanPoll T.Stream.can_poll (part.fetch_of load) }
     ensures done { IfOk result
-        (Opens T.refuses T.serves K.keeps C.may_give T.Stream.yields V.verifies load) }
+        (Opens T.refuses T.serves K.keeps K.reads C.may_give T.Stream.yields V.verifies load) }
     ensures trusted { (from : _) → IsBegun from load
         → IfOk result (λ r. IfOk r
-        (VouchesFor T.refuses T.serves K.keeps C.may_give T.Stream.yields V.verifies from
+        (VouchesFor T.refuses T.serves K.keeps K.reads C.may_give T.Stream.yields V.verifies from
         (part.base_of load))) }
 {
     match drive_on(rt, runtime, load) {

@@ -10,18 +10,20 @@ use Rattle.tough_json.specs.declared.error.ReadError.TheVariants as errors
 use Rattle.tough_keys.specs.Same.{Verifies}
 use Rattle.tough_roles.specs.Document.{IsSigned, IsNotSigned, ReadsText}
 use Rattle.tough_roles.specs.Policy.{policy}
-use Rattle.tough_roles.specs.Root.{RootDoc}
+use Rattle.tough_roles.specs.Root.{RootDoc, root_doc, root_at}
 use Rattle.tough_roles.specs.Signature.{SignedDoc, signed_at, signed_doc}
 use Rattle.tough_roles.specs.Snapshot.{snapshot_doc}
 use Rattle.tough_roles.specs.Timestamp.{timestamp_doc}
 use Rattle.tough_roles.specs.Verdict.{Refused, MissingRole, verdict}
 use Rattle.tough_roles.specs.declared.role_type.RoleType.{RoleType}
+use Rattle.tough_roles.specs.declared.root.Root.{Root}
 use Rattle.tough_roles.specs.declared.signed.Signed.{Signed}
 use Rattle.tough_roles.specs.declared.snapshot.Snapshot.{Snapshot}
 use Rattle.tough_roles.specs.declared.timestamp.Timestamp.{Timestamp}
 use Rattle.tough_roles.proofs.lemmas.Signed.{signed-read, signed-refused}
 use Rattle.tough_checks.specs.Checks.{timestamp_where, snapshot_where}
-use Rattle.tough_checks.specs.StoredDocuments.{IsAccepted, if_verified}
+use Rattle.tough_checks.specs.Documents.{root_verdict}
+use Rattle.tough_checks.specs.StoredDocuments.{IsAccepted, IsAcceptedRoot, root_where, if_verified}
 
 verified-map : {A B : Type 0} (f : A → B) (r : Result Unit Refused) (a : A) → option_map f (if_verified r a) ≡ if_verified r (f a)
 verified-map f (Ok u) a = refl
@@ -60,3 +62,26 @@ timestamp-stored o x h = timestamp-map o ∙ h
 
 pub snapshot-stored : (o : Option Snapshot) (x : Option _) → option_map snapshot_doc o ≡ x → snapshot_where o ≡ x
 snapshot-stored o x h = snapshot-map o ∙ h
+
+-- ---- roots
+
+root-map : (o : Option (Signed Root)) → root_where o ≡ option_map (signed_doc root_doc) o
+root-map None = refl
+root-map (Some r) = refl
+
+-- the root that was read is that of the bytes, where it verifies itself
+root-accepted : (verifies : Verifies) (bytes : List ℕ) (read : Result (Signed Root) ReadError) (old : Option (Signed Root))
+    → ReadsText (IsSigned (λ e x. root_at e ≡ Some (root_doc x))) (IsNotSigned (λ e. root_at e ≡ None)) read bytes
+    → IsAcceptedRoot verifies read old
+    → option_map (signed_doc root_doc) old ≡ (option_and_then (signed_at root_at) (json_of bytes) >>= λ d. if_verified (root_verdict verifies d.role d) d)
+root-accepted verifies bytes (Ok s) old (d, is, h) accepted =
+    rw (is, signed-read root_at root_doc d s h) (ap (option_map (signed_doc root_doc)) accepted ∙ verified-map (signed_doc root_doc) (root_verdict verifies (root_doc s.signed) (signed_doc root_doc s)) s)
+root-accepted verifies bytes (Err (errors.Json place)) old none accepted = rw none (ap (option_map (signed_doc root_doc)) accepted)
+root-accepted verifies bytes (Err (errors.Shape told)) old (d, is, apart) accepted = rw (is, signed-refused root_at d apart) (ap (option_map (signed_doc root_doc)) accepted)
+root-accepted verifies bytes (Err errors.Memory) old h accepted = absurd accepted
+
+pub root-stored : (verifies : Verifies) (bytes : List ℕ) (read : Result (Signed Root) ReadError) (old : Option (Signed Root))
+    → ReadsText (IsSigned (λ e x. root_at e ≡ Some (root_doc x))) (IsNotSigned (λ e. root_at e ≡ None)) read bytes
+    → IsAcceptedRoot verifies read old
+    → root_where old ≡ (option_and_then (signed_at root_at) (json_of bytes) >>= λ d. if_verified (root_verdict verifies d.role d) d)
+root-stored verifies bytes read old h accepted = root-map old ∙ root-accepted verifies bytes read old h accepted

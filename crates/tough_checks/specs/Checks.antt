@@ -2,6 +2,8 @@
 use Rattle.std.specs.Prelude.{◌≡◌, ◌==◌, ℕ, ℤ, List, [], ◌∷◌, map, length, Option, None, Some, Result, Ok, Err, Bool, true, false, not, nat_lt, int_lt, is_some, string_bytes, ◌&&◌}
 use Rattle.tough_roles.specs.declared.role_type.RoleType.{RoleType}
 use Rattle.tough_roles.specs.declared.role_type.RoleType.TheVariants as role
+use Rattle.tough_roles.specs.Root.{RootDoc}
+use Rattle.tough_roles.specs.Signature.{SignedDoc}
 use Rattle.tough_roles.specs.Timestamp.{TimestampDoc, MetafileDoc, timestamp_doc}
 use Rattle.tough_roles.specs.declared.timestamp.Timestamp.{Timestamp as TimestampFile}
 use Rattle.tough_roles.specs.declared.snapshot.Snapshot.{Snapshot as SnapshotFile}
@@ -83,6 +85,28 @@ timestamp_form t = first_of
 abbrev pub verified : RoleType → Result Unit Refused → Option Reason
 verified role (Ok u) = None
 verified role (Err r) = Some (VerifyMetadata role (Some r))
+
+-- ---- roots
+
+-- the root isn't older than one that was accepted before
+abbrev pub root_older : ℕ → RootDoc → Option Reason
+root_older old r = refuse (nat_lt r.head.version old) (OlderMetadata role.Root old r.head.version)
+
+-- against the stored root
+abbrev pub root_against : Option (SignedDoc RootDoc) → RootDoc → Option Reason
+root_against None r = None
+root_against (Some old) r = root_older old.role.head.version r
+
+-- against the tip
+abbrev pub root_tip : Option ℕ → RootDoc → Option Reason
+root_tip None r = None
+root_tip (Some tip) r = root_older tip r
+
+-- after the stored root was read: against it, then the tip
+abbrev pub root_after : Option (SignedDoc RootDoc) → Option ℕ → RootDoc → Option Reason
+root_after old tip r = first_of (root_against old r ∷ root_tip tip r ∷ [])
+
+-- ---- timestamps
 
 -- before the stored timestamp is read
 abbrev pub timestamp_first : Result Unit Refused → TimestampDoc → Option Reason

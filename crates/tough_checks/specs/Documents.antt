@@ -13,6 +13,7 @@ use Rattle.tough_roles.specs.Root.{RootDoc, root_at, root_json}
 use Rattle.tough_roles.specs.Timestamp.{TimestampDoc, timestamp_at, timestamp_json}
 use Rattle.tough_roles.specs.Snapshot.{SnapshotDoc, snapshot_at, snapshot_json}
 use Rattle.tough_keys.specs.Same.{Verifies}
+use Rattle.tough_roles.specs.Chain.{text_by}
 use Rattle.tough_roles.specs.Policy.{policy}
 use Rattle.tough_roles.specs.Verdict.{Refused, MissingRole, verdict}
 use Rattle.tough_roles.specs.declared.role_type.RoleType.TheVariants as role
@@ -42,6 +43,10 @@ root_in bytes = option_and_then (signed_at root_at) (json_of bytes)
 -- the signed timestamp that bytes are
 abbrev pub timestamp_in : List ℕ → Option (SignedDoc TimestampDoc)
 timestamp_in bytes = option_and_then (signed_at timestamp_at) (json_of bytes)
+
+-- what a root's verification of a signed root answers
+abbrev pub root_verdict : Verifies → RootDoc → SignedDoc RootDoc → Result Unit Refused
+root_verdict verifies root d = verdict verifies (MissingRole role.Root) role.Root (policy root role.Root) (text_by root_json d.role) d.signatures
 
 -- what a root's verification of a signed timestamp answers
 abbrev pub timestamp_verdict : Verifies → RootDoc → SignedDoc TimestampDoc → Result Unit Refused

@@ -4,3 +4,4 @@ pub mod Versions
 pub mod Checks
 pub mod StoredDocuments
 pub mod DocumentName
+pub mod Rotation

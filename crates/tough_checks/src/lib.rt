@@ -5,8 +5,11 @@
 mod checker;
 mod checks;
 mod document_name;
+mod root_checks;
+mod rotation;
 mod snapshot_checks;
 mod stored;
+mod stored_root;
 mod versions;
 
 pub use checker::Checker;
@@ -15,6 +18,9 @@ pub use checks::{
     check_timestamp, check_timestamp_late, check_version, snapshot_version,
 };
 pub use document_name::DocumentName;
+pub use root_checks::{check_root, check_root_late};
+pub use rotation::{is_rotated, rotates};
 pub use snapshot_checks::{check_snapshot, check_snapshot_late, read_snapshot, versions_of};
 pub use stored::{read_time, read_timestamp};
+pub use stored_root::{newer_root, read_root};
 pub use versions::{ListedVersion, SnapshotVersions, TimestampVersions};

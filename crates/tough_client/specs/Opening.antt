@@ -8,6 +8,7 @@ use Rattle.tough_vault.specs.Act.{Act}
 use Rattle.tough_net.specs.declared.error.TransportError.{TransportError}
 use Rattle.tough_net.specs.Items.{Item}
 use Rattle.tough_trust.specs.Failure.{Failure}
+use Rattle.tough_trust.specs.Steps.{ReadsRoot}
 use Rattle.tough_update.specs.Stages.{LoadedDoc, CoreDoc}
 use Rattle.tough_load.specs.declared.load.Load.{Load}
 use Rattle.tough_load.specs.declared.loader.RepositoryLoader.{RepositoryLoader}
@@ -32,19 +33,19 @@ module _ {T K C V S R : Type 0} where
   Tells l (Err failure) (Err e) = failure_in e ≡ Some failure
   Tells _ _ _ = ⊥
 
-module _ {T K C V S R : Type 0} (refuses : T → Parts → TransportError → Type 0) (serves : T → Parts → Runs Item) (keeps : Verifies → K → Act → Result R StepError → K → Type 0) (may_give : C → ℤ → Type 0) (yields : S → Runs Item)
+module _ {T K C V S R : Type 0} (refuses : T → Parts → TransportError → Type 0) (serves : T → Parts → Runs Item) (keeps : Verifies → K → Act → Result R StepError → K → Type 0) (reads : ReadsRoot K) (may_give : C → ℤ → Type 0) (yields : S → Runs Item)
     (verifies : V → Verifies) where
   -- the load came to an outcome, and this answer tells it
   pub record Opens (old : Load T K C V S R) (answer : Result (Repository T K C R) Error) : Type 0 where
     pub outcome : Result LoadedDoc Failure
     pub ended : Load T K C V S R
-    pub finishes : Finishes refuses serves keeps may_give yields verifies old outcome ended
+    pub finishes : Finishes refuses serves keeps reads may_give yields verifies old outcome ended
     pub told : Tells ended outcome answer
 
-module _ {T V C K S R : Type 0} (refuses : T → Parts → TransportError → Type 0) (serves : T → Parts → Runs Item) (keeps : Verifies → K → Act → Result R StepError → K → Type 0) (may_give : C → ℤ → Type 0) (yields : S → Runs Item)
+module _ {T V C K S R : Type 0} (refuses : T → Parts → TransportError → Type 0) (serves : T → Parts → Runs Item) (keeps : Verifies → K → Act → Result R StepError → K → Type 0) (reads : ReadsRoot K) (may_give : C → ℤ → Type 0) (yields : S → Runs Item)
     (verifies : V → Verifies) where
   -- the load that this loader began, over files below this URL, vouches for the documents of the repository
   abbrev pub VouchesFor : RepositoryLoader T V C K → Parts → Repository T K C R → Type 0
   VouchesFor from base r =
       (left : CoreDoc)
-      × Vouches refuses serves keeps may_give yields (verifies (verifier_of from)) base (transport_of from) (first_core (settings_of from)) (loader.held_of from) left (held_of r) (documents_of r)
+      × Vouches refuses serves keeps reads may_give yields (verifies (verifier_of from)) base (transport_of from) (first_core (settings_of from)) (loader.held_of from) left (held_of r) (documents_of r)

@@ -31,18 +31,19 @@ impl<T: Transport, K: Keeper, C: Clock + Drop> Repository<T, K, C> {
         outcome: Result<Loaded, UpdateError>,
     ) -> Result<Repository<T, K, C>, Error>
         ensures opens { (old : _)
-            → Finishes T.refuses T.serves K.keeps C.may_give T.Stream.yields V.verifies old
+            → Finishes T.refuses T.serves K.keeps K.reads C.may_give T.Stream.yields V.verifies old
             (outcome_doc outcome) load
-            → Opens T.refuses T.serves K.keeps C.may_give T.Stream.yields V.verifies old result }
+            → Opens T.refuses T.serves K.keeps K.reads C.may_give T.Stream.yields V.verifies old
+            result }
         ensures trusted { (from : RepositoryLoader T V C K) (base : Parts)
             → IfOk (outcome_doc outcome)
-            (Vouches T.refuses T.serves K.keeps C.may_give T.Stream.yields
+            (Vouches T.refuses T.serves K.keeps K.reads C.may_give T.Stream.yields
             (V.verifies (verifier_of from)) base (transport_of from)
             (first_core (settings_of from)) (loader.held_of from)
             (core_doc (part.core_of load)) (part.held_of load))
             → IfOk result
-            (VouchesFor T.refuses T.serves K.keeps C.may_give T.Stream.yields V.verifies from
-            base) }
+            (VouchesFor T.refuses T.serves K.keeps K.reads C.may_give T.Stream.yields V.verifies
+            from base) }
     {
         match outcome {
             Ok(loaded) => Ok(Repository::new(load, loaded)),
@@ -67,11 +68,11 @@ where
     V: Verify + Drop,
     requires { CanPoll T.Stream.can_poll (fetch_of load) }
     ensures done { IfOk result
-        (Opens T.refuses T.serves K.keeps C.may_give T.Stream.yields V.verifies load) }
+        (Opens T.refuses T.serves K.keeps K.reads C.may_give T.Stream.yields V.verifies load) }
     ensures trusted { (from : _) → IsBegun from load
         → IfOk result (λ r. IfOk r
-        (VouchesFor T.refuses T.serves K.keeps C.may_give T.Stream.yields V.verifies from (base_of
-        load))) }
+        (VouchesFor T.refuses T.serves K.keeps K.reads C.may_give T.Stream.yields V.verifies from
+        (base_of load))) }
 {
     let mut load = load;
     match tough_load::drive(rt, &mut load) {

@@ -8,11 +8,15 @@ use Rattle.tough_net.specs.declared.error.TransportError.{TransportError}
 use Rattle.tough_net.specs.declared.collect.Collect.{Collect}
 use Rattle.tough_net.specs.Items.{Item}
 use Rattle.tough_checks.specs.declared.checks.StepError.{StepError}
+use Rattle.tough_roles.specs.Root.{RootDoc}
+use Rattle.tough_roles.specs.Signature.{SignedDoc}
+use Rattle.tough_vault.specs.Looking.{Looks}
 use Rattle.tough_vault.specs.Stored.{Files}
 use Rattle.tough_vault.specs.declared.entry.Receipt.{Receipt}
 use Rattle.tough_vault.specs.Step.{Parts}
 use Rattle.tough_vault.specs.Act.{Act, Acts}
 use Rattle.tough_trust.specs.Failure.{Failure}
+use Rattle.tough_trust.specs.Steps.{ReadsRoot}
 use Rattle.tough_update.specs.Stages.{LoadedDoc, CoreDoc}
 use Rattle.tough_update.specs.Answered.{AnswerDoc}
 use Rattle.tough_update.specs.Loadable.{AllHonest, Loadable, IsLoaded}
@@ -20,33 +24,35 @@ use Rattle.tough_update.specs.Runs.{IsFresh}
 use Rattle.tough_load.specs.Loading.{Held, Ends}
 use Rattle.tough_honest.specs.Fresh.{phase, Untouched, IsFineOutcome}
 use Rattle.tough_honest.specs.Loads.{ServesAll, ShowsOnly}
+use Rattle.tough_honest.proofs.Alone.{Alone}
 use Rattle.tough_honest.proofs.Faultless.{all-fine}
 use Rattle.tough_honest.proofs.Whole.{all, ends-so}
 
 module _ {T K S C Y : Type 0} (refuses : T → Urls → TransportError → Type 0) (serves : T → Urls → Runs Item) (tells : Bool) (files : S → Files) (count : S → ℕ) (told : tells ≡ true)
-    (keeps : Verifies → K → Act → Result Receipt StepError → K → Type 0) (may_give : C → ℤ → Type 0) (yields : Y → Runs Item) (view : K → Parts S)
+    (keeps : Verifies → K → Act → Result Receipt StepError → K → Type 0) (reads : ReadsRoot K) (may_give : C → ℤ → Type 0) (yields : Y → Runs Item) (view : K → Parts S)
     (vault : (v : Verifies) (old : K) (act : Act) (r : Result Receipt StepError) (new : K) → keeps v old act r new → Acts tells files count v act (view old) (view new) r)
+    (look : (v : Verifies) (old : K) (first : ℕ) (r : Result (Option (SignedDoc RootDoc)) StepError) (new : K) → reads v old first r new → Looks tells files count v first (view old) (view new) r)
     (loads : (v : Verifies) (c : CoreDoc) (served : Files) (l : LoadedDoc) (answers : List AnswerDoc) → IsFresh c → Loadable v served c.setting l → AllHonest v served l.known.start c answers → IsLoaded v c answers l)
     (base : Urls) (served : Files) (l : LoadedDoc) where
   ends-honest : (v : Verifies) (t : T) (c : CoreDoc) (k : Held K Receipt C) (o : Result LoadedDoc Failure) (left : CoreDoc) (kept : Held K Receipt C) → IsFresh c
       → Untouched files 0 (view k.keeping.keeper) → ShowsOnly may_give k.clock l.known.start → ServesAll refuses serves v base t c served → Loadable v served c.setting l
-      → Ends refuses serves keeps may_give yields v base t None c k o left kept → IsFineOutcome o → o ≡ Ok l
+      → Ends refuses serves keeps reads may_give yields v base t None c k o left kept → IsFineOutcome o → o ≡ Ok l
   ends-honest v t c k o left kept fresh untouched shows there loadable h fine =
       let led = h.1.1 in
-      let each = all-fine refuses serves keeps may_give yields v base t l.known.start h.1.0 c k h.0 kept o led (λ is. shows) h.2 fine in
-      let whole = all refuses serves tells files count told v keeps may_give yields view (vault v) base t served l.known.start
-      h.1.0 c k h.0 kept (subst (λ s. Untouched files (phase s) (view k.keeping.keeper)) (sym fresh) untouched) there led each in
+      let each = all-fine refuses serves keeps reads may_give yields v base t l.known.start h.1.0 c k h.0 kept o led (λ is. shows) h.2 fine in
+      let whole = all refuses serves tells files count told v keeps reads may_give yields view (vault v) (look v) base t served l.known.start l.known.root
+      h.1.0 c k h.0 kept loadable.root loadable.no_next (subst (Alone v c.setting served l.known.start l.known.root loadable.root loadable.no_next) (sym fresh) tt) (subst (λ s. Untouched files (phase s) (view k.keeping.keeper)) (sym fresh) untouched) there led each in
       ends-so v c h.1.0 l h.0 o (loads v c served l h.1.0 fresh loadable whole.0) whole.1 h.2 fine
 
   -- the same, where the load's parts are those that were given
   pub begun-honest : {V : Type 0} (w : V → Verifies) (v v' : V) (t t' : T) (c c' : CoreDoc) (k k' : Held K Receipt C) (fetch : Option (Collect Y)) (o : Result LoadedDoc Failure) (left : CoreDoc) (kept : Held K Receipt C)
       → v ≡ v' → t ≡ t' → c ≡ c' → k ≡ k' → fetch ≡ None → IsFresh c'
       → Untouched files 0 (view k'.keeping.keeper) → ShowsOnly may_give k'.clock l.known.start → ServesAll refuses serves (w v') base t' c' served → Loadable (w v') served c'.setting l
-      → Ends refuses serves keeps may_give yields (w v) base t fetch c k o left kept → IsFineOutcome o → o ≡ Ok l
+      → Ends refuses serves keeps reads may_give yields (w v) base t fetch c k o left kept → IsFineOutcome o → o ≡ Ok l
   begun-honest w v v' t t' c c' k k' fetch o left kept ev et ec ek none fresh untouched shows there loadable h fine =
-      let h1 = subst (λ x. Ends refuses serves keeps may_give yields (w x) base t fetch c k o left kept) ev h in
-      let h2 = subst (λ x. Ends refuses serves keeps may_give yields (w v') base x fetch c k o left kept) et h1 in
-      let h3 = subst (λ x. Ends refuses serves keeps may_give yields (w v') base t' fetch x k o left kept) ec h2 in
-      let h4 = subst (λ x. Ends refuses serves keeps may_give yields (w v') base t' fetch c' x o left kept) ek h3 in
-      let h5 = subst (λ x. Ends refuses serves keeps may_give yields (w v') base t' x c' k' o left kept) none h4 in
+      let h1 = subst (λ x. Ends refuses serves keeps reads may_give yields (w x) base t fetch c k o left kept) ev h in
+      let h2 = subst (λ x. Ends refuses serves keeps reads may_give yields (w v') base x fetch c k o left kept) et h1 in
+      let h3 = subst (λ x. Ends refuses serves keeps reads may_give yields (w v') base t' fetch x k o left kept) ec h2 in
+      let h4 = subst (λ x. Ends refuses serves keeps reads may_give yields (w v') base t' fetch c' x o left kept) ek h3 in
+      let h5 = subst (λ x. Ends refuses serves keeps reads may_give yields (w v') base t' x c' k' o left kept) none h4 in
       ends-honest (w v') t' c' k' o left kept fresh untouched shows there loadable h5 fine

@@ -1,5 +1,5 @@
 -- A fault of a device, and want of memory, end an update, which tells it.
-use Rattle.std.specs.Prelude.{◌≡◌, ◌≤◌, ℕ, ℤ, List, [], ◌∷◌, Some, Result, Ok, Err, Bool, false, not}
+use Rattle.std.specs.Prelude.{◌≡◌, ◌≤◌, ℕ, ℤ, List, [], ◌∷◌, Option, Some, Result, Ok, Err, Bool, false, not}
 use Rattle.std.proofs.Common.{refl, sym, ap, ◌∙◌, subst, inl, inr, arith}
 use Rattle.url.specs.Parts.{Parts as Urls}
 use Rattle.futures.specs.Runs.{Runs}
@@ -15,8 +15,12 @@ use Rattle.tough_trust.specs.declared.fault.Fault.{Fault}
 use Rattle.tough_trust.specs.declared.fault.Fault.TheVariants as fault
 use Rattle.tough_trust.specs.Failure.{Failure, Memory}
 use Rattle.tough_trust.specs.Faults.{told, fault_failure, is_memory, is_missing, ends_start, ends_stream}
+use Rattle.tough_roles.specs.Root.{RootDoc}
+use Rattle.tough_roles.specs.Signature.{SignedDoc}
+use Rattle.tough_trust.specs.View.{read_doc}
 use Rattle.tough_trust.specs.Requests.{RequestDoc}
-use Rattle.tough_update.specs.Stages.{LoadedDoc, WantedDoc, StageDoc, SettingDoc, CoreDoc}
+use Rattle.tough_trust.specs.Steps.{ReadsRoot}
+use Rattle.tough_update.specs.Stages.{WalkDoc, LoadedDoc, WantedDoc, StageDoc, SettingDoc, CoreDoc}
 use Rattle.tough_update.specs.Stages as at
 use Rattle.tough_update.specs.Questions.{Question}
 use Rattle.tough_update.specs.Questions as ask
@@ -29,7 +33,7 @@ use Rattle.tough_load.specs.Loading.{Held, Allows, Leads}
 use Rattle.tough_honest.specs.Loads.{ShowsOnly}
 use Rattle.tough_honest.specs.Serves.{FaultHasMemory}
 use Rattle.tough_honest.specs.Fresh.{phase, wanted_phase, IsNoFault, IsFine, AllFine, IsFineOutcome}
-use Rattle.tough_honest.proofs.Phases.{next_phase, fetched-least, after-least}
+use Rattle.tough_honest.proofs.Phases.{next_phase, fetched-least, read_root-least, after-least}
 
 -- an update that failed so failed with no fault
 abbrev EndsFine : Result StageDoc Failure → Type 0
@@ -58,9 +62,9 @@ cut w name (fault.JoinUrl e) fine = tt
 cut w name (fault.Transport e) fine = λ m. wanting name e m (faultless w name (fault.Transport e) _ (ap is_missing m.0) fine)
 
 module _ {T K C Y : Type 0} (refuses : T → Urls → TransportError → Type 0) (serves : T → Urls → Runs Item)
-    (keeps : Verifies → K → Act → Result Receipt StepError → K → Type 0) (may_give : C → ℤ → Type 0) (yields : Y → Runs Item) (verifies : Verifies) (base : Urls) (t : T) (now : ℤ) where
+    (keeps : Verifies → K → Act → Result Receipt StepError → K → Type 0) (reads : ReadsRoot K) (may_give : C → ℤ → Type 0) (yields : Y → Runs Item) (verifies : Verifies) (base : Urls) (t : T) (now : ℤ) where
   abbrev May : Question → Held K Receipt C → AnswerDoc → Held K Receipt C → Type 0
-  May = Allows refuses serves keeps may_give yields verifies base t
+  May = Allows refuses serves keeps reads may_give yields verifies base t
 
   no-step : (r : RequestDoc) (x : Result Unit Failure) → Fetches refuses serves t base r (got.Step x) → ⊥
   no-step r x (inl h) = cc (h.1)
@@ -75,6 +79,13 @@ module _ {T K C Y : Type 0} (refuses : T → Urls → TransportError → Type 0)
   no-moment r time (inr (inr (url, is, inl h))) = cc (h.1)
   no-moment r time (inr (inr (url, is, inr (Ok v, e, h)))) = cc (e)
   no-moment r time (inr (inr (url, is, inr (Err y, e, h)))) = cc (e)
+
+  no-stored : (r : RequestDoc) (x : Result (Option (SignedDoc RootDoc)) Failure) → Fetches refuses serves t base r (got.Stored x) → ⊥
+  no-stored r x (inl h) = cc (h.1)
+  no-stored r x (inr (inl h)) = cc (h.1)
+  no-stored r x (inr (inr (url, is, inl h))) = cc (h.1)
+  no-stored r x (inr (inr (url, is, inr (Ok v, e, h)))) = cc (e)
+  no-stored r x (inr (inr (url, is, inr (Err y, e, h)))) = cc (e)
 
   -- the moment is asked for once
   later-none : (n : ℕ) (stage : StageDoc) → 1 ≤ n → n ≤ phase stage → stage ≡ at.Moment → ⊥
@@ -91,7 +102,6 @@ module _ {T K C Y : Type 0} (refuses : T → Urls → TransportError → Type 0)
   pending-some (at.NoteTime x) = omega (arith)
   pending-some (at.PutRoot w) = omega (arith)
   pending-some (at.PutLast w) = omega (arith)
-  pending-some (at.Clear b) = omega (arith)
   pending-some (at.PutTimestamp b x) = omega (arith)
   pending-some (at.PutSnapshot k listed) = omega (arith)
   pending-some (at.PutTargets k d) = omega (arith)
@@ -100,6 +110,8 @@ module _ {T K C Y : Type 0} (refuses : T → Urls → TransportError → Type 0)
   asked-once : (s : SettingDoc) (stage : StageDoc) (k : Held K Receipt C) (a : AnswerDoc) (next : Held K Receipt C) → May (question_at s.enforced stage) k a next
       → settled (stage_after verifies s stage a) ≡ at.Moment → ⊥
   asked-once s at.Moment k a next (time, said, may, same) is = cc (ap (λ (x : AnswerDoc). settled (stage_after verifies s at.Moment x)) (sym said) ∙ is)
+  asked-once s (at.ReadRoot w) k a next (x, said, h, put, still) is =
+      later-none 1 _ (omega (arith)) (read_root-least s.limits w (read_doc x)) (ap (λ (y : AnswerDoc). settled (stage_after verifies s (at.ReadRoot w) y)) (sym said) ∙ is)
   asked-once s (at.Fetch w r) k a next h is = later-none (wanted_phase w) _ (wanted-some w) (fetched-least verifies s w r a) is
   asked-once s (at.Step p) k a next (Ok u, said, h, still) is =
       later-none (next_phase p) _ (pending-some p) (after-least verifies s p) (ap (λ (x : AnswerDoc). settled (stage_after verifies s (at.Step p) x)) (sym said) ∙ is)
@@ -111,9 +123,16 @@ module _ {T K C Y : Type 0} (refuses : T → Urls → TransportError → Type 0)
   taken-fine s p (Ok u) fine = tt
   taken-fine s p (Err f) fine = fine f refl
 
+  read-fine : (s : SettingDoc) (w : WalkDoc) (x : Result (Option (SignedDoc RootDoc)) Failure) → EndsFine (stage_after verifies s (at.ReadRoot w) (got.Stored x)) → IsFine now (got.Stored x)
+  read-fine s w (Ok o) fine = tt
+  read-fine s w (Err f) fine = fine f refl
+
   fine-of : (s : SettingDoc) (stage : StageDoc) (k : Held K Receipt C) (a : AnswerDoc) (next : Held K Receipt C) → (stage ≡ at.Moment → ShowsOnly may_give k.clock now) → May (question_at s.enforced stage) k a next
       → EndsFine (stage_after verifies s stage a) → IsFine now a
   fine-of s at.Moment k a next shows (time, is, may, same) fine = subst (IsFine now) (sym is) (shows refl time may)
+  fine-of s (at.ReadRoot w) k a next shows (x, is, h, put, still) fine =
+      subst (IsFine now) (sym is) (read-fine s w (read_doc x) (subst (λ (b : AnswerDoc). EndsFine (stage_after verifies s (at.ReadRoot w) b)) is fine))
+  fine-of s (at.Fetch w r) k (got.Stored x) next shows h fine = absurd (no-stored r x h.0)
   fine-of s (at.Fetch w r) k (got.Moment time) next shows h fine = absurd (no-moment r time h.0)
   fine-of s (at.Fetch w r) k (got.Bytes bytes) next shows h fine = tt
   fine-of s (at.Fetch w r) k (got.NotStarted f) next shows h fine = started w r.name f fine
@@ -129,7 +148,7 @@ module _ {T K C Y : Type 0} (refuses : T → Urls → TransportError → Type 0)
 
   -- an update that has failed stays so
   spent : (f : Failure) (rest : List AnswerDoc) (c : CoreDoc) (k : Held K Receipt C) (last : CoreDoc) (kept : Held K Receipt C) → c.stage ≡ at.Done (Err f)
-      → Leads refuses serves keeps may_give yields verifies base t c k rest last kept → last.stage ≡ at.Done (Err f)
+      → Leads refuses serves keeps reads may_give yields verifies base t c k rest last kept → last.stage ≡ at.Done (Err f)
   spent f [] c k last kept is h = ap (λ (d : CoreDoc). d.stage) h.0 ∙ is
   spent f (a ∷ rest) c k last kept is h = absurd (nothing-follows (question c) k a h.1 (ap (question_at c.setting.enforced) is) h.2)
 
@@ -140,7 +159,7 @@ module _ {T K C Y : Type 0} (refuses : T → Urls → TransportError → Type 0)
       subst IsFineOutcome outcome fine
 
   pub all-fine : (answers : List AnswerDoc) (c : CoreDoc) (k : Held K Receipt C) (last : CoreDoc) (kept : Held K Receipt C) (o : Result LoadedDoc Failure)
-      → Leads refuses serves keeps may_give yields verifies base t c k answers last kept → (c.stage ≡ at.Moment → ShowsOnly may_give k.clock now) → ended last.stage ≡ Some o → IsFineOutcome o → AllFine now answers
+      → Leads refuses serves keeps reads may_give yields verifies base t c k answers last kept → (c.stage ≡ at.Moment → ShowsOnly may_give k.clock now) → ended last.stage ≡ Some o → IsFineOutcome o → AllFine now answers
   all-fine [] c k last kept o h shows end fine = tt
   all-fine (a ∷ rest) c k last kept o (mid, next, may, inl goes, led) shows end fine = (
     fine-of c.setting c.stage k a next shows may (λ f is. told-fine f last o (spent f rest mid next last kept (ap (λ (m : CoreDoc). m.stage) goes ∙ is) led) end fine),

@@ -30,6 +30,7 @@ FaultHasMemory (fault.Transport e) = IsMemory e → ⊥
 
 abbrev pub HasMemory : AnswerDoc → Type 0
 HasMemory (got.Moment now) = ⊤
+HasMemory (got.Stored r) = ⊤
 HasMemory (got.Bytes bytes) = ⊤
 HasMemory (got.NotStarted f) = FaultHasMemory f
 HasMemory (got.Cut f) = FaultHasMemory f

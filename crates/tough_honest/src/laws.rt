@@ -2,7 +2,7 @@
 
 ghost use Rattle.std.specs.Prelude.{◌≡◌, Ok, true, Result};
 ghost use Rattle.tough_trust.specs.Failure.{Failure};
-ghost use Rattle.tough_trust.specs.Vaults.{vault_keeps};
+ghost use Rattle.tough_trust.specs.Vaults.{vault_keeps, vault_reads};
 ghost use Rattle.tough_vault.specs.Vault.{parts_of};
 ghost use Rattle.tough_update.specs.Stages.{LoadedDoc};
 ghost use Rattle.tough_update.specs.Loadable.{Files, Loadable};
@@ -17,7 +17,7 @@ use tough_net::Transport;
 use tough_roles::Verify;
 
 /// Files that are loadable load. The load is one that a loader made: over a transport that serves these files under their names and refuses
-/// what isn't there, as `MemoryTransport` does; by a lent vault over a store that tells its files and held none of a time, a timestamp or a
+/// what isn't there, as `MemoryTransport` does; by a lent vault over a store that tells its files and held none of a time, a root, a timestamp or a
 /// snapshot; by a clock that shows the moment at which the files are loadable, as `FixedClock` does. Where it ends, its outcome is the
 /// documents that the files serve, unless it tells that the store's device failed or that a request for memory was refused (TUF
 /// specification 5).
@@ -35,8 +35,8 @@ pub fn honest_loads<T: Transport, V: Verify + Drop, C: Clock + Drop, S: Store>(
         (first_core (settings_of loader.now)) files
         → Loadable (V.verifies (verifier_of loader.now)) files
         (first_core (settings_of loader.now)).setting d
-        → Finishes T.refuses T.serves (vault_keeps S.tells S.files S.count) C.may_give
-        T.Stream.yields V.verifies load.now outcome ended.now
+        → Finishes T.refuses T.serves (vault_keeps S.tells S.files S.count) (vault_reads S.tells
+        S.files S.count) C.may_give T.Stream.yields V.verifies load.now outcome ended.now
         → IsFineOutcome outcome → outcome ≡ Ok d }
 {
     tough_update::laws::loads();

@@ -4,12 +4,15 @@ use Rattle.std.specs.declared.alloc.Global.{Global}
 use Rattle.url.specs.Parts.{Parts}
 use Rattle.futures.specs.Runs.{Runs}
 use Rattle.tough_keys.specs.Same.{Verifies}
+use Rattle.tough_roles.specs.Root.{RootDoc}
+use Rattle.tough_roles.specs.Signature.{SignedDoc}
 use Rattle.tough_checks.specs.declared.checks.StepError.{StepError}
 use Rattle.tough_net.specs.declared.error.TransportError.{TransportError}
 use Rattle.tough_net.specs.declared.collect.Collect.{Collect}
 use Rattle.tough_net.specs.Items.{Item}
 use Rattle.tough_trust.specs.Failure.{Failure}
-use Rattle.tough_trust.specs.Steps.{Keeping, TakesStep}
+use Rattle.tough_trust.specs.Steps.{Keeping, ReadsRoot, TakesStep}
+use Rattle.tough_trust.specs.View.{read_doc}
 use Rattle.tough_update.specs.Stages.{LoadedDoc, CoreDoc, handed_out}
 use Rattle.tough_update.specs.Questions.{Question}
 use Rattle.tough_update.specs.Questions as ask
@@ -25,11 +28,13 @@ pub record Held (K R C : Type 0) : Type 0 where
   pub keeping : Keeping K R
   pub clock : C
 
-module _ {T S K R C : Type 0} (refuses : T → Parts → TransportError → Type 0) (serves : T → Parts → Runs Item) (keeps : Verifies → K → Act → Result R StepError → K → Type 0) (may_give : C → ℤ → Type 0) (yields : S → Runs Item)
+module _ {T S K R C : Type 0} (refuses : T → Parts → TransportError → Type 0) (serves : T → Parts → Runs Item) (keeps : Verifies → K → Act → Result R StepError → K → Type 0) (reads : ReadsRoot K) (may_give : C → ℤ → Type 0) (yields : S → Runs Item)
     (verifies : Verifies) (base : Parts) (t : T) where
   -- An answer that what was asked allows, and what it leaves of keeper and clock. Of the clock after a moment nothing is known.
   abbrev pub Allows : Question → Held K R C → AnswerDoc → Held K R C → Type 0
   Allows ask.Moment k a next = (now : ℤ) × (a ≡ got.Moment now) × may_give k.clock now × (next.keeping ≡ k.keeping)
+  Allows (ask.Stored first) k a next = (r : Result (Option (SignedDoc RootDoc)) StepError) × (a ≡ got.Stored (read_doc r)) × reads verifies k.keeping.keeper first r next.keeping.keeper
+      × (next.keeping.receipts ≡ k.keeping.receipts) × (next.clock ≡ k.clock)
   Allows (ask.Fetch r) k a next = Fetches refuses serves t base r a × (next ≡ k)
   Allows (ask.Step act) k a next = (s : Result Unit Failure) × (a ≡ got.Step s) × TakesStep keeps verifies act k.keeping s next.keeping × (next.clock ≡ k.clock)
   Allows ask.Ready k a next = ⊥
@@ -60,17 +65,24 @@ abbrev pub with_receipt : {R : Type 0} → Result R StepError → List R → Lis
 with_receipt (Ok r) before = before ++ r ∷ []
 with_receipt (Err e) before = before
 
+-- what a keeper did: a step with its answer, or a look at the stored root
+pub data Deed (R : Type 0) : Type 0 where
+  Stepped : Act → Result R StepError → Deed R
+  Looked : ℕ → Result (Option (SignedDoc RootDoc)) StepError → Deed R
+
 -- the receipts of the steps that succeeded, in their order
-abbrev pub received : {R : Type 0} → List (Act × Result R StepError) → List R
+abbrev pub received : {R : Type 0} → List (Deed R) → List R
 received [] = []
-received (p ∷ ps) = with_receipt p.1 [] ++ received ps
+received (Stepped act r ∷ ps) = with_receipt r [] ++ received ps
+received (Looked first r ∷ ps) = received ps
 
-module _ {K R : Type 0} (keeps : Verifies → K → Act → Result R StepError → K → Type 0) (verifies : Verifies) where
-  -- steps, one after another, led from one state to the other, and each that succeeded left its receipt
-  abbrev pub Trail : Keeping K R → List (Act × Result R StepError) → Keeping K R → Type 0
+module _ {K R : Type 0} (keeps : Verifies → K → Act → Result R StepError → K → Type 0) (reads : ReadsRoot K) (verifies : Verifies) where
+  -- steps and looks, one after another, led from one state to the other, and each step that succeeded left its receipt
+  abbrev pub Trail : Keeping K R → List (Deed R) → Keeping K R → Type 0
   Trail k [] new = new ≡ k
-  Trail k (p ∷ ps) new = (next : Keeping K R) × keeps verifies k.keeper p.0 p.1 next.keeper × (next.receipts ≡ with_receipt p.1 k.receipts) × Trail next ps new
+  Trail k (Stepped act r ∷ ps) new = (next : Keeping K R) × keeps verifies k.keeper act r next.keeper × (next.receipts ≡ with_receipt r k.receipts) × Trail next ps new
+  Trail k (Looked first r ∷ ps) new = (next : Keeping K R) × reads verifies k.keeper first r next.keeper × (next.receipts ≡ k.receipts) × Trail next ps new
 
-  -- some steps did
+  -- some did
   abbrev pub Walks : Keeping K R → Keeping K R → Type 0
-  Walks k new = (ps : List (Act × Result R StepError)) × Trail k ps new
+  Walks k new = (ps : List (Deed R)) × Trail k ps new

@@ -33,13 +33,14 @@ where
     V: Verify + Drop,
     requires { CanPoll T.Stream.can_poll (part.fetch_of load.old) }
     ensures done { IfOk result
-        (λ r. Finishes T.refuses T.serves K.keeps C.may_give T.Stream.yields V.verifies load.old
-        (outcome_doc r) load.new) }
+        (λ r. Finishes T.refuses T.serves K.keeps K.reads C.may_give T.Stream.yields V.verifies
+        load.old (outcome_doc r) load.new) }
     ensures goes { IfErr result
-        (λ e. Advances T.refuses T.serves K.keeps C.may_give T.Stream.yields V.verifies load.old
-        load.new) }
+        (λ e. Advances T.refuses T.serves K.keeps K.reads C.may_give T.Stream.yields V.verifies
+        load.old load.new) }
     ensures trusted { (from : _) → IsBegun from load.old
-        → IfOk result (λ r. IfOk (outcome_doc r) (Vouches T.refuses T.serves K.keeps C.may_give
+        → IfOk result (λ r. IfOk (outcome_doc r) (Vouches T.refuses T.serves K.keeps K.reads
+        C.may_give
         T.Stream.yields (V.verifies (verifier_of from)) (part.base_of load.old) (transport_of from)
         (first_core (settings_of from)) (held_of from)
         (core_doc (part.core_of load.new)) (part.held_of load.new))) }

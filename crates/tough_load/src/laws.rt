@@ -3,8 +3,7 @@
 ghost use Rattle.std.specs.Prelude.{◌≡◌, ◌++◌, List, Ok, Result};
 ghost use Rattle.url.specs.Parts.{Parts};
 ghost use Rattle.tough_keys.specs.Same.{Verifies};
-ghost use Rattle.tough_checks.specs.declared.checks.StepError.{StepError};
-ghost use Rattle.tough_vault.specs.Act.{Act, NoteTime};
+ghost use Rattle.tough_vault.specs.Act.{NoteTime};
 ghost use Rattle.tough_trust.specs.Steps.{Keeping};
 ghost use Rattle.tough_trust.specs.Failure.{Failure};
 ghost use Rattle.tough_update.specs.Stages.{LoadedDoc, CoreDoc};
@@ -12,7 +11,7 @@ ghost use Rattle.tough_update.specs.View.{core_doc, counts_of};
 ghost use Rattle.tough_load.specs.declared.loader.RepositoryLoader.{RepositoryLoader as Loader};
 ghost use Rattle.tough_load.specs.declared.load.Load.{Load};
 ghost use Rattle.tough_load.specs.Loader.{IsBegun, first_core, settings_of, transport_of, verifier_of, held_of};
-ghost use Rattle.tough_load.specs.Loading.{Held, Ends, Trail, received};
+ghost use Rattle.tough_load.specs.Loading.{Held, Deed, Ends, Trail, received};
 ghost use Rattle.tough_load.specs.Vouching.{Vouches, HasStepped};
 ghost use Rattle.tough_load.specs.Advancing.{Finishes};
 ghost use Rattle.tough_load.specs.Counting.{CountsFew};
@@ -32,11 +31,12 @@ use tough_vault::Clock;
 pub fn loads_are_trusted<T: Transport, V: Verify + Drop, C: Clock + Drop, K: Keeper>()
     ensures { (from : Loader T V C K) (l : Load T K C V T.Stream K.Receipt) (d : LoadedDoc)
         (left : CoreDoc) (kept : Held K K.Receipt C) → IsBegun from l
-        → Ends T.refuses T.serves K.keeps C.may_give T.Stream.yields (V.verifies (part.verifier_of
+        → Ends T.refuses T.serves K.keeps K.reads C.may_give T.Stream.yields (V.verifies
+        (part.verifier_of
         l)) (part.base_of l) (part.transport_of l) (part.fetch_of l) (core_doc (part.core_of l))
         (part.held_of l) (Ok d) left kept
-        → Vouches T.refuses T.serves K.keeps C.may_give T.Stream.yields (V.verifies (verifier_of
-        from)) (part.base_of l) (transport_of from) (first_core (settings_of from))
+        → Vouches T.refuses T.serves K.keeps K.reads C.may_give T.Stream.yields (V.verifies
+        (verifier_of from)) (part.base_of l) (transport_of from) (first_core (settings_of from))
         (held_of from) left kept d }
 {}
 
@@ -45,16 +45,18 @@ pub fn loads_are_trusted<T: Transport, V: Verify + Drop, C: Clock + Drop, K: Kee
 pub fn notes_the_time<T: Transport, V: Verify, C: Clock, K: Keeper>()
     ensures { (base : Parts) (t : T) (v : V) (c : CoreDoc) (k : Held K K.Receipt C)
         (left : CoreDoc) (kept : Held K K.Receipt C) (d : LoadedDoc)
-        → Vouches T.refuses T.serves K.keeps C.may_give T.Stream.yields (V.verifies v) base t c k
-        left kept d → HasStepped K.keeps (V.verifies v) k.keeping (NoteTime d.known.start)
+        → Vouches T.refuses T.serves K.keeps K.reads C.may_give T.Stream.yields (V.verifies v) base
+        t c k
+        left kept d → HasStepped K.keeps K.reads (V.verifies v) k.keeping (NoteTime d.known.start)
         kept.keeping }
 {}
 
-/// The receipts that steps leave are those of the steps that succeeded, in their order, after those before them.
+/// The receipts that steps leave are those of the steps that succeeded, in their order, after those before them; looks at the stored root
+/// leave none.
 pub fn receipts_are_of_steps<K: Keeper>()
     ensures { (verifies : Verifies) (k : Keeping K K.Receipt)
-        (steps : List (Act × Result K.Receipt StepError)) (new : Keeping K K.Receipt)
-        → Trail K.keeps verifies k steps new
+        (steps : List (Deed K.Receipt)) (new : Keeping K K.Receipt)
+        → Trail K.keeps K.reads verifies k steps new
         → new.receipts ≡ k.receipts ++ received steps }
 {}
 
@@ -64,7 +66,7 @@ pub fn receipts_are_of_steps<K: Keeper>()
 pub fn loads_count_few<T: Transport, V: Verify + Drop, C: Clock + Drop, K: Keeper>()
     ensures { (from : Loader T V C K) (l new : Load T K C V T.Stream K.Receipt) (r : Result
         LoadedDoc Failure) → IsBegun from l
-        → Finishes T.refuses T.serves K.keeps C.may_give T.Stream.yields V.verifies l r new
+        → Finishes T.refuses T.serves K.keeps K.reads C.may_give T.Stream.yields V.verifies l r new
         → CountsFew (V.verifies (verifier_of from)) (settings_of from).limits r
         (counts_of (part.core_of new)) }
 {

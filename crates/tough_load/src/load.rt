@@ -146,7 +146,7 @@ impl<T: Transport, K: Keeper, C: Clock + Drop, V: Verify + Drop> Load<T, K, C, V
     fn collect(&mut self, cx: &mut Context<'_>) -> Poll<()>
         requires running { CanPoll T.Stream.can_poll self.old.fetch }
         requires fetching { IsSome self.old.fetch }
-        ensures goes { Advances T.refuses T.serves K.keeps C.may_give T.Stream.yields
+        ensures goes { Advances T.refuses T.serves K.keeps K.reads C.may_give T.Stream.yields
             V.verifies self.old self.new }
         ensures again { CanPoll T.Stream.can_poll self.new.fetch }
         ensures registered { OnPending result
@@ -171,16 +171,17 @@ impl<T: Transport, K: Keeper, C: Clock + Drop, V: Verify + Drop> Load<T, K, C, V
     fn advance(&mut self) -> Option<Result<Loaded, UpdateError>>
         requires idle { self.old.fetch ≡ None }
         ensures done { IfSome result
-            (λ r. Finishes T.refuses T.serves K.keeps C.may_give T.Stream.yields V.verifies self.old
-            (outcome_doc r) self.new) }
+            (λ r. Finishes T.refuses T.serves K.keeps K.reads C.may_give T.Stream.yields V.verifies
+            self.old (outcome_doc r) self.new) }
         ensures goes { IsNone result
-            → Advances T.refuses T.serves K.keeps C.may_give T.Stream.yields V.verifies self.old
-            self.new }
+            → Advances T.refuses T.serves K.keeps K.reads C.may_give T.Stream.yields V.verifies
+            self.old self.new }
         ensures again { CanPoll T.Stream.can_poll self.new.fetch }
     {
         let answer = match self.core.ask() {
             Ask::Ready => return self.core.take_outcome(),
             Ask::Moment => Answer::Moment(self.clock.now()),
+            Ask::Stored(first) => Answer::Stored(self.keeper.read_root(first, &self.verifier)),
             Ask::Fetch(request) => {
                 match start(self.alloc, &self.transport, &self.base, request) {
                     Ok(fetch) => {
@@ -213,24 +214,25 @@ impl<T: Transport, K: Keeper, C: Clock + Drop, V: Verify + Drop> Future for Load
 
     ghost needs = { λ m s. IsSomeAnd (fetch_of m) (λ f. T.Stream.needs (collected f) s) };
 
-    ghost gives = { λ m r. MayGive T.refuses T.serves K.keeps C.may_give T.Stream.yields
+    ghost gives = { λ m r. MayGive T.refuses T.serves K.keeps K.reads C.may_give T.Stream.yields
         V.verifies m (outcome_doc r) };
 
     fn poll(&mut self, cx: &mut Context<'_>) -> Poll<Self::Output>
         requires { CanPoll T.Stream.can_poll (fetch_of self.old) }
         ensures value { IfReady result
-            (λ r. MayGive T.refuses T.serves K.keeps C.may_give T.Stream.yields V.verifies
+            (λ r. MayGive T.refuses T.serves K.keeps K.reads C.may_give T.Stream.yields V.verifies
             self.old (outcome_doc r)) }
         ensures same { OnPending result ((r : _)
-            → MayGive T.refuses T.serves K.keeps C.may_give T.Stream.yields V.verifies self.new
-            (outcome_doc r) → MayGive T.refuses T.serves K.keeps C.may_give T.Stream.yields
+            → MayGive T.refuses T.serves K.keeps K.reads C.may_give T.Stream.yields V.verifies
+            self.new
+            (outcome_doc r) → MayGive T.refuses T.serves K.keeps K.reads C.may_give T.Stream.yields
             V.verifies self.old (outcome_doc r)) }
         ensures done { IfReady result
-            (λ r. Finishes T.refuses T.serves K.keeps C.may_give T.Stream.yields V.verifies self.old
-            (outcome_doc r) self.new) }
+            (λ r. Finishes T.refuses T.serves K.keeps K.reads C.may_give T.Stream.yields V.verifies
+            self.old (outcome_doc r) self.new) }
         ensures goes { OnPending result
-            (Advances T.refuses T.serves K.keeps C.may_give T.Stream.yields V.verifies self.old
-            self.new) }
+            (Advances T.refuses T.serves K.keeps K.reads C.may_give T.Stream.yields V.verifies
+            self.old self.new) }
         ensures again { OnPending result (CanPoll T.Stream.can_poll (fetch_of self.new)) }
         ensures registered { OnPending result
             (Covers cx.new (λ s. IsSomeAnd (fetch_of self.new)

@@ -41,7 +41,7 @@ impl<T: Transport, K: Keeper, C: Clock + Drop, V: Verify + Drop> Future for Load
         (λ l. IsSomeAnd (fetch_of l) (λ f. T.Stream.needs (collected f) s)) };
 
     ghost gives = { λ m both. IsSomeAnd (running_in m) (λ l. Finishes T.refuses T.serves K.keeps
-        C.may_give T.Stream.yields V.verifies l (outcome_doc both.0) both.1) };
+        K.reads C.may_give T.Stream.yields V.verifies l (outcome_doc both.0) both.1) };
 
     fn poll(&mut self, cx: &mut Context<'_>) -> Poll<Self::Output> {
         let Some(load) = &mut self.load else {

@@ -5,7 +5,7 @@ ghost use Rattle.tough_files.specs.Contents.{Contents};
 ghost use Rattle.tough_sign.specs.Making.{SignWell};
 ghost use Rattle.tough_signed.specs.Standing.{is_consistent};
 ghost use Rattle.tough_trust.specs.Failure.{Failure};
-ghost use Rattle.tough_trust.specs.Vaults.{vault_keeps};
+ghost use Rattle.tough_trust.specs.Vaults.{vault_keeps, vault_reads};
 ghost use Rattle.tough_vault.specs.Vault.{parts_of};
 ghost use Rattle.tough_update.specs.Stages.{LoadedDoc};
 ghost use Rattle.tough_load.specs.Loader.{IsBegun, first_core, settings_of, transport_of, verifier_of, clock_of, keeper_of};
@@ -60,8 +60,8 @@ pub fn written_loads<T: Transport, V: Verify + Drop, C: Clock + Drop, D: Store, 
         → IsBegun loader.now load.now → D.tells ≡ true
         → Untouched D.files 0 (parts_of (keeper_of loader.now).now)
         → ShowsOnly C.may_give (clock_of loader.now) start
-        → Finishes T.refuses T.serves (vault_keeps D.tells D.files D.count) C.may_give
-        T.Stream.yields V.verifies load.now outcome ended.now
+        → Finishes T.refuses T.serves (vault_keeps D.tells D.files D.count) (vault_reads D.tells
+        D.files D.count) C.may_give T.Stream.yields V.verifies load.now outcome ended.now
         → IsFineOutcome outcome
         → outcome ≡ Ok (loaded_of (first_core (settings_of loader.now)).setting start r) }
 {

@@ -9,7 +9,7 @@ ghost use Rattle.tough_vault.specs.Act.{Act};
 ghost use Rattle.tough_vault.specs.Journal.{number_of};
 ghost use Rattle.tough_trust.specs.Failure.{Failure};
 ghost use Rattle.tough_trust.specs.Steps.{Keeping, TakesStep};
-ghost use Rattle.tough_trust.specs.Vaults.{vault_keeps};
+ghost use Rattle.tough_trust.specs.Vaults.{vault_keeps, vault_reads};
 ghost use Rattle.tough_load.specs.declared.load.Load.{Load};
 ghost use Rattle.tough_load.specs.Advancing.{Finishes};
 ghost use Rattle.tough_load.specs.Loader.{IsBegun};
@@ -18,7 +18,7 @@ ghost use Rattle.tough_client.specs.Opening.{Opens};
 ghost use Rattle.tough_client.specs.Repositories as repository;
 ghost use Rattle.tough_shared.specs.declared.keeper.SharedKeeper.{SharedKeeper};
 ghost use Rattle.tough_shared.specs.declared.receipt.Receipt.{Receipt};
-ghost use Rattle.tough_shared.specs.Keeping.{next_of, shared_keeps};
+ghost use Rattle.tough_shared.specs.Keeping.{next_of, shared_keeps, shared_reads};
 ghost use Rattle.tough_rising.specs.Rising.{RiseBelow, entries_in, tied_number};
 
 use std::sync::Wait;
@@ -38,8 +38,8 @@ pub fn vault_receipts_rise<T: Transport, V: Verify + Drop, C: Clock + Drop, S: S
       removals = S.removals;
     }))) C V T.Stream Plain)
         (from : _) (r : _) → IsBegun from l
-        → Finishes T.refuses T.serves (vault_keeps S.tells S.files S.count) C.may_give
-        T.Stream.yields V.verifies l r new
+        → Finishes T.refuses T.serves (vault_keeps S.tells S.files S.count) (vault_reads S.tells
+        S.files S.count) C.may_give T.Stream.yields V.verifies l r new
         → RiseBelow number_of (entries_in (load.keeper_of new)) (load.receipts_of new) }
     ensures repository { (l : Load T (MutBor (Vault S (record {
       tells = S.tells;
@@ -48,8 +48,8 @@ pub fn vault_receipts_rise<T: Transport, V: Verify + Drop, C: Clock + Drop, S: S
       removals = S.removals;
     }))) C V T.Stream Plain)
         (from : _) (r : _) → IsBegun from l
-        → Opens T.refuses T.serves (vault_keeps S.tells S.files S.count) C.may_give
-        T.Stream.yields V.verifies l (Ok r)
+        → Opens T.refuses T.serves (vault_keeps S.tells S.files S.count) (vault_reads S.tells
+        S.files S.count) C.may_give T.Stream.yields V.verifies l (Ok r)
         → RiseBelow number_of (entries_in (repository.keeper_of r)) (repository.receipts_of r) }
     ensures steps { (k new : Keeping (MutBor (Vault S (record {
       tells = S.tells;
@@ -81,8 +81,8 @@ where
       removals = S.removals;
     }) (record { book = J.book })) C V T.Stream (Receipt J (record { book = J.book })))
         (from : _) (r : _) → IsBegun from l
-        → Finishes T.refuses T.serves (shared_keeps S.tells S.files S.count) C.may_give
-        T.Stream.yields V.verifies l r new
+        → Finishes T.refuses T.serves (shared_keeps S.tells S.files S.count) (shared_reads S.tells
+        S.files S.count) C.may_give T.Stream.yields V.verifies l r new
         → RiseBelow tied_number (next_of (load.keeper_of new)) (load.receipts_of new) }
     ensures repository { (l : Load T (SharedKeeper S R J (record {
       tells = S.tells;
@@ -91,8 +91,8 @@ where
       removals = S.removals;
     }) (record { book = J.book })) C V T.Stream (Receipt J (record { book = J.book })))
         (from : _) (r : _) → IsBegun from l
-        → Opens T.refuses T.serves (shared_keeps S.tells S.files S.count) C.may_give
-        T.Stream.yields V.verifies l (Ok r)
+        → Opens T.refuses T.serves (shared_keeps S.tells S.files S.count) (shared_reads S.tells
+        S.files S.count) C.may_give T.Stream.yields V.verifies l (Ok r)
         → RiseBelow tied_number (next_of (repository.keeper_of r)) (repository.receipts_of r) }
     ensures steps { (k new : Keeping (SharedKeeper S R J (record {
       tells = S.tells;

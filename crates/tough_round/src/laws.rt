@@ -5,7 +5,7 @@ ghost use Rattle.std.specs.List.{AllByRecursion};
 ghost use Rattle.tough_keys.specs.Same.{Verifies};
 ghost use Rattle.tough_sign.specs.Making.{SignWell};
 ghost use Rattle.tough_trust.specs.Failure.{Failure};
-ghost use Rattle.tough_trust.specs.Vaults.{vault_keeps};
+ghost use Rattle.tough_trust.specs.Vaults.{vault_keeps, vault_reads};
 ghost use Rattle.tough_vault.specs.Vault.{parts_of};
 ghost use Rattle.tough_update.specs.Loadable.{Loadable};
 ghost use Rattle.tough_update.specs.Stages.{SettingDoc, LoadedDoc};
@@ -72,8 +72,8 @@ pub fn released_loads<T: Transport, V: Verify + Drop, C: Clock + Drop, D: Store,
         → IsReleased S.key S.signs signers e r
         → MayLoad (V.verifies (verifier_of loader.now))
         (first_core (settings_of loader.now)).setting start e r
-        → Finishes T.refuses T.serves (vault_keeps D.tells D.files D.count) C.may_give
-        T.Stream.yields V.verifies load.now outcome ended.now
+        → Finishes T.refuses T.serves (vault_keeps D.tells D.files D.count) (vault_reads D.tells
+        D.files D.count) C.may_give T.Stream.yields V.verifies load.now outcome ended.now
         → IsFineOutcome outcome
         → outcome ≡ Ok (loaded_of (first_core (settings_of loader.now)).setting start r) }
 {

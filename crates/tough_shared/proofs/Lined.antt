@@ -20,7 +20,7 @@ items-back (i ∷ is) = ap (λ x. i ∷ x) (items-back is)
 -- a line tells its entry
 pub note-back : (n : Note) → note_at (line_of n) ≡ Some n
 note-back (Noted t) = refl
-note-back (Root v) = refl
+note-back (Root v c) = refl
 note-back (Timestamp p had) = refl
 note-back (Snapshot r had) = ap (λ is. Some (Snapshot (record { version = r.version; items = is }) had)) (items-back r.items)
 note-back Cleared = refl
@@ -35,7 +35,7 @@ line-inj m n h = some-inj m n (sym (note-back m) ∙ (ap note_at h ∙ note-back
 
 no-end : (n : Note) → is_end (line_of n) ≡ false
 no-end (Noted t) = refl
-no-end (Root v) = refl
+no-end (Root v c) = refl
 no-end (Timestamp p had) = refl
 no-end (Snapshot r had) = refl
 no-end Cleared = refl

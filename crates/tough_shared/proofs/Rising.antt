@@ -30,6 +30,9 @@ pub no-less : (old new : List Note) (e : StepError) → GoesOn old new (Err e) �
 no-less old new e (inl s) = let m : length new ≡ length old = ap length s in omega (arith, m)
 no-less old new e (inr s) = let m : length new ≡ length old + 1 = ap length s ∙ length-append old (Broken ∷ []) in omega (arith, m)
 
+pub as-long : (old new : List Note) → new ≡ old → length old ≤ length new
+as-long old new s = let m : length new ≡ length old = ap length s in omega (arith, m)
+
 pub at-least : (a b : ℕ) → a ≡ b → b ≤ a
 at-least a b e = omega (arith, e)
 

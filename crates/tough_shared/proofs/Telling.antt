@@ -9,22 +9,24 @@ use Rattle.tough_roles.specs.Timestamp.{TimestampDoc, metafile_in}
 use Rattle.tough_roles.specs.Verdict.{Refused}
 use Rattle.tough_roles.specs.declared.role_type.RoleType.{RoleType}
 use Rattle.tough_roles.specs.declared.role_type.RoleType.TheVariants as role
-use Rattle.tough_checks.specs.Checks.{Reason, SystemTimeSteppedBackward, DatastoreSerialize, VerifyMetadata, VersionMismatch, TimestampMetaLength, MissingSnapshotMeta, SnapshotTargetsMetaMissing, OlderMetadata, OlderSnapshotInTimestamp, SnapshotRoleMissing, SnapshotRoleRollback, ExpiredMetadata, reason_of, refuse, or_else, first_of, is_expired, expiry, later, time_after, verified, snapshot_version, timestamp_form, timestamp_first, timestamp_older, timestamp_below, timestamp_against, timestamp_tip, timestamp_after, snapshot_form, snapshot_first, fallen_at, fallen, snapshot_older, snapshot_against, snapshot_tip, snapshot_after, items_in, versions_in}
-use Rattle.tough_checks.specs.Documents.{root_text, timestamp_verdict, snapshot_verdict}
+use Rattle.tough_checks.specs.Checks.{Reason, SystemTimeSteppedBackward, DatastoreSerialize, VerifyMetadata, VersionMismatch, TimestampMetaLength, MissingSnapshotMeta, SnapshotTargetsMetaMissing, OlderMetadata, OlderSnapshotInTimestamp, SnapshotRoleMissing, SnapshotRoleRollback, ExpiredMetadata, reason_of, refuse, or_else, first_of, is_expired, expiry, later, time_after, verified, root_older, root_against, root_tip, root_after, snapshot_version, timestamp_form, timestamp_first, timestamp_older, timestamp_below, timestamp_against, timestamp_tip, timestamp_after, snapshot_form, snapshot_first, fallen_at, fallen, snapshot_older, snapshot_against, snapshot_tip, snapshot_after, items_in, versions_in}
+use Rattle.tough_checks.specs.Documents.{root_text, root_verdict, timestamp_verdict, snapshot_verdict}
 use Rattle.tough_checks.specs.Files.{timestamp_file, snapshot_file, targets_file}
-use Rattle.tough_checks.specs.StoredDocuments.{stored_time, stored_timestamp, stored_snapshot}
+use Rattle.tough_checks.specs.StoredDocuments.{stored_time, stored_root, stored_timestamp, stored_snapshot}
 use Rattle.tough_checks.specs.Versions.{Pair, Roles, Item, version_in}
 use Rattle.tough_checks.specs.declared.checks.StepError.{StepError}
 use Rattle.tough_checks.specs.declared.checks.StepError.TheVariants.{Refused as ByCheck, DatastoreOpen, DatastoreCreate, DatastoreRemove, Memory}
 use Rattle.tough_vault.specs.declared.entry.Receipt.{Receipt}
 use Rattle.tough_vault.specs.declared.store.StoreError.{StoreError}
 use Rattle.tough_vault.specs.declared.store.StoreError.TheVariants as device
-use Rattle.tough_vault.specs.Act.{Act, NoteTime, PutRoot, ClearRotated, AdvanceTimestamp, AdvanceSnapshot, PutDocument, CheckedIfOk, Acts}
-use Rattle.tough_vault.specs.Checking.{checked}
-use Rattle.tough_vault.specs.Journal.{Note, note_of, entry_of}
+use Rattle.tough_vault.specs.Act.{Act, NoteTime, PutRoot, ClearRotated, AdvanceTimestamp, AdvanceSnapshot, PutDocument, HasChecked, CheckedIfOk, Acts}
+use Rattle.tough_vault.specs.Checking.{verdict_of, checked}
+use Rattle.tough_vault.specs.Journal.{Note, Root, Cleared, note_of, entry_of}
 use Rattle.tough_vault.specs.Step.{Step, Parts, IsFirst, Takes, TellsRemoval, EndsRemoval, Clears}
 use Rattle.tough_vault.specs.Steps.{time_text, needs, time_step, root_step, timestamp_step, snapshot_step, document_step}
+use Rattle.tough_vault.specs.Puts.{Puts}
 use Rattle.tough_vault.specs.Stored.{Files}
+use Rattle.tough_checks.specs.Rotation.{rotates}
 use Rattle.tough_shared.specs.Telling.{Tells, IsDue, AnswersTo}
 
 same-reason : (x r : Reason) → Some x ≡ Some r → x ≡ r
@@ -92,6 +94,20 @@ module _ (verifies : Verifies) (act : Act) where
   fallen-due [] now old new = none-due
   fallen-due (item ∷ items) now old new = either-due (fallen_at item (version_in now item.name) old new) (fallen items now old new) (fallen-at-due item (version_in now item.name) old new) (fallen-due items now old new)
 
+  -- ---- roots
+
+  module _ (r : RootDoc) (older : (old : ℕ) → r.head.version < old → P (OlderMetadata role.Root old r.head.version)) where
+    root-older-due : (old : ℕ) → Due (root_older old r)
+    root-older-due old = refuse-due (nat_lt r.head.version old) (OlderMetadata role.Root old r.head.version) (λ e. older old (less r.head.version old e))
+
+    root-against-due : (old : Option (SignedDoc RootDoc)) → Due (root_against old r)
+    root-against-due None = none-due
+    root-against-due (Some old) = root-older-due old.role.head.version
+
+    root-tip-due : (tip : Option ℕ) → Due (root_tip tip r)
+    root-tip-due None = none-due
+    root-tip-due (Some tip) = root-older-due tip
+
   -- ---- timestamps
 
   module _ (t : TimestampDoc) (older : (old : ℕ) → t.head.version < old → P (OlderMetadata role.Timestamp old t.head.version)) where
@@ -157,13 +173,20 @@ time-due verifies now stored tip = let act = NoteTime now in
     (either-due verifies act (later stored now) (first_of (later tip now ∷ [])) (later-due verifies act stored now) (either-due verifies act (later tip now) None (later-due verifies act tip now) (none-due verifies act)))
     (either-due verifies act (needs (time_text now)) None (needs-due verifies act (time_text now) (λ e. e)) (none-due verifies act))
 
-removal : (verifies : Verifies) (file : List ℕ) (fault : StoreError) (x : StepError) → TellsRemoval file fault x → AnswersTo verifies ClearRotated (Err x)
-removal verifies file device.Failed (ByCheck c) h = absurd h
-removal verifies file device.Memory (ByCheck c) h = absurd h
-removal verifies file fault (DatastoreOpen path) h = tt
-removal verifies file fault (DatastoreCreate path) h = tt
-removal verifies file fault (DatastoreRemove path) h = tt
-removal verifies file fault Memory h = tt
+root-due : (verifies : Verifies) (root : SignedDoc RootDoc) (stored : Option (SignedDoc RootDoc)) (tip : Option ℕ) → Due verifies (PutRoot root) (first_of (root_after stored tip root.role ∷ needs (root_text root) ∷ []))
+root-due verifies root stored tip = let act = PutRoot root in
+    either-due verifies act (root_after stored tip root.role) (first_of (needs (root_text root) ∷ []))
+    (either-due verifies act (root_against stored root.role) (first_of (root_tip tip root.role ∷ [])) (root-against-due verifies act root.role (λ v below. ((refl, refl), below)) stored)
+    (either-due verifies act (root_tip tip root.role) None (root-tip-due verifies act root.role (λ v below. ((refl, refl), below)) tip) (none-due verifies act)))
+    (either-due verifies act (needs (root_text root)) None (needs-due verifies act (root_text root) (λ e. e)) (none-due verifies act))
+
+removal : (verifies : Verifies) (act : Act) (file : List ℕ) (fault : StoreError) (x : StepError) → TellsRemoval file fault x → AnswersTo verifies act (Err x)
+removal verifies act file device.Failed (ByCheck c) h = absurd h
+removal verifies act file device.Memory (ByCheck c) h = absurd h
+removal verifies act file fault (DatastoreOpen path) h = tt
+removal verifies act file fault (DatastoreCreate path) h = tt
+removal verifies act file fault (DatastoreRemove path) h = tt
+removal verifies act file fault Memory h = tt
 
 module _ {S : Type 0} (tells : Bool) (files : S → Files) (count : S → ℕ) (verifies : Verifies) where
   first : (act : Act) (step : Step) (store : S) (r : Reason) → Due verifies act step.before → ((found : Option (List ℕ)) → Due verifies act (step.after found)) → IsFirst tells files count step store r → IsDue verifies act r
@@ -179,24 +202,31 @@ module _ {S : Type 0} (tells : Bool) (files : S → Files) (count : S → ℕ) (
   answers act step old new (Err (DatastoreRemove path)) before after entry h t = tt
   answers act step old new (Err Memory) before after entry h t = tt
 
-  ends : (first second : Result Unit StoreError) (old new : Parts S) (result : Result Receipt StepError) → EndsRemoval tells files count first second old new result → AnswersTo verifies ClearRotated result
-  ends (Ok u) (Ok v) old new (Ok r) e = (tt, e.1.entry)
-  ends (Err fault) second old new (Err x) e = removal verifies timestamp_file fault x e.1
-  ends (Ok u) (Err fault) old new (Err x) e = removal verifies snapshot_file fault x e.1
-  ends (Ok u) (Ok v) old new (Err x) e = absurd e
-  ends (Err fault) second old new (Ok r) e = absurd e
-  ends (Ok u) (Err fault) old new (Ok r) e = absurd e
+  ends : (act : Act) (note : Note) (first second : Result Unit StoreError) (old new : Parts S) (result : Result Receipt StepError) → HasChecked verifies act → ((n : Note) → n ≡ note → Tells act n)
+      → EndsRemoval tells files count note first second old new result → AnswersTo verifies act result
+  ends act note (Ok u) (Ok v) old new (Ok r) h t e = (h, t (note_of (entry_of r)) e.1.entry)
+  ends act note (Err fault) second old new (Err x) h t e = removal verifies act timestamp_file fault x e.1
+  ends act note (Ok u) (Err fault) old new (Err x) h t e = removal verifies act snapshot_file fault x e.1
+  ends act note (Ok u) (Ok v) old new (Err x) h t e = absurd e
+  ends act note (Err fault) second old new (Ok r) h t e = absurd e
+  ends act note (Ok u) (Err fault) old new (Ok r) h t e = absurd e
 
   clears : (old new : Parts S) (result : Result Receipt StepError) → Clears tells files count old new result → AnswersTo verifies ClearRotated result
   clears old new result (inl s) = subst (λ (x : Result Receipt StepError). AnswersTo verifies ClearRotated x) (sym s.0) tt
-  clears old new result (inr t) = ends t.first t.second old new result t.ends
+  clears old new result (inr t) = ends ClearRotated Cleared t.first t.second old new result tt (λ n e. e) t.ends
+
+  puts : (root : SignedDoc RootDoc) (old new : Parts S) (result : Result Receipt StepError) → CheckedIfOk verifies (PutRoot root) result → Puts tells files count verifies root old new result → AnswersTo verifies (PutRoot root) result
+  puts root old new result h (inl t) = answers (PutRoot root) (root_step verifies old.tip root) old new result
+      (verdict-due verifies (PutRoot root) role.Root (root_verdict verifies root.role root) (λ c e. e))
+      (λ found. root-due verifies root (stored_root verifies found) old.tip.root) (λ found n e. (rotates (stored_root verifies found) root.role, e)) h t.takes
+  puts root old new result h (inr t) = ends (PutRoot root) (Root root.role.head.version true) t.tried.first t.tried.second (record { store = t.between; notes = old.notes; tip = old.tip }) new result
+      (verdict_of role.Root (root_verdict verifies root.role root) t.passes.before) (λ n e. (true, e)) t.tried.ends
 
   -- a step answers to what it was given
   pub tells_what : (act : Act) (old new : Parts S) (result : Result Receipt StepError) → Acts tells files count verifies act old new result → AnswersTo verifies act result
   tells_what (NoteTime now) old new result h = answers (NoteTime now) (time_step old.tip now) old new result
       (none-due verifies (NoteTime now)) (λ found. time-due verifies now (stored_time found) old.tip.time) (λ found n e. e) (checked tells files count verifies (NoteTime now) old new result h) h
-  tells_what (PutRoot root) old new result h = answers (PutRoot root) (root_step root) old new result
-      (needs-due verifies (PutRoot root) (root_text root) (λ e. e)) (λ found. none-due verifies (PutRoot root)) (λ found n e. e) (checked tells files count verifies (PutRoot root) old new result h) h
+  tells_what (PutRoot root) old new result h = puts root old new result (checked tells files count verifies (PutRoot root) old new result h) h
   tells_what ClearRotated old new result h = clears old new result h
   tells_what (AdvanceTimestamp root t start enforced) old new result h = let act = AdvanceTimestamp root t start enforced in
       answers act (timestamp_step verifies root old.tip t start enforced) old new result (timestamp-first-due verifies root t start enforced)

@@ -17,7 +17,7 @@ items_from ps = map (λ p. record { name = p.0; version = p.1 }) ps
 
 abbrev pub line_of : Note → Line
 line_of (Noted t) = line.Noted t
-line_of (Root v) = line.Root v
+line_of (Root v cleared) = line.Root v cleared
 line_of (Timestamp p had) = line.Timestamp p.version p.snapshot had
 line_of (Snapshot r had) = line.Snapshot r.version (pairs_of r.items) had
 line_of Cleared = line.Cleared
@@ -27,7 +27,7 @@ line_of Broken = line.Broken
 -- the entry that a line is, if it is one
 abbrev pub note_at : Line → Option Note
 note_at (line.Noted t) = Some (Noted t)
-note_at (line.Root v) = Some (Root v)
+note_at (line.Root v cleared) = Some (Root v cleared)
 note_at (line.Timestamp v w had) = Some (Timestamp (record { version = v; snapshot = w }) had)
 note_at (line.Snapshot v ps had) = Some (Snapshot (record { version = v; items = items_from ps }) had)
 note_at line.Cleared = Some Cleared

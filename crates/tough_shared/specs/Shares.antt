@@ -1,9 +1,12 @@
 -- What a step through the lock says: it is the vault's step, between two states that the lock held.
-use Rattle.std.specs.Prelude.{◌≡◌, ℕ, Bool, true, false, Result}
+use Rattle.std.specs.Prelude.{◌≡◌, ℕ, Bool, true, false, Option, Result}
 use Rattle.tough_keys.specs.Same.{Verifies}
+use Rattle.tough_roles.specs.Root.{RootDoc}
+use Rattle.tough_roles.specs.Signature.{SignedDoc}
 use Rattle.tough_checks.specs.declared.checks.StepError.{StepError}
 use Rattle.tough_vault.specs.Act.{Act, Acts}
 use Rattle.tough_vault.specs.Journal.{Legal, has_broken}
+use Rattle.tough_vault.specs.Looking.{Looks}
 use Rattle.tough_vault.specs.Parts.{Holds}
 use Rattle.tough_vault.specs.Step.{Parts}
 use Rattle.tough_vault.specs.Stored.{Files}
@@ -29,4 +32,12 @@ module _ {S : Type 0} (tells : Bool) (files : S → Files) where
       pub new : Parts S
       pub before : Keeps old
       pub step : Acts tells files count verifies act old new (untied result)
+      pub after : Keeps new
+
+    -- There are two states that the lock held, between which the vault's own look at its stored root led to this answer; of it nothing is noted.
+    pub record SharesLook (verifies : Verifies) (first : ℕ) (result : Result (Option (SignedDoc RootDoc)) StepError) : Type 0 where
+      pub old : Parts S
+      pub new : Parts S
+      pub before : Keeps old
+      pub look : Looks tells files count verifies first old new result
       pub after : Keeps new

@@ -4,7 +4,7 @@ use Rattle.tough_keys.specs.Same.{Verifies}
 use Rattle.tough_roles.specs.declared.role_type.RoleType.{RoleType}
 use Rattle.tough_roles.specs.declared.role_type.RoleType.TheVariants as role
 use Rattle.tough_checks.specs.Checks.{Reason, DatastoreSerialize, VerifyMetadata, VersionMismatch, OlderMetadata, ExpiredMetadata, reason_of, refuse, verified, expiry, versions_in, roles_in}
-use Rattle.tough_checks.specs.Documents.{root_text, timestamp_verdict, snapshot_verdict}
+use Rattle.tough_checks.specs.Documents.{root_text, root_verdict, timestamp_verdict, snapshot_verdict}
 use Rattle.tough_checks.specs.declared.checks.StepError.{StepError}
 use Rattle.tough_checks.specs.declared.checks.StepError.TheVariants.{Refused}
 use Rattle.tough_vault.specs.declared.entry.Receipt.{Receipt}
@@ -15,7 +15,7 @@ use Rattle.tough_vault.specs.Steps.{time_text, needs}
 -- the entry tells what was given
 abbrev pub Tells : Act → Note → Type 0
 Tells (NoteTime now) n = n ≡ Noted now
-Tells (PutRoot root) n = n ≡ Root root.role.head.version
+Tells (PutRoot root) n = (cleared : Bool) × (n ≡ Root root.role.head.version cleared)
 Tells ClearRotated n = n ≡ Cleared
 Tells (AdvanceTimestamp root t start enforced) n = (had : Bool) × (n ≡ Timestamp (versions_in t.role) had)
 Tells (AdvanceSnapshot root listed s start enforced) n = (had : Bool) × (n ≡ Snapshot (roles_in s.role) had)
@@ -23,6 +23,7 @@ Tells (PutDocument name text) n = n ≡ Document name
 
 -- what verification refuses of what was given
 abbrev pub unverified : Verifies → Act → Option Reason
+unverified verifies (PutRoot root) = verified role.Root (root_verdict verifies root.role root)
 unverified verifies (AdvanceTimestamp root t start enforced) = verified role.Timestamp (timestamp_verdict verifies root t)
 unverified verifies (AdvanceSnapshot root listed s start enforced) = verified role.Snapshot (snapshot_verdict verifies root s)
 unverified verifies _ = None
@@ -47,6 +48,7 @@ textless _ = None
 
 -- this is the role, and the version, of the document that was given
 abbrev pub IsVersion : Act → RoleType → ℕ → Type 0
+IsVersion (PutRoot root) type v = (type ≡ role.Root) × (v ≡ root.role.head.version)
 IsVersion (AdvanceTimestamp root t start enforced) type v = (type ≡ role.Timestamp) × (v ≡ t.role.head.version)
 IsVersion (AdvanceSnapshot root listed s start enforced) type v = (type ≡ role.Snapshot) × (v ≡ s.role.head.version)
 IsVersion _ type v = ⊥

@@ -8,6 +8,7 @@ use crate::shared_store::SharedStore;
 use std::alloc::Global;
 use std::sync::Wait;
 use tough_keys::Verify;
+use tough_roles::{Root, Signed};
 use tough_trust::{Act, Keeper};
 use tough_vault::{StepError, Store};
 
@@ -52,14 +53,34 @@ impl<S: Store + Drop, R: Wait + Drop, J: Naming> SharedKeeper<S, R, J> {
 
 impl<S: Store + Drop, R: Wait + Drop, J: Naming> Keeper for SharedKeeper<S, R, J> {
     ghost use Rattle.tough_shared.specs.Checking.{shared_checks};
-    ghost use Rattle.tough_shared.specs.Keeping.{shared_keeps};
+    ghost use Rattle.tough_shared.specs.Keeping.{shared_keeps, shared_reads};
+    ghost use Rattle.tough_vault.proofs.lemmas.Vouching.{look-vouches};
 
     type Receipt = Receipt<J>;
 
     ghost keeps = { shared_keeps S.tells S.files S.count };
 
+    ghost reads = { shared_reads S.tells S.files S.count };
+
     ghost checks = { λ verifies old act result new h. shared_checks S.tells S.files S.count verifies
         act result h.0 };
+
+    ghost vouches = { λ verifies old first result new h. look-vouches S.tells S.files S.count
+        verifies first h.0.old h.0.new result h.0.look };
+
+    fn read_root<V: Verify>(
+        &mut self,
+        first: u64,
+        verifier: &V,
+    ) -> Result<Option<Signed<Root>>, StepError> {
+        let SharedKeeper {
+            store,
+            rt,
+            next: _,
+            front: _,
+        } = self;
+        store.read_root(rt, first, verifier)
+    }
 
     fn take<V: Verify>(
         &mut self,

@@ -6,7 +6,7 @@ use tough_vault::Receipt;
 /// A line of the history: an entry as plain data, or that the store was closed. No value of it is made.
 pub(crate) enum Line {
     Noted(i128),
-    Root(u64),
+    Root(u64, bool),
     Timestamp(u64, u64, bool),
     Snapshot(u64, LinkedList<(LinkedList<u8>, u64)>, bool),
     Cleared,

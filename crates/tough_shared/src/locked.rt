@@ -6,17 +6,18 @@ ghost use Rattle.tough_vault.specs.Journal.{number_of};
 ghost use Rattle.tough_vault.specs.Vault.{parts_of, journal_of, notes_in, store_of};
 ghost use Rattle.tough_checks.specs.Documents.{role_text};
 ghost use Rattle.tough_checks.specs.DocumentName.{name_of};
+ghost use Rattle.tough_vault.specs.Looking.{Looks, look_doc};
 ghost use Rattle.tough_trust.specs.View.{act_of};
 ghost use Rattle.tough_shared.specs.Lines.{lines, is_open, Grows};
 ghost use Rattle.tough_shared.specs.Receipts.{untied, IsLater};
-ghost use Rattle.tough_shared.specs.Shares.{Keeps, Shares, no_signature};
+ghost use Rattle.tough_shared.specs.Shares.{Keeps, Shares, SharesLook, no_signature};
 
 use crate::front::{Front, Head, Naming};
 use crate::line::Addition;
 use crate::receipt::Receipt;
 use std::alloc::Global;
 use std::sync::Wait;
-use tough_roles::{Role, Signed, Verify};
+use tough_roles::{Role, Root, Signed, Verify};
 use tough_trust::{Act, act_on};
 use tough_vault::{DocumentName, StepError, Store, Vault};
 
@@ -131,6 +132,33 @@ impl<S: Store, J: Naming> Locked<S, J> {
     {
         self.show();
         let result = self.put_document(rt, head, me, name, role);
+        self.show();
+        result
+    }
+
+    // The look of the vault at its stored root.
+    fn look<V: Verify>(
+        &mut self,
+        first: u64,
+        verifier: &V,
+    ) -> Result<Option<Signed<Root>>, StepError>
+        ensures { Looks S.tells S.files S.count (V.verifies verifier.now) first
+            (parts_of self.old.vault) (parts_of self.new.vault) (look_doc result) }
+    {
+        self.vault.read_root(first, verifier)
+    }
+
+    /// The look of the vault at its stored root, as it is told through the lock.
+    pub(crate) fn read_root<V: Verify>(
+        &mut self,
+        first: u64,
+        verifier: &V,
+    ) -> Result<Option<Signed<Root>>, StepError>
+        ensures { SharesLook S.tells S.files S.count (V.verifies verifier.now) first
+            (look_doc result) }
+    {
+        self.show();
+        let result = self.look(first, verifier);
         self.show();
         result
     }

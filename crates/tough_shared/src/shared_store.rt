@@ -9,10 +9,11 @@ ghost use Rattle.tough_checks.specs.Checks.{enforces};
 ghost use Rattle.tough_checks.specs.DocumentName.{name_of};
 ghost use Rattle.tough_checks.specs.Documents.{role_text};
 ghost use Rattle.tough_vault.specs.Act.{NoteTime, PutRoot, ClearRotated, AdvanceTimestamp, AdvanceSnapshot, PutDocument};
+ghost use Rattle.tough_vault.specs.Looking.{look_doc};
 ghost use Rattle.tough_trust.specs.View.{act_of};
 ghost use Rattle.tough_shared.specs.Opened.{book_of};
 ghost use Rattle.tough_shared.specs.Receipts.{IsLater};
-ghost use Rattle.tough_shared.specs.Shares.{Shares, no_signature};
+ghost use Rattle.tough_shared.specs.Shares.{Shares, SharesLook, no_signature};
 
 use crate::closed::ClosedStore;
 use crate::front::{Front, Head, Naming, Opened};
@@ -110,13 +111,36 @@ impl<S: Store + Drop, J: Naming> SharedStore<S, J> {
         self.take_behind(rt, &self.start, self.alloc, &act, &NoSignature)
     }
 
-    /// Stores a root, as `Vault::put_root`.
-    pub fn put_root<R: Wait>(&self, rt: &R, root: &Signed<Root>) -> Result<Receipt<J>, StepError>
-        ensures { Shares S.tells S.files S.count no_signature
+    /// The stored root, where it is newer than this version, as `Vault::read_root`.
+    pub fn read_root<R: Wait, V: Verify>(
+        &self,
+        rt: &R,
+        first: u64,
+        verifier: &V,
+    ) -> Result<Option<Signed<Root>>, StepError>
+        ensures { SharesLook S.tells S.files S.count (V.verifies verifier.now) first
+            (look_doc result) }
+    {
+        let mut guard = self.shared.vault.lock(rt);
+        if let Some(locked) = &mut *guard {
+            return locked.read_root(first, verifier);
+        }
+        for _ in rt.forever() {}
+        unreachable!()
+    }
+
+    /// Accepts a root, as `Vault::put_root` (TUF specification 5.3).
+    pub fn put_root<R: Wait, V: Verify>(
+        &self,
+        rt: &R,
+        root: &Signed<Root>,
+        verifier: &V,
+    ) -> Result<Receipt<J>, StepError>
+        ensures { Shares S.tells S.files S.count (V.verifies verifier.now)
             (PutRoot (signed_doc root_doc root.now)) result }
     {
         let act = Act::PutRoot(root);
-        self.take_behind(rt, &self.start, self.alloc, &act, &NoSignature)
+        self.take_behind(rt, &self.start, self.alloc, &act, verifier)
     }
 
     /// Forgets timestamp and snapshot, as `Vault::clear_rotated`.

@@ -1,3 +1,2 @@
 pub mod lemmas
-pub mod Rotated
 pub mod Setting

@@ -5,7 +5,6 @@ pub mod Outcomes
 pub mod Faults
 pub mod Requests
 pub mod Walk
-pub mod Rotation
 pub mod Listed
 pub mod Steps
 pub mod Checking

@@ -1,9 +1,15 @@
 -- Steps that a keeper takes, and the receipts of them.
-use Rattle.std.specs.Prelude.{◌≡◌, ◌⊎◌, ◌++◌, ◌∷◌, [], List, Result, Ok, Err}
+use Rattle.std.specs.Prelude.{◌≡◌, ◌⊎◌, ◌++◌, ◌∷◌, [], ℕ, List, Option, Result, Ok, Err}
 use Rattle.tough_keys.specs.Same.{Verifies}
+use Rattle.tough_roles.specs.Root.{RootDoc}
+use Rattle.tough_roles.specs.Signature.{SignedDoc}
 use Rattle.tough_vault.specs.Act.{Act}
 use Rattle.tough_checks.specs.declared.checks.StepError.{StepError}
 use Rattle.tough_trust.specs.Failure.{Failure, Memory, step_failure}
+
+-- how a keeper looks at its stored root: its state, a version, the root where that is newer, and the state after
+abbrev pub ReadsRoot : Type 0 → Type 1
+ReadsRoot K = Verifies → K → ℕ → Result (Option (SignedDoc RootDoc)) StepError → K → Type 0
 
 -- what a step answers, its receipt apart
 abbrev pub taken : {R : Type 0} → Result R StepError → Result Unit Failure

@@ -1,7 +1,7 @@
 -- Requests, steps, and who vouches for targets, seen as plain data.
 use Rattle.std.specs.BTreeMap.{get_by_text}
-use Rattle.std.specs.Prelude.{option_map, string_bytes, Result, Ok, Err, ⊤}
-use Rattle.tough_roles.specs.Signature.{signed_doc}
+use Rattle.std.specs.Prelude.{option_map, string_bytes, Option, Result, Ok, Err, ⊤}
+use Rattle.tough_roles.specs.Signature.{SignedDoc, signed_doc}
 use Rattle.tough_roles.specs.Timestamp.{timestamp_doc}
 use Rattle.tough_roles.specs.Snapshot.{snapshot_doc}
 use Rattle.tough_schema.specs.Targets.{targets_doc}
@@ -11,7 +11,7 @@ use Rattle.tough_checks.specs.Checks.{enforces}
 use Rattle.tough_checks.specs.DocumentName.{name_of}
 use Rattle.tough_checks.specs.Files.{targets_file}
 use Rattle.tough_checks.specs.declared.checks.StepError.{StepError}
-use Rattle.tough_roles.specs.Root.{root_doc}
+use Rattle.tough_roles.specs.Root.{RootDoc, root_doc}
 use Rattle.tough_net.specs.Digests.{digests_of}
 use Rattle.tough_trust.specs.declared.request.Request.{Request}
 use Rattle.tough_trust.specs.declared.holder.Holder.{Holder}
@@ -54,6 +54,11 @@ act_of (to.AdvanceTimestamp root new start enforcement) = act.AdvanceTimestamp (
 act_of (to.AdvanceSnapshot root listed new start enforcement) = act.AdvanceSnapshot (root_doc root.now) listed (signed_doc snapshot_doc new.now) start.nanosecond (enforces enforcement)
 act_of (to.PutDelegated name d) = act.PutDocument (name_of name.now) (targets_text (signed_doc targets_doc d.now))
 act_of (to.PutTargets d) = act.PutDocument targets_file (targets_text (signed_doc targets_doc d.now))
+
+-- the stored root, as a keeper reads it
+abbrev pub read_doc : Result (Option (SignedDoc RootDoc)) StepError → Result (Option (SignedDoc RootDoc)) Failure
+read_doc (Ok r) = Ok r
+read_doc (Err e) = Err (step_failure e)
 
 abbrev pub step_doc : Result ⊤ StepError → Result Unit Failure
 step_doc (Ok u) = Ok (tt {0})

@@ -2,21 +2,15 @@
 use Rattle.std.specs.Prelude.{ℕ, ◌+◌, ◌-◌, ◌^◌, ◌==◌, List, [], ◌∷◌, Option, Some, None, option_map, not, nat_lt, Result, Ok, Err, if◌then◌else◌}
 use Rattle.tough_keys.specs.Same.{Verifies}
 use Rattle.tough_roles.specs.Signature.{SignedDoc}
-use Rattle.tough_roles.specs.Root.{RootDoc, root_json}
-use Rattle.tough_roles.specs.Policy.{policy}
-use Rattle.tough_roles.specs.Verdict.{Refused, MissingRole, verdict}
-use Rattle.tough_roles.specs.Chain.{text_by}
+use Rattle.tough_roles.specs.Root.{RootDoc}
+use Rattle.tough_roles.specs.Verdict.{Refused}
 use Rattle.tough_roles.specs.declared.role_type.RoleType.TheVariants as role
 use Rattle.tough_checks.specs.Checks.{Reason, OlderMetadata, first_of, refuse, verified}
-use Rattle.tough_checks.specs.Documents.{root_in}
+use Rattle.tough_checks.specs.Documents.{root_in, root_verdict}
 use Rattle.tough_net.specs.declared.limits.Limits.{Limits}
 use Rattle.tough_trust.specs.Failure.{Failure, ParseTrustedMetadata, VerifyTrustedMetadata, ParseMetadata, MaxUpdatesExceeded}
 use Rattle.tough_trust.specs.Outcomes.{unless, unrefused, if_read, holds_json, and_then}
 use Rattle.tough_trust.specs.Requests.{RequestDoc, root_request}
-
--- what a root's verification of a signed root answers
-abbrev pub root_verdict : Verifies → RootDoc → SignedDoc RootDoc → Result Unit Refused
-root_verdict verifies root d = verdict verifies (MissingRole role.Root) role.Root (policy root role.Root) (text_by root_json d.role) d.signatures
 
 -- the root that was handed in, by what its verification under itself answers
 abbrev pub if_trusted : Result Unit Refused → SignedDoc RootDoc → Result (SignedDoc RootDoc) Failure

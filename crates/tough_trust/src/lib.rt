@@ -10,7 +10,6 @@ mod holder;
 mod keeper;
 mod listed;
 mod request;
-mod rotation;
 mod step;
 mod timely;
 mod walk;
@@ -27,8 +26,8 @@ pub use request::{
     Request, digests_in, role_request, root_request, snapshot_request, targets_request,
     timestamp_request,
 };
-pub use rotation::is_rotated;
 pub use step::act_on;
 pub use timely::{Expiry, earliest, note_timely};
+pub use tough_checks::is_rotated;
 pub use tough_net::Limits;
 pub use walk::{first_root, next_request, next_root, next_version};

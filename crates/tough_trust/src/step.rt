@@ -11,7 +11,7 @@ use std::alloc::Global;
 use tough_roles::Verify;
 use tough_vault::{DocumentName, Receipt, StepError, Store, Vault};
 
-/// Takes the step on the vault. What a time, a timestamp or a snapshot is stored as is read as it was given, where that nests no deeper
+/// Takes the step on the vault. What a time, a root, a timestamp or a snapshot is stored as is read as it was given, where that nests no deeper
 /// than is read.
 pub fn act_on<S: Store, V: Verify>(
     vault: &mut Vault<S>,
@@ -25,7 +25,7 @@ pub fn act_on<S: Store, V: Verify>(
 {
     match act {
         Act::NoteTime(now) => vault.note_time(*now),
-        Act::PutRoot(root) => vault.put_root(*root),
+        Act::PutRoot(root) => vault.put_root(*root, verifier),
         Act::ClearRotated => vault.clear_rotated(),
         Act::AdvanceTimestamp {
             root,

@@ -4,6 +4,7 @@ use Rattle.std.proofs.Common.{refl, sym, ◌∙◌, ap, subst, inl, inr, arith}
 use Rattle.std.proofs.Math.Nat.{min-le_left, min-le_right, le-min}
 use Rattle.std.proofs.lemmas.Bool.{ltb-true}
 use Rattle.tough_keys.specs.Same.{Verifies}
+use Rattle.tough_roles.specs.Root.{RootDoc}
 use Rattle.tough_roles.specs.Signature.{SignedDoc}
 use Rattle.tough_roles.specs.Timestamp.{TimestampDoc, MetafileDoc}
 use Rattle.tough_roles.specs.declared.role_type.RoleType.TheVariants as role
@@ -22,7 +23,7 @@ use Rattle.tough_update.proofs.growth.Tallied.{IsKeyed, bare-keyed}
 use Rattle.tough_update.proofs.growth.Laws.{WorkGrows, ProgressGrows, begun-grows, taken-grows, grows-more, grows-listed}
 use Rattle.tough_update.specs.declared.counts.Counts.{Counts}
 use Rattle.tough_trust.specs.Failure.{Failure, ParseMetadata}
-use Rattle.tough_trust.specs.Walk.{first_root, next_root}
+use Rattle.tough_trust.specs.Walk.{next_root}
 use Rattle.tough_trust.specs.Outcomes.{holds_json}
 use Rattle.tough_trust.specs.Requests.{RequestDoc}
 use Rattle.tough_trust.specs.Listed.{by_root, judged}
@@ -31,12 +32,12 @@ use Rattle.tough_update.specs.Stages.{WalkDoc, BaseDoc, KnownDoc, WantedDoc, Pen
 use Rattle.tough_update.specs.Stages as at
 use Rattle.tough_update.specs.Answered.{AnswerDoc}
 use Rattle.tough_update.specs.Answered as got
-use Rattle.tough_update.specs.Machine.{walked, walk_ended, want_snapshot, known_of, want_targets, read_wanted, after, stage_after}
+use Rattle.tough_update.specs.Machine.{walked, walk_from, walk_ended, want_snapshot, known_of, want_targets, read_wanted, after, stage_after}
 use Rattle.tough_update.specs.Promises.{Goes}
 use Rattle.tough_update.specs.Counts.{none_yet, one_more, ends_fetch, with_fetch, with_work, with_tree}
 use Rattle.tough_update.specs.Counted.{Counted, FetchesFew, KeepsAll}
 use Rattle.tough_update.specs.Counted as counted
-use Rattle.tough_update.proofs.Turning.{Fine, if-fine, and_then-fine, walking, ending, reading, waits, keeps-answer}
+use Rattle.tough_update.proofs.Turning.{Fine, if-fine, and_then-fine, walking, ending, beginning, reading, waits, keeps-answer}
 use Rattle.tough_trust.proofs.lemmas.Walking.{next-fine}
 use Rattle.tough_trust.proofs.lemmas.Judging.{judged-ok}
 use Rattle.tough_update.proofs.Keeping.{kept_listed}
@@ -65,6 +66,7 @@ unended w r (got.Bytes bytes) e = cc e
 unended w r (got.NotStarted f) e = cc e
 unended w r (got.Cut f) e = cc e
 unended w r (got.Moment now) e = refl
+unended w r (got.Stored x) e = refl
 unended w r (got.Step s) e = refl
 
 abbrev more_roots : Counts → Counts
@@ -96,11 +98,11 @@ module _ (v : Verifies) (s : SettingDoc) where
 
   abbrev Bounded : Counts → StageDoc → Type 0
   Bounded n at.Moment = First n
+  Bounded n (at.ReadRoot w) = First n × (w.first ≡ w.last)
   Bounded n (at.Step (at.NoteTime now)) = First n
   Bounded n (at.Fetch (at.Root w) r) = Over w n × (n.roots < s.limits.max_root_updates)
   Bounded n (at.Step (at.PutRoot w)) = Over w n × (n.roots ≤ s.limits.max_root_updates)
   Bounded n (at.Step (at.PutLast w)) = Early n
-  Bounded n (at.Step (at.Clear b)) = Early n
   Bounded n (at.Fetch (at.Timestamp b) r) = Early n
   Bounded n (at.Step (at.PutTimestamp b t)) = Early n
   Bounded n (at.Fetch (at.Snapshot b t listed) r) = Early n
@@ -121,11 +123,11 @@ module _ (v : Verifies) (s : SettingDoc) where
 
   late-at : (n : Counts) (st : StageDoc) → Bounded n st → Late n
   late-at n at.Moment t = early-late n (first-early n t)
+  late-at n (at.ReadRoot w) t = early-late n (first-early n t.0)
   late-at n (at.Step (at.NoteTime now)) t = early-late n (first-early n t)
   late-at n (at.Fetch (at.Root w) r) t = (omega (arith, t.1), omega (arith, t.0.1))
   late-at n (at.Step (at.PutRoot w)) t = early-late n (t.1, t.0.1)
   late-at n (at.Step (at.PutLast w)) t = early-late n t
-  late-at n (at.Step (at.Clear b)) t = early-late n t
   late-at n (at.Fetch (at.Timestamp b) r) t = early-late n t
   late-at n (at.Step (at.PutTimestamp b x)) t = early-late n t
   late-at n (at.Fetch (at.Snapshot b x listed) r) t = early-late n t
@@ -156,6 +158,7 @@ module _ (v : Verifies) (s : SettingDoc) where
   late-next n (at.Fetch (at.Root w) r) a t = early-late (if ends_fetch a then more_roots n else n) (roots-more n (ends_fetch a) t.1 t.0.1)
   late-next n (at.Fetch (at.Role k roles listed) r) a t = delegated-late n (ends_fetch a) roles.work t
   late-next n at.Moment a t = late-at n at.Moment t
+  late-next n (at.ReadRoot w) a t = late-at n (at.ReadRoot w) t
   late-next n (at.Step p) a t = late-at n (at.Step p) t
   late-next n (at.Fetch (at.Timestamp b) r) a t = late-at n (at.Fetch (at.Timestamp b) r) t
   late-next n (at.Fetch (at.Snapshot b x listed) r) a t = late-at n (at.Fetch (at.Snapshot b x listed) r) t
@@ -184,8 +187,18 @@ module _ (v : Verifies) (s : SettingDoc) where
     walked-bounded : (w : WalkDoc) → Over w m → m.roots ≤ s.limits.max_root_updates → Well (walked s.limits w)
     walked-bounded w o le = walking Next bad s.limits w (λ _ _. (le, o.1)) (λ g. (o, below w.first.role.head.version w.last.role.head.version m.roots s.limits.max_root_updates o.0 g))
 
+    -- at the walk's first root
+    at-bounded : (w : WalkDoc) → w.first ≡ w.last → First m → Well (walked s.limits w)
+    at-bounded w same none =
+        let over : w.first.role.head.version + m.roots ≤ w.last.role.head.version = omega (arith, none.0, ap (λ (r : SignedDoc RootDoc). r.role.head.version) same) in
+        walked-bounded w (over, none.1) enough.0
+
+    from-bounded : (w : WalkDoc) (r : Option (SignedDoc RootDoc)) → w.first ≡ w.last → First m → Well (walked s.limits (walk_from w r))
+    from-bounded w None same none = at-bounded w same none
+    from-bounded w (Some r) same none = at-bounded (record { start = w.start; first = r; last = r }) refl none
+
     walk_ended-bounded : (w : WalkDoc) → Early m → Well (walk_ended s.limits s.enforced w)
-    walk_ended-bounded w f = ending Next bad s.limits s.enforced w (λ _ _. f) (λ _. f)
+    walk_ended-bounded w f = ending Next bad s.limits s.enforced w (λ _. f)
 
     want_snapshot-bounded : (b : BaseDoc) (t : SignedDoc TimestampDoc) (o : Option MetafileDoc) → Early m → Well (want_snapshot s.limits b t o)
     want_snapshot-bounded b t None f = enough
@@ -233,13 +246,9 @@ module _ (v : Verifies) (s : SettingDoc) where
         (grows-counted 1 roles.work m grows, keyed, bare))
 
     step-bounded : (p : PendingDoc) → Bounded n (at.Step p) → Heard (at.Step p) (got.Step (Ok (tt {0}))) → Well (after v s p)
-    step-bounded (at.NoteTime now) t l = and_then-fine Next bad (first_root v s.trusted) (λ root. walked s.limits (record { start = now; first = root; last = root })) (λ root is.
-        let none : First m = subst First (sym l) t in
-        let over : root.role.head.version + m.roots ≤ root.role.head.version = omega (arith, none.0) in
-        walked-bounded (record { start = now; first = root; last = root }) (over, none.1) enough.0)
+    step-bounded (at.NoteTime now) t l = beginning Next bad v s.trusted now (λ root is. (subst First (sym l) t, refl))
     step-bounded (at.PutRoot w) t l = walked-bounded w (subst (Over w) (sym l) t.0) enough.0
     step-bounded (at.PutLast w) t l = walk_ended-bounded w (early l t)
-    step-bounded (at.Clear b) t l = early l t
     step-bounded (at.PutTimestamp b x) t l = want_snapshot-bounded b x (metafile_in x.role.meta snapshot_file) (early l t)
     step-bounded (at.PutSnapshot k listed) t l = want_targets-bounded k (metafile_in k.snapshot.role.meta targets_file) (early l t)
     step-bounded (at.PutTargets k d) t l =
@@ -255,11 +264,11 @@ module _ (v : Verifies) (s : SettingDoc) where
 
     same-bounded : (st : StageDoc) (a : AnswerDoc) → waits st a ≡ false → Bounded n st → Heard st a → Next st
     same-bounded at.Moment a e t l = subst First (sym l) t
+    same-bounded (at.ReadRoot w) a e t l = (subst First (sym l) t.0, t.1)
     same-bounded (at.Step (at.NoteTime now)) a e t l = subst First (sym l) t
     same-bounded (at.Fetch (at.Root w) r) a e t l = subst (λ x. Bounded x (at.Fetch (at.Root w) r)) (sym (kept-counts (more_roots n) (ends_fetch a) (unended (at.Root w) r a e) l)) t
     same-bounded (at.Step (at.PutRoot w)) a e t l = subst (λ x. Bounded x (at.Step (at.PutRoot w))) (sym l) t
     same-bounded (at.Step (at.PutLast w)) a e t l = early l t
-    same-bounded (at.Step (at.Clear b)) a e t l = early l t
     same-bounded (at.Fetch (at.Timestamp b) r) a e t l = early l t
     same-bounded (at.Step (at.PutTimestamp b x)) a e t l = early l t
     same-bounded (at.Fetch (at.Snapshot b x listed) r) a e t l = early l t
@@ -279,6 +288,7 @@ module _ (v : Verifies) (s : SettingDoc) where
     turn-bounded : (st : StageDoc) (a : AnswerDoc) → Bounded n st → Heard st a → Well (stage_after v s st a)
     turn-bounded st a t l = keeps-answer v s (Bounded n) Next bad Heard (record {
       moment = λ now t l. subst First (sym l) t;
+      stored = λ w r t l. from-bounded w r t.1 (subst First (sym l) t.0);
       read = read-bounded;
       ends = λ w r a _ t l. subst Early (sym l) (roots-more n (ends_fetch a) t.1 t.0.1);
       step = step-bounded;

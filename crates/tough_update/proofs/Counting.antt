@@ -4,6 +4,7 @@ use Rattle.std.proofs.Common.{refl, sym, ◌∙◌, ap, subst, inl, inr, arith}
 use Rattle.std.proofs.lemmas.Bool.{ltb-true}
 use Rattle.std.proofs.lemmas.List.{append-nil, append_assoc, length-append}
 use Rattle.tough_keys.specs.Same.{Verifies}
+use Rattle.tough_roles.specs.Root.{RootDoc}
 use Rattle.tough_roles.specs.Signature.{SignedDoc}
 use Rattle.tough_roles.specs.Timestamp.{TimestampDoc, MetafileDoc}
 use Rattle.tough_roles.specs.declared.role_type.RoleType.TheVariants as role
@@ -12,7 +13,7 @@ use Rattle.tough_roles.specs.Timestamp.{metafile_in}
 use Rattle.tough_checks.specs.Files.{snapshot_file, targets_file}
 use Rattle.tough_net.specs.declared.limits.Limits.{Limits}
 use Rattle.tough_trust.specs.Failure.{Failure, ParseMetadata}
-use Rattle.tough_trust.specs.Walk.{first_root, next_root}
+use Rattle.tough_trust.specs.Walk.{next_root}
 use Rattle.tough_trust.specs.Outcomes.{holds_json}
 use Rattle.tough_trust.specs.Requests.{RequestDoc, root_request}
 use Rattle.tough_trust.specs.Listed.{by_root, judged}
@@ -28,13 +29,13 @@ use Rattle.tough_update.specs.Stages as at
 use Rattle.tough_update.specs.Questions as ask
 use Rattle.tough_update.specs.Answered.{AnswerDoc}
 use Rattle.tough_update.specs.Answered as got
-use Rattle.tough_update.specs.Machine.{question, answered, walked, walk_ended, want_snapshot, known_of, want_targets, read_wanted, after, settled, stage_after}
-use Rattle.tough_update.specs.Runs.{run, IsFresh}
-use Rattle.tough_update.specs.Asking.{fetched, requests, roots_after, first_version, IsOfRole, AsksFew}
-use Rattle.tough_update.proofs.Turning.{Fine, if-fine, and_then-fine, walking, ending, reading, waits, keeps-answer}
+use Rattle.tough_update.specs.Machine.{question, answered, walked, walk_from, walk_ended, want_snapshot, known_of, want_targets, read_wanted, after, settled, stage_after}
+use Rattle.tough_update.specs.Runs.{run, IsFresh, WasStored}
+use Rattle.tough_update.specs.Asking.{fetched, requests, roots_after, first_version, IsOfRole, BeginsAt, AsksFew}
+use Rattle.tough_update.proofs.Turning.{Fine, if-fine, and_then-fine, walking, ending, beginning, reading, waits, keeps-answer}
 use Rattle.tough_trust.proofs.lemmas.Walking.{next-fine}
 use Rattle.tough_update.proofs.Prefixes.{in_stage, whole}
-use Rattle.tough_update.proofs.History.{first-read}
+use Rattle.tough_update.proofs.History.{first-read, stored-more}
 
 -- ---- lists of requests
 
@@ -60,6 +61,7 @@ fetched-one r (got.Bytes bytes) = inr refl
 fetched-one r (got.NotStarted f) = inr refl
 fetched-one r (got.Cut f) = inr refl
 fetched-one r (got.Moment now) = inl refl
+fetched-one r (got.Stored x) = inl refl
 fetched-one r (got.Step s) = inl refl
 
 unwaited : (w : WantedDoc) (r : RequestDoc) (a : AnswerDoc) → waits (at.Fetch w r) a ≡ false → fetched (ask.Fetch r) a ≡ []
@@ -67,10 +69,16 @@ unwaited w r (got.Bytes bytes) e = cc
 unwaited w r (got.NotStarted f) e = cc
 unwaited w r (got.Cut f) e = cc
 unwaited w r (got.Moment now) e = refl
+unwaited w r (got.Stored x) e = refl
 unwaited w r (got.Step s) e = refl
 
 below : (first n last max : ℕ) → last ≡ first + n → IsTrue (nat_lt (last - first) max) → n < max
 below first n last max e h = let k : last - first < max = ltb-true _ _ h in omega (arith, e, k)
+
+-- what may begin a walk may begin it after one answer more
+begins-more : (v : Verifies) (c : CoreDoc) (h : List AnswerDoc) (a : AnswerDoc) (version : ℕ) → BeginsAt v c h version → BeginsAt v c (h ++ a ∷ []) version
+begins-more v c h a version (inl e) = inl e
+begins-more v c h a version (inr (r, w, e)) = inr (r, stored-more v c h a r w, e)
 
 module _ (v : Verifies) (c : CoreDoc) where
   -- the version of the root that was handed in
@@ -78,25 +86,40 @@ module _ (v : Verifies) (c : CoreDoc) where
   start = first_version (root_in c.setting.trusted)
 
   -- at most as many roots as the limit allows, and then at most so many others
-  abbrev Few : List AnswerDoc → ℕ → Type 0
-  Few h k = (n : ℕ) × (n ≤ c.setting.limits.max_root_updates) × (others : List RequestDoc) × (requests v c h ≡ roots_after c.setting.limits start n ++ others) × (length others ≤ k)
+  pub record Few (h : List AnswerDoc) (k : ℕ) : Type 0 where
+    pub first : ℕ
+    pub begins : BeginsAt v c h first
+    pub roots : ℕ
+    pub few : roots ≤ c.setting.limits.max_root_updates
+    pub others : List RequestDoc
+    pub all : requests v c h ≡ roots_after c.setting.limits first roots ++ others
+    pub size : length others ≤ k
 
   -- at most as many roots as the limit allows, then at most three others, and then documents of delegated roles
-  abbrev Many : List AnswerDoc → Type 0
-  Many h = (n : ℕ) × (n ≤ c.setting.limits.max_root_updates) × (others : List RequestDoc) × (roles : List RequestDoc) × (requests v c h ≡ roots_after c.setting.limits start n ++ (others ++ roles))
-      × (length others ≤ 3) × AllByRecursion (IsOfRole c.setting.limits) roles
+  pub record Many (h : List AnswerDoc) : Type 0 where
+    pub first : ℕ
+    pub begins : BeginsAt v c h first
+    pub roots : ℕ
+    pub few : roots ≤ c.setting.limits.max_root_updates
+    pub others : List RequestDoc
+    pub roles : List RequestDoc
+    pub all : requests v c h ≡ roots_after c.setting.limits first roots ++ (others ++ roles)
+    pub three : length others ≤ 3
+    pub delegated : AllByRecursion (IsOfRole c.setting.limits) roles
 
   -- the walk has gone over n roots
-  abbrev Over : List AnswerDoc → WalkDoc → ℕ → Type 0
-  Over h w n = (w.first.role.head.version ≡ start) × (w.last.role.head.version ≡ w.first.role.head.version + n) × (requests v c h ≡ roots_after c.setting.limits start n)
+  pub record Over (h : List AnswerDoc) (w : WalkDoc) (n : ℕ) : Type 0 where
+    pub begins : BeginsAt v c h w.first.role.head.version
+    pub last : w.last.role.head.version ≡ w.first.role.head.version + n
+    pub all : requests v c h ≡ roots_after c.setting.limits w.first.role.head.version n
 
   abbrev Counts : List AnswerDoc → StageDoc → Type 0
   Counts h at.Moment = requests v c h ≡ []
+  Counts h (at.ReadRoot w) = (requests v c h ≡ []) × (w.first.role.head.version ≡ start) × (w.last.role.head.version ≡ w.first.role.head.version)
   Counts h (at.Step (at.NoteTime now)) = requests v c h ≡ []
   Counts h (at.Fetch (at.Root w) r) = (n : ℕ) × Over h w n × (n < c.setting.limits.max_root_updates) × (r ≡ root_request c.setting.limits (w.last.role.head.version + 1))
   Counts h (at.Step (at.PutRoot w)) = (n : ℕ) × Over h w n × (n ≤ c.setting.limits.max_root_updates)
   Counts h (at.Step (at.PutLast w)) = Few h 0
-  Counts h (at.Step (at.Clear b)) = Few h 0
   Counts h (at.Fetch (at.Timestamp b) r) = Few h 0
   Counts h (at.Step (at.PutTimestamp b t)) = Few h 1
   Counts h (at.Fetch (at.Snapshot b t m) r) = Few h 1
@@ -109,18 +132,30 @@ module _ (v : Verifies) (c : CoreDoc) where
   Counts h at.Taken = Many h
 
   many : (h : List AnswerDoc) (k : ℕ) → k ≤ 3 → Few h k → Many h
-  many h k le f =
-      let three : length f.2 ≤ 3 = omega (arith, le, f.4) in
-      (f.0, f.1, f.2, [], f.3 ∙ ap (λ t. roots_after c.setting.limits start f.0 ++ t) (sym (append-nil f.2)), three, tt)
+  many h k le f = record {
+    first = f.first;
+    begins = f.begins;
+    roots = f.roots;
+    few = f.few;
+    others = f.others;
+    roles = [];
+    all = f.all ∙ ap (λ t. roots_after c.setting.limits f.first f.roots ++ t) (sym (append-nil f.others));
+    three = omega (arith, le, f.size);
+    delegated = tt;
+  }
 
   few-up : (h : List AnswerDoc) (j k : ℕ) → j ≤ k → Few h j → Few h k
-  few-up h j k le f = let up : length f.2 ≤ k = omega (arith, le, f.4) in (f.0, f.1, f.2, f.3, up)
+  few-up h j k le f = record { first = f.first; begins = f.begins; roots = f.roots; few = f.few; others = f.others; all = f.all; size = omega (arith, le, f.size) }
 
   few-none : (h : List AnswerDoc) → requests v c h ≡ [] → Few h 0
-  few-none h e = (0, omega arith, [], e, omega arith)
+  few-none h e = record { first = start; begins = inl refl; roots = 0; few = omega arith; others = []; all = e; size = omega arith }
 
-  few-roots : (h : List AnswerDoc) (n : ℕ) → n ≤ c.setting.limits.max_root_updates → requests v c h ≡ roots_after c.setting.limits start n → Few h 0
-  few-roots h n le e = (n, le, [], e ∙ sym (append-nil (roots_after c.setting.limits start n)), omega arith)
+  few-roots : (h : List AnswerDoc) (first n : ℕ) → BeginsAt v c h first → n ≤ c.setting.limits.max_root_updates → requests v c h ≡ roots_after c.setting.limits first n → Few h 0
+  few-roots h first n b le e = record { first = first; begins = b; roots = n; few = le; others = []; all = e ∙ sym (append-nil (roots_after c.setting.limits first n)); size = omega arith }
+
+  -- at a root that is to be stored
+  few-over : (h : List AnswerDoc) (w : WalkDoc) (n : ℕ) → Over h w n → n ≤ c.setting.limits.max_root_updates → Few h 0
+  few-over h w n o le = few-roots h w.first.role.head.version n o.begins le o.all
 
   module _ (h : List AnswerDoc) (a : AnswerDoc) where
     abbrev next : List AnswerDoc
@@ -137,27 +172,46 @@ module _ (v : Verifies) (c : CoreDoc) where
     asked-one st r stands e = asked st stands ∙ ap (λ t. requests v c h ++ t) e
 
     few-same : (k : ℕ) → requests v c next ≡ requests v c h → Few h k → Few next k
-    few-same k e f = (f.0, f.1, f.2, e ∙ f.3, f.4)
+    few-same k e f = record { first = f.first; begins = begins-more v c h a f.first f.begins; roots = f.roots; few = f.few; others = f.others; all = e ∙ f.all; size = f.size }
 
     few-more : (k : ℕ) (r : RequestDoc) → requests v c next ≡ requests v c h ++ r ∷ [] → Few h k → Few next (k + 1)
-    few-more k r e f =
-        let size : length (f.2 ++ r ∷ []) ≤ k + 1 = omega (arith, f.4, length-append f.2 (r ∷ [])) in
-        (f.0, f.1, f.2 ++ r ∷ [], e ∙ (ap (λ t. t ++ r ∷ []) f.3 ∙ append_assoc (roots_after c.setting.limits start f.0) f.2 (r ∷ [])), size)
+    few-more k r e f = record {
+      first = f.first;
+      begins = begins-more v c h a f.first f.begins;
+      roots = f.roots;
+      few = f.few;
+      others = f.others ++ r ∷ [];
+      all = e ∙ (ap (λ t. t ++ r ∷ []) f.all ∙ append_assoc (roots_after c.setting.limits f.first f.roots) f.others (r ∷ []));
+      size = omega (arith, f.size, length-append f.others (r ∷ []));
+    }
 
     many-same : requests v c next ≡ requests v c h → Many h → Many next
-    many-same e f = (f.0, f.1, f.2, f.3, e ∙ f.4, f.5, f.6)
+    many-same e f = record {
+      first = f.first;
+      begins = begins-more v c h a f.first f.begins;
+      roots = f.roots;
+      few = f.few;
+      others = f.others;
+      roles = f.roles;
+      all = e ∙ f.all;
+      three = f.three;
+      delegated = f.delegated;
+    }
 
     many-more : (r : RequestDoc) → IsOfRole c.setting.limits r → requests v c next ≡ requests v c h ++ r ∷ [] → Many h → Many next
     many-more r is e f =
-        let roots = roots_after c.setting.limits start f.0 in (
-          f.0,
-          f.1,
-          f.2,
-          f.3 ++ r ∷ [],
-          e ∙ (ap (λ t. t ++ r ∷ []) f.4 ∙ (append_assoc roots (f.2 ++ f.3) (r ∷ []) ∙ ap (λ t. roots ++ t) (append_assoc f.2 f.3 (r ∷ [])))),
-          f.5,
-          all-last (IsOfRole c.setting.limits) f.3 r f.6 is,
-        )
+        let roots = roots_after c.setting.limits f.first f.roots in
+        record {
+          first = f.first;
+          begins = begins-more v c h a f.first f.begins;
+          roots = f.roots;
+          few = f.few;
+          others = f.others;
+          roles = f.roles ++ r ∷ [];
+          all = e ∙ (ap (λ t. t ++ r ∷ []) f.all ∙ (append_assoc roots (f.others ++ f.roles) (r ∷ []) ∙ ap (λ t. roots ++ t) (append_assoc f.others f.roles (r ∷ []))));
+          three = f.three;
+          delegated = all-last (IsOfRole c.setting.limits) f.roles r f.delegated is;
+        }
 
     -- at a delegated document's fetch
     many-fetched : (w : WantedDoc) (r : RequestDoc) → run v c h ≡ in_stage c (at.Fetch w r) → IsOfRole c.setting.limits r → Many h → (fetched (ask.Fetch r) a ≡ []) ⊎ (fetched (ask.Fetch r) a ≡ r ∷ []) → Many next
@@ -165,16 +219,16 @@ module _ (v : Verifies) (c : CoreDoc) where
     many-fetched w r stands is f (inr e) = many-more r is (asked-one (at.Fetch w r) r stands e) f
 
     over-same : (w : WalkDoc) (n : ℕ) → requests v c next ≡ requests v c h → Over h w n → Over next w n
-    over-same w n e o = (o.0, o.1, e ∙ o.2)
+    over-same w n e o = record { begins = begins-more v c h a w.first.role.head.version o.begins; last = o.last; all = e ∙ o.all }
 
     -- one root more was asked for
     over-more : (w : WalkDoc) (n : ℕ) (r : RequestDoc) → requests v c next ≡ requests v c h ++ r ∷ [] → Over h w n → r ≡ root_request c.setting.limits (w.last.role.head.version + 1)
-        → requests v c next ≡ roots_after c.setting.limits start (suc n)
+        → requests v c next ≡ roots_after c.setting.limits w.first.role.head.version (suc n)
     over-more w n r e o is =
-        let last : w.last.role.head.version ≡ start + n = o.1 ∙ ap (λ m. m + n) o.0 in
-        e ∙ (ap (λ t. t ++ r ∷ []) o.2
-        ∙ (ap (λ q. roots_after c.setting.limits start n ++ q ∷ []) (is ∙ ap (λ m. root_request c.setting.limits (m + 1)) last)
-        ∙ sym (roots-last c.setting.limits start n)))
+        let first = w.first.role.head.version in
+        e ∙ (ap (λ t. t ++ r ∷ []) o.all
+        ∙ (ap (λ q. roots_after c.setting.limits first n ++ q ∷ []) (is ∙ ap (λ m. root_request c.setting.limits (m + 1)) o.last)
+        ∙ sym (roots-last c.setting.limits first n)))
 
     -- at a fetch that isn't a root's
     few-fetched : (k : ℕ) (w : WantedDoc) (r : RequestDoc) → run v c h ≡ in_stage c (at.Fetch w r) → Few h k → (fetched (ask.Fetch r) a ≡ []) ⊎ (fetched (ask.Fetch r) a ≡ r ∷ []) → Few next (k + 1)
@@ -186,23 +240,23 @@ module _ (v : Verifies) (c : CoreDoc) where
         → (fetched (ask.Fetch r) a ≡ []) ⊎ (fetched (ask.Fetch r) a ≡ r ∷ []) → Few next 0
     few-walked w r n stands o lt is (inl e) =
         let le : n ≤ c.setting.limits.max_root_updates = omega (arith, lt) in
-        few-roots next n le (asked-none (at.Fetch (at.Root w) r) stands e ∙ o.2)
+        few-roots next w.first.role.head.version n (begins-more v c h a w.first.role.head.version o.begins) le (asked-none (at.Fetch (at.Root w) r) stands e ∙ o.all)
     few-walked w r n stands o lt is (inr e) =
         let le : suc n ≤ c.setting.limits.max_root_updates = omega (arith, lt) in
-        few-roots next (suc n) le (over-more w n r (asked-one (at.Fetch (at.Root w) r) r stands e) o is)
+        few-roots next w.first.role.head.version (suc n) (begins-more v c h a w.first.role.head.version o.begins) le (over-more w n r (asked-one (at.Fetch (at.Root w) r) r stands e) o is)
 
     -- whatever comes, few files were asked for
     few-next : (st : StageDoc) → run v c h ≡ in_stage c st → Counts h st → Many next
     few-next at.Moment stands t = many next 0 (omega arith) (few-none next (asked-none at.Moment stands refl ∙ t))
+    few-next (at.ReadRoot w) stands t = many next 0 (omega arith) (few-none next (asked-none (at.ReadRoot w) stands refl ∙ t.0))
     few-next (at.Step (at.NoteTime now)) stands t = many next 0 (omega arith) (few-none next (asked-none (at.Step (at.NoteTime now)) stands refl ∙ t))
     few-next (at.Fetch (at.Root w) r) stands t = many next 0 (omega arith) (few-walked w r t.0 stands t.1 t.2 t.3 (fetched-one r a))
     few-next (at.Fetch (at.Timestamp b) r) stands t = many next 1 (omega arith) (few-fetched 0 (at.Timestamp b) r stands t (fetched-one r a))
     few-next (at.Fetch (at.Snapshot b s m) r) stands t = many next 2 (omega arith) (few-fetched 1 (at.Snapshot b s m) r stands t (fetched-one r a))
     few-next (at.Fetch (at.Targets k m) r) stands t = many next 3 (omega arith) (few-fetched 2 (at.Targets k m) r stands t (fetched-one r a))
     few-next (at.Fetch (at.Role k roles m) r) stands t = many-fetched (at.Role k roles m) r stands t.1 t.0 (fetched-one r a)
-    few-next (at.Step (at.PutRoot w)) stands t = many next 0 (omega arith) (few-same 0 (asked-none (at.Step (at.PutRoot w)) stands refl) (few-roots h t.0 t.2 t.1.2))
+    few-next (at.Step (at.PutRoot w)) stands t = many next 0 (omega arith) (few-same 0 (asked-none (at.Step (at.PutRoot w)) stands refl) (few-over h w t.0 t.1 t.2))
     few-next (at.Step (at.PutLast w)) stands t = many next 0 (omega arith) (few-same 0 (asked-none (at.Step (at.PutLast w)) stands refl) t)
-    few-next (at.Step (at.Clear b)) stands t = many next 0 (omega arith) (few-same 0 (asked-none (at.Step (at.Clear b)) stands refl) t)
     few-next (at.Step (at.PutTimestamp b s)) stands t = many next 1 (omega arith) (few-same 1 (asked-none (at.Step (at.PutTimestamp b s)) stands refl) t)
     few-next (at.Step (at.PutSnapshot k m)) stands t = many next 2 (omega arith) (few-same 2 (asked-none (at.Step (at.PutSnapshot k m)) stands refl) t)
     few-next (at.Step (at.PutTargets k d)) stands t = many next 3 (omega arith) (few-same 3 (asked-none (at.Step (at.PutTargets k d)) stands refl) t)
@@ -228,6 +282,7 @@ module _ (v : Verifies) (c : CoreDoc) where
 
       same-counts : (st : StageDoc) (x : AnswerDoc) → waits st x ≡ false → Counts h st → Heard st x → Counts next st
       same-counts at.Moment x e t l = asked-none at.Moment l.1 refl ∙ t
+      same-counts (at.ReadRoot w) x e t l = (asked-none (at.ReadRoot w) l.1 refl ∙ t.0, t.1, t.2)
       same-counts (at.Step (at.NoteTime now)) x e t l = asked-none (at.Step (at.NoteTime now)) l.1 refl ∙ t
       same-counts (at.Fetch (at.Root w) r) x e t l = (t.0, over-same w t.0 (same-fetch (at.Root w) r x e l) t.1, t.2, t.3)
       same-counts (at.Fetch (at.Timestamp b) r) x e t l = few-same 0 (same-fetch (at.Timestamp b) r x e l) t
@@ -235,7 +290,6 @@ module _ (v : Verifies) (c : CoreDoc) where
       same-counts (at.Fetch (at.Targets k m) r) x e t l = few-same 2 (same-fetch (at.Targets k m) r x e l) t
       same-counts (at.Step (at.PutRoot w)) x e t l = (t.0, over-same w t.0 (asked-none (at.Step (at.PutRoot w)) l.1 refl) t.1, t.2)
       same-counts (at.Step (at.PutLast w)) x e t l = few-same 0 (asked-none (at.Step (at.PutLast w)) l.1 refl) t
-      same-counts (at.Step (at.Clear b)) x e t l = few-same 0 (asked-none (at.Step (at.Clear b)) l.1 refl) t
       same-counts (at.Step (at.PutTimestamp b s)) x e t l = few-same 1 (asked-none (at.Step (at.PutTimestamp b s)) l.1 refl) t
       same-counts (at.Step (at.PutSnapshot k m)) x e t l = few-same 2 (asked-none (at.Step (at.PutSnapshot k m)) l.1 refl) t
       same-counts (at.Step (at.PutTargets k d)) x e t l = few-same 3 (asked-none (at.Step (at.PutTargets k d)) l.1 refl) t
@@ -245,11 +299,21 @@ module _ (v : Verifies) (c : CoreDoc) where
       same-counts at.Taken x e t l = many-same (asked-none at.Taken l.1 refl) t
 
       walked-counts : (w : WalkDoc) (n : ℕ) → Over next w n → n ≤ c.setting.limits.max_root_updates → Goes (walked c.setting.limits w)
-      walked-counts w n o le = walking (Counts next) bad c.setting.limits w (λ _ _. few-roots next n le o.2)
-          (λ g. (n, o, below w.first.role.head.version n w.last.role.head.version c.setting.limits.max_root_updates o.1 g, refl))
+      walked-counts w n o le = walking (Counts next) bad c.setting.limits w (λ _ _. few-roots next w.first.role.head.version n o.begins le o.all)
+          (λ g. (n, o, below w.first.role.head.version n w.last.role.head.version c.setting.limits.max_root_updates o.last g, refl))
+
+      -- the walk begins
+      from-counts : (w : WalkDoc) (r : Option (SignedDoc RootDoc)) → Counts h (at.ReadRoot w) → Heard (at.ReadRoot w) (got.Stored (Ok r)) → Goes (walked c.setting.limits (walk_from w r))
+      from-counts w None t l =
+          let none : w.last.role.head.version ≡ w.first.role.head.version + 0 = omega (arith, t.2) in
+          walked-counts w 0 (record { begins = inl t.1; last = none; all = asked-none (at.ReadRoot w) l.1 refl ∙ t.0 }) (omega arith)
+      from-counts w (Some r) t l =
+          let none : r.role.head.version ≡ r.role.head.version + 0 = omega arith in
+          let stored : WasStored v c next r = record { before = h; after = []; all = ap (λ x. h ++ x ∷ []) (sym l.0); first = w.first.role.head.version; asked = ap question l.1 } in
+          walked-counts (record { start = w.start; first = r; last = r }) 0 (record { begins = inr (r, stored, refl); last = none; all = asked-none (at.ReadRoot w) l.1 refl ∙ t.0 }) (omega arith)
 
       walk_ended-counts : (w : WalkDoc) → Few next 0 → Goes (walk_ended c.setting.limits c.setting.enforced w)
-      walk_ended-counts w f = ending (Counts next) bad c.setting.limits c.setting.enforced w (λ _ _. f) (λ _. f)
+      walk_ended-counts w f = ending (Counts next) bad c.setting.limits c.setting.enforced w (λ _. f)
 
       want_snapshot-counts : (b : BaseDoc) (t : SignedDoc TimestampDoc) (o : Option MetafileDoc) → Few next 1 → Goes (want_snapshot c.setting.limits b t o)
       want_snapshot-counts b t None f = enough
@@ -273,9 +337,9 @@ module _ (v : Verifies) (c : CoreDoc) where
       read-counts : (w : WantedDoc) (r : RequestDoc) (bytes : List ℕ) → Counts h (at.Fetch w r) → Heard (at.Fetch w r) (got.Bytes bytes) → Goes (read_wanted v c.setting w r bytes)
       read-counts (at.Root w) r bytes t l = and_then-fine (Counts next) bad (next_root v w.last.role bytes) (λ root. Ok (at.Step (at.PutRoot (record { start = w.start; first = w.first; last = root })))) (λ root is.
           let version = (next-fine v w.last bytes root is).version in
-          let one : root.role.head.version ≡ w.first.role.head.version + suc t.0 = omega (arith, version, t.1.1) in
+          let one : root.role.head.version ≡ w.first.role.head.version + suc t.0 = omega (arith, version, t.1.last) in
           let le : suc t.0 ≤ c.setting.limits.max_root_updates = omega (arith, t.2) in
-          (suc t.0, (t.1.0, one, over-more w t.0 r (asked-one (at.Fetch (at.Root w) r) r l.1 (ap (fetched (ask.Fetch r)) (sym l.0))) t.1 t.3), le))
+          (suc t.0, record { begins = begins-more v c h a w.first.role.head.version t.1.begins; last = one; all = over-more w t.0 r (asked-one (at.Fetch (at.Root w) r) r l.1 (ap (fetched (ask.Fetch r)) (sym l.0))) t.1 t.3 }, le))
       read-counts (at.Timestamp b) r bytes t l = reading (Counts next) bad (ParseMetadata role.Timestamp (holds_json bytes)) (timestamp_in bytes) (λ d. at.Step (at.PutTimestamp b d)) (λ d. few-fetched 0 (at.Timestamp b) r l.1 t (fetched-one r a))
       read-counts (at.Snapshot b s m) r bytes t l = reading (Counts next) bad (ParseMetadata role.Snapshot (holds_json bytes)) (snapshot_in bytes) (λ d. at.Step (at.PutSnapshot (known_of b s d) m)) (λ d. few-fetched 1 (at.Snapshot b s m) r l.1 t (fetched-one r a))
       read-counts (at.Targets k m) r bytes t l = and_then-fine (Counts next) bad (judged v c.setting.enforced k.start (by_root k.root.role) m bytes) (λ d. Ok (at.Step (at.PutTargets k d))) (λ d _.
@@ -286,13 +350,10 @@ module _ (v : Verifies) (c : CoreDoc) where
           if-fine (Counts next) bad (is_reserved r.name) (role_given c.setting.limits k kept d) (Ok (at.Step (at.PutDelegated k kept r.name d))) (λ _. given-counts k kept d) enough)
 
       step-counts : (p : PendingDoc) → Counts h (at.Step p) → Heard (at.Step p) (got.Step (Ok (tt {0}))) → Goes (after v c.setting p)
-      step-counts (at.NoteTime now) t l = and_then-fine (Counts next) bad (first_root v c.setting.trusted) (λ root. walked c.setting.limits (record { start = now; first = root; last = root })) (λ root is.
-          let first : root.role.head.version ≡ start = sym (ap first_version (first-read v c.setting.trusted root is)) in
-          let none : root.role.head.version ≡ root.role.head.version + 0 = omega arith in
-          walked-counts (record { start = now; first = root; last = root }) 0 (first, none, asked-none (at.Step (at.NoteTime now)) l.1 refl ∙ t) (omega arith))
+      step-counts (at.NoteTime now) t l = beginning (Counts next) bad v c.setting.trusted now (λ root is.
+          (asked-none (at.Step (at.NoteTime now)) l.1 refl ∙ t, sym (ap first_version (first-read v c.setting.trusted root is)), refl))
       step-counts (at.PutRoot w) t l = walked-counts w t.0 (over-same w t.0 (asked-none (at.Step (at.PutRoot w)) l.1 refl) t.1) t.2
       step-counts (at.PutLast w) t l = walk_ended-counts w (few-same 0 (asked-none (at.Step (at.PutLast w)) l.1 refl) t)
-      step-counts (at.Clear b) t l = few-same 0 (asked-none (at.Step (at.Clear b)) l.1 refl) t
       step-counts (at.PutTimestamp b s) t l = want_snapshot-counts b s (metafile_in s.role.meta snapshot_file) (few-same 1 (asked-none (at.Step (at.PutTimestamp b s)) l.1 refl) t)
       step-counts (at.PutSnapshot k m) t l = want_targets-counts k (metafile_in k.snapshot.role.meta targets_file) (few-same 2 (asked-none (at.Step (at.PutSnapshot k m)) l.1 refl) t)
       step-counts (at.PutTargets k d) t l = grown-counts k [] (begun (metas_in k) (held_as [] d))
@@ -301,6 +362,7 @@ module _ (v : Verifies) (c : CoreDoc) where
       turn-counts : (st : StageDoc) → run v c h ≡ in_stage c st → Counts h st → Counts next (settled (stage_after v c.setting st a))
       turn-counts st stands t = keeps-answer v c.setting (Counts h) (Counts next) bad Heard (record {
         moment = λ now t l. asked-none at.Moment l.1 refl ∙ t;
+        stored = from-counts;
         read = read-counts;
         ends = λ w r x _ t l. few-walked w r t.0 l.1 t.1 t.2 t.3 (fetched-one r a);
         step = step-counts;
@@ -312,15 +374,15 @@ module _ (v : Verifies) (c : CoreDoc) where
 
   few-at : (h : List AnswerDoc) (st : StageDoc) → Counts h st → Many h
   few-at h at.Moment t = many h 0 (omega arith) (few-none h t)
+  few-at h (at.ReadRoot w) t = many h 0 (omega arith) (few-none h t.0)
   few-at h (at.Step (at.NoteTime now)) t = many h 0 (omega arith) (few-none h t)
-  few-at h (at.Fetch (at.Root w) r) t = let le : t.0 ≤ c.setting.limits.max_root_updates = omega (arith, t.2) in many h 0 (omega arith) (few-roots h t.0 le t.1.2)
+  few-at h (at.Fetch (at.Root w) r) t = let le : t.0 ≤ c.setting.limits.max_root_updates = omega (arith, t.2) in many h 0 (omega arith) (few-over h w t.0 t.1 le)
   few-at h (at.Fetch (at.Timestamp b) r) t = many h 0 (omega arith) t
   few-at h (at.Fetch (at.Snapshot b s m) r) t = many h 1 (omega arith) t
   few-at h (at.Fetch (at.Targets k m) r) t = many h 2 (omega arith) t
   few-at h (at.Fetch (at.Role k roles m) r) t = t.0
-  few-at h (at.Step (at.PutRoot w)) t = many h 0 (omega arith) (few-roots h t.0 t.2 t.1.2)
+  few-at h (at.Step (at.PutRoot w)) t = many h 0 (omega arith) (few-over h w t.0 t.1 t.2)
   few-at h (at.Step (at.PutLast w)) t = many h 0 (omega arith) t
-  few-at h (at.Step (at.Clear b)) t = many h 0 (omega arith) t
   few-at h (at.Step (at.PutTimestamp b s)) t = many h 1 (omega arith) t
   few-at h (at.Step (at.PutSnapshot k m)) t = many h 2 (omega arith) t
   few-at h (at.Step (at.PutTargets k d)) t = many h 3 (omega arith) t
@@ -331,4 +393,4 @@ module _ (v : Verifies) (c : CoreDoc) where
 pub asks_few : (v : Verifies) (c : CoreDoc) (answers : List AnswerDoc) → IsFresh c → AsksFew v c answers
 asks_few v c answers fresh =
     let f = few-at v c answers (run v c answers).stage (whole v c (Counts v c) (turn v c) answers (subst (Counts v c []) (sym fresh) refl)) in
-    record { roots = f.0; few = f.1; others = f.2; roles = f.3; all = f.4; three = f.5; delegated = f.6 }
+    record { first = f.first; begins = f.begins; roots = f.roots; few = f.few; others = f.others; roles = f.roles; all = f.all; three = f.three; delegated = f.delegated }

@@ -21,7 +21,7 @@ use Rattle.tough_update.proofs.growth.Laws.{WorkKeeps, ProgressKeeps, begun-keep
 use Rattle.tough_update.proofs.growth.Placed.{WorkCarries, ProgressCarries, begun-carries, taken-carries, placed-few}
 use Rattle.tough_update.specs.declared.counts.Counts.{Counts}
 use Rattle.tough_trust.specs.Failure.{Failure, ParseMetadata}
-use Rattle.tough_trust.specs.Walk.{first_root, next_root}
+use Rattle.tough_trust.specs.Walk.{next_root}
 use Rattle.tough_trust.specs.Outcomes.{holds_json}
 use Rattle.tough_trust.specs.Requests.{RequestDoc}
 use Rattle.tough_trust.specs.Listed.{by_root, judged}
@@ -30,12 +30,12 @@ use Rattle.tough_update.specs.Stages.{WalkDoc, BaseDoc, KnownDoc, WantedDoc, Pen
 use Rattle.tough_update.specs.Stages as at
 use Rattle.tough_update.specs.Answered.{AnswerDoc}
 use Rattle.tough_update.specs.Answered as got
-use Rattle.tough_update.specs.Machine.{walked, walk_ended, want_snapshot, known_of, want_targets, read_wanted, after, stage_after}
+use Rattle.tough_update.specs.Machine.{walked, walk_from, walk_ended, want_snapshot, known_of, want_targets, read_wanted, after, stage_after}
 use Rattle.tough_update.specs.Promises.{Goes}
 use Rattle.tough_update.specs.Counts.{none_yet, one_more, ends_fetch, with_fetch, with_tree}
 use Rattle.tough_update.specs.Counted.{Counted, HadAsMany, names_listed, KeepsFew}
 use Rattle.tough_update.specs.Counted as counted
-use Rattle.tough_update.proofs.Turning.{Fine, if-fine, and_then-fine, walking, ending, reading, keeps-answer}
+use Rattle.tough_update.proofs.Turning.{Fine, if-fine, and_then-fine, walking, ending, beginning, reading, keeps-answer}
 use Rattle.tough_trust.proofs.lemmas.Judging.{judged-ok}
 
 -- a fetch leaves what is kept
@@ -47,6 +47,7 @@ fetch-kept : (st : StageDoc) (a : AnswerDoc) (n : Counts) → (with_fetch st a n
 fetch-kept (at.Fetch (at.Root w) r) a n = kept-if (ends_fetch a) (record n { roots = one_more n.roots }) n refl
 fetch-kept (at.Fetch (at.Role k roles listed) r) a n = kept-if (ends_fetch a) (record n { delegated = one_more n.delegated }) n refl
 fetch-kept at.Moment a n = refl
+fetch-kept (at.ReadRoot w) a n = refl
 fetch-kept (at.Step p) a n = refl
 fetch-kept (at.Fetch (at.Timestamp b) r) a n = refl
 fetch-kept (at.Fetch (at.Snapshot b t listed) r) a n = refl
@@ -62,10 +63,10 @@ Keeps n (at.Done (Ok l)) = (n.kept ≡ length (documents_below l.targets.role)) 
 Keeps n (at.Done (Err f)) = ⊤
 Keeps n at.Taken = ⊤
 Keeps n at.Moment = n.kept ≡ 0
+Keeps n (at.ReadRoot w) = n.kept ≡ 0
 Keeps n (at.Step (at.NoteTime now)) = n.kept ≡ 0
 Keeps n (at.Step (at.PutRoot w)) = n.kept ≡ 0
 Keeps n (at.Step (at.PutLast w)) = n.kept ≡ 0
-Keeps n (at.Step (at.Clear b)) = n.kept ≡ 0
 Keeps n (at.Step (at.PutTimestamp b t)) = n.kept ≡ 0
 Keeps n (at.Step (at.PutSnapshot k listed)) = n.kept ≡ 0
 Keeps n (at.Fetch (at.Root w) r) = n.kept ≡ 0
@@ -91,7 +92,7 @@ module _ (v : Verifies) (s : SettingDoc) (n m : Counts) (same : m.kept ≡ n.kep
   walked-keeps w h = walking Next bad s.limits w (λ _ _. h) (λ _. h)
 
   walk_ended-keeps : (w : WalkDoc) → m.kept ≡ 0 → Well (walk_ended s.limits s.enforced w)
-  walk_ended-keeps w h = ending Next bad s.limits s.enforced w (λ _ _. h) (λ _. h)
+  walk_ended-keeps w h = ending Next bad s.limits s.enforced w (λ _. h)
 
   want_snapshot-keeps : (b : BaseDoc) (t : SignedDoc TimestampDoc) (o : Option MetafileDoc) → m.kept ≡ 0 → Well (want_snapshot s.limits b t o)
   want_snapshot-keeps b t None h = tt
@@ -129,11 +130,9 @@ module _ (v : Verifies) (s : SettingDoc) (n m : Counts) (same : m.kept ≡ n.kep
       if-fine Next bad (is_reserved r.name) (role_given s.limits k kept d) (Ok (at.Step (at.PutDelegated k kept r.name d))) (λ _. given-keeps k kept d t.1 t.2 bare) (refl, t.1, t.2, bare))
 
   step-keeps : (p : PendingDoc) → Keeps n (at.Step p) → Heard (at.Step p) (got.Step (Ok (tt {0}))) → Well (after v s p)
-  step-keeps (at.NoteTime now) t _ = and_then-fine Next bad (first_root v s.trusted) (λ root. walked s.limits (record { start = now; first = root; last = root })) (λ root is.
-      walked-keeps (record { start = now; first = root; last = root }) (same ∙ t))
+  step-keeps (at.NoteTime now) t _ = beginning Next bad v s.trusted now (λ root is. same ∙ t)
   step-keeps (at.PutRoot w) t _ = walked-keeps w (same ∙ t)
   step-keeps (at.PutLast w) t _ = walk_ended-keeps w (same ∙ t)
-  step-keeps (at.Clear b) t _ = same ∙ t
   step-keeps (at.PutTimestamp b x) t _ = want_snapshot-keeps b x (metafile_in x.role.meta snapshot_file) (same ∙ t)
   step-keeps (at.PutSnapshot k listed) t _ = want_targets-keeps k (metafile_in k.snapshot.role.meta targets_file) (same ∙ t)
   step-keeps (at.PutTargets k d) t _ = let top = held_as [] d in grown-keeps k [] (begun (metas_in k) top) (begun-keeps (metas_in k) top t.1) (begun-carries (metas_in k) top)
@@ -148,10 +147,10 @@ module _ (v : Verifies) (s : SettingDoc) (n m : Counts) (same : m.kept ≡ n.kep
   same-keeps (at.Done (Err f)) t = tt
   same-keeps at.Taken t = tt
   same-keeps at.Moment t = same ∙ t
+  same-keeps (at.ReadRoot w) t = same ∙ t
   same-keeps (at.Step (at.NoteTime now)) t = same ∙ t
   same-keeps (at.Step (at.PutRoot w)) t = same ∙ t
   same-keeps (at.Step (at.PutLast w)) t = same ∙ t
-  same-keeps (at.Step (at.Clear b)) t = same ∙ t
   same-keeps (at.Step (at.PutTimestamp b x)) t = same ∙ t
   same-keeps (at.Step (at.PutSnapshot k listed)) t = same ∙ t
   same-keeps (at.Fetch (at.Root w) r) t = same ∙ t
@@ -162,6 +161,7 @@ module _ (v : Verifies) (s : SettingDoc) (n m : Counts) (same : m.kept ≡ n.kep
   turn-keeps : (st : StageDoc) (a : AnswerDoc) → Keeps n st → Well (stage_after v s st a)
   turn-keeps st a t = keeps-answer v s (Keeps n) Next bad Heard (record {
     moment = λ now t _. same ∙ t;
+    stored = λ w r t _. walked-keeps (walk_from w r) (same ∙ t);
     read = read-keeps;
     ends = λ w r a _ t _. same ∙ t;
     step = step-keeps;
@@ -197,6 +197,7 @@ kept-had v c d k a h g (at.Step (at.PutDelegated known roles name doc)) e t x =
     record { earlier = d; passed = inl refl; few = subst (λ y. last_number roles.work.nodes ≤ names_listed y) (sym e) (placed-few (metas_in known) roles.work t.2) }
 kept-had v c d k a h g (at.Done (Err f)) e t x = left v c d k a h g x
 kept-had v c d k a h g at.Moment e t x = left v c d k a h g x
+kept-had v c d k a h g (at.ReadRoot w) e t x = left v c d k a h g x
 kept-had v c d k a h g at.Taken e t x = left v c d k a h g x
 kept-had v c d k a h g (at.Fetch (at.Root w) r) e t x = left v c d k a h g x
 kept-had v c d k a h g (at.Fetch (at.Timestamp b) r) e t x = left v c d k a h g x

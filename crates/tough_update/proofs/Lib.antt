@@ -4,9 +4,8 @@ pub mod lemmas
 pub mod Turning
 pub mod Sound
 pub mod Settling
-pub mod Alike
 pub mod Loads
-pub mod Clears
+pub mod Asked
 pub mod Prefixes
 pub mod History
 pub mod Noting

@@ -20,18 +20,17 @@ use Rattle.tough_roles.specs.declared.role_type.RoleType.TheVariants as role
 use Rattle.tough_roles.proofs.lemmas.Reached.{reaches-to}
 use Rattle.tough_schema.specs.Targets.{TargetsDoc, targets_json}
 use Rattle.tough_checks.specs.Checks.{Reason, VersionMismatch, TimestampMetaLength, MissingSnapshotMeta, SnapshotTargetsMetaMissing, ExpiredMetadata, refuse, or_else, is_expired, expiry, verified, timestamp_form, snapshot_form}
-use Rattle.tough_checks.specs.Documents.{root_text, snapshot_verdict}
+use Rattle.tough_checks.specs.Documents.{root_text, root_verdict, snapshot_verdict}
 use Rattle.tough_roles.specs.Timestamp.{metafile_in}
 use Rattle.tough_vault.specs.Steps.{time_text, needs}
 use Rattle.tough_vault.specs.Act.{Act}
 use Rattle.tough_vault.specs.Act as act
 use Rattle.tough_checks.specs.Files.{snapshot_file, targets_file}
 use Rattle.tough_trust.specs.Failure.{Failure, ParseTrustedMetadata, ParseMetadata, MaxUpdatesExceeded, Checked}
-use Rattle.tough_trust.specs.Walk.{if_trusted, root_verdict, first_root}
+use Rattle.tough_trust.specs.Walk.{if_trusted, first_root}
 use Rattle.tough_trust.specs.Outcomes.{holds_json, if_read, unless, and_then}
 use Rattle.tough_trust.proofs.lemmas.Judging.{judged-to}
 use Rattle.tough_trust.specs.Requests.{RequestDoc, fits_request, root_request, timestamp_request, snapshot_request, targets_request, role_request}
-use Rattle.tough_trust.specs.Rotation.{is_rotated}
 use Rattle.tough_trust.specs.Listed.{by_root, by_delegations, targets_text, targets_verdict, targets_refusal, judged}
 use Rattle.tough_update.specs.Delegated.{metas_in, is_reserved, if_found, grown_on, roles_begun, role_given, role_stored, with_received, role_holder}
 use Rattle.tough_trust.specs.delegations.Bare.{bare, top_page, held_as}
@@ -61,7 +60,6 @@ use Rattle.tough_update.specs.Machine.{question, question_at, settled, stage_aft
 use Rattle.tough_trust.specs.Faults.{is_memory, fault_failure}
 use Rattle.tough_update.specs.Runs.{run, IsFresh}
 use Rattle.tough_update.specs.Loadable.{Files, Delivers, Gets, refusal_at_first, step_answer, Honest, AllHonest, IsRoleServed, IsServedUnder, or_nothing, role_bytes, turns_as, role_turns, all_turns, Loadable, IsLoaded}
-use Rattle.tough_update.proofs.Alike.{not-rotated}
 
 signed-ok : {A : Type 0} (v : Verifies) (holder : RootDoc) (type : RoleType) (json : A → Option Data) (d : SignedDoc A) → ReachesUnder v holder type json d
     → verdict v (MissingRole type) type (policy holder type) (text_by json d.role) d.signatures ≡ Ok (tt {0})
@@ -133,7 +131,9 @@ module _ (v : Verifies) (files : Files) (s : SettingDoc) (l : LoadedDoc) (able :
   time-passes = ap (λ o. or_else o None) (has-text (time_text l.known.start) able.start_text)
 
   root-passes : refusal_at_first v (act.PutRoot l.known.root) ≡ None
-  root-passes = ap (λ o. or_else o None) (has-text (root_text l.known.root) able.root_stored)
+  root-passes =
+      ap (λ w. or_else (verified role.Root w) (or_else (needs (root_text l.known.root)) None)) (signed-ok v l.known.root.role role.Root root_json l.known.root able.root_signed)
+      ∙ ap (λ o. or_else o None) (has-text (root_text l.known.root) able.root_stored)
 
   targets-pass : refusal_at_first v (act.PutDocument targets_file (targets_text (top_page l.targets))) ≡ None
   targets-pass = ap (λ o. or_else o None) (has-text (targets_text (top_page l.targets)) able.targets_stored)
@@ -342,11 +342,8 @@ module _ (v : Verifies) (files : Files) (s : SettingDoc) (l : LoadedDoc) (able :
 
   leads-put_last : Leads (more + 1 + 1 + 1 + 1 + 1 + 1 + 1) (at.Step (at.PutLast walk))
   leads-put_last = leads-turn (more + 1 + 1 + 1 + 1 + 1 + 1) (at.Step (at.PutLast walk)) (at.Fetch (at.Timestamp base) (timestamp_request s.limits)) (got.Step (Ok (tt {0}))) (λ e. cc) (passes (act.PutRoot l.known.root) root-passes)
-      (let cleared : Result StageDoc Failure = Ok (at.Step (at.Clear base)) in
-      let kept : Result StageDoc Failure = Ok (at.Fetch (at.Timestamp base) (timestamp_request s.limits)) in
-      ap settled
-      (ap (λ b. unless (Checked (ExpiredMetadata role.Root l.known.root.role.head.expires l.known.start)) (not b) (if is_rotated l.known.root.role l.known.root.role then cleared else kept)) able.root_in_time
-      ∙ ap (λ b. if b then cleared else kept) (not-rotated l.known.root.role)))
+      (let wanted : Result StageDoc Failure = Ok (at.Fetch (at.Timestamp base) (timestamp_request s.limits)) in
+      ap (λ b. settled (unless (Checked (ExpiredMetadata role.Root l.known.root.role.head.expires l.known.start)) (not b) wanted)) able.root_in_time)
       leads-fetch_timestamp
 
   abbrev root_wanted : StageDoc
@@ -372,17 +369,20 @@ module _ (v : Verifies) (files : Files) (s : SettingDoc) (l : LoadedDoc) (able :
       ap (λ b. next b (l.known.root.role.head.version == 2 ^ 64 - 1)) (none-first l.known.root.role.head.version s.limits.max_root_updates able.one_update)
       ∙ ap (next true) (not-equal l.known.root.role.head.version (2 ^ 64 - 1) able.root_low)
 
-  leads-note_time : Leads (more + 1 + 1 + 1 + 1 + 1 + 1 + 1 + 1 + 1) (at.Step (at.NoteTime l.known.start))
-  leads-note_time = leads-turn (more + 1 + 1 + 1 + 1 + 1 + 1 + 1 + 1) (at.Step (at.NoteTime l.known.start)) root_wanted (got.Step (Ok (tt {0}))) (λ e. cc) (passes (act.NoteTime l.known.start) time-passes)
-      (ap settled (ap (λ r. and_then r (λ root. walked s.limits (record { start = l.known.start; first = root; last = root }))) first ∙ begins)) leads-fetch_root
+  leads-read_root : Leads (more + 1 + 1 + 1 + 1 + 1 + 1 + 1 + 1 + 1) (at.ReadRoot walk)
+  leads-read_root = leads-turn (more + 1 + 1 + 1 + 1 + 1 + 1 + 1 + 1) (at.ReadRoot walk) root_wanted (got.Stored (Ok None)) (λ e. cc) (λ x h. h) (ap settled begins) leads-fetch_root
 
-  pub leads-moment : Leads (more + 1 + 1 + 1 + 1 + 1 + 1 + 1 + 1 + 1 + 1) at.Moment
-  leads-moment = leads-turn (more + 1 + 1 + 1 + 1 + 1 + 1 + 1 + 1 + 1) at.Moment (at.Step (at.NoteTime l.known.start)) (got.Moment l.known.start) (λ e. cc) (λ x h. h) refl leads-note_time
+  leads-note_time : Leads (more + 1 + 1 + 1 + 1 + 1 + 1 + 1 + 1 + 1 + 1) (at.Step (at.NoteTime l.known.start))
+  leads-note_time = leads-turn (more + 1 + 1 + 1 + 1 + 1 + 1 + 1 + 1 + 1) (at.Step (at.NoteTime l.known.start)) (at.ReadRoot walk) (got.Step (Ok (tt {0}))) (λ e. cc) (passes (act.NoteTime l.known.start) time-passes)
+      (ap (λ r. settled (and_then r (λ root. Ok (at.ReadRoot (record { start = l.known.start; first = root; last = root }))))) first) leads-read_root
+
+  pub leads-moment : Leads (more + 1 + 1 + 1 + 1 + 1 + 1 + 1 + 1 + 1 + 1 + 1) at.Moment
+  leads-moment = leads-turn (more + 1 + 1 + 1 + 1 + 1 + 1 + 1 + 1 + 1 + 1) at.Moment (at.Step (at.NoteTime l.known.start)) (got.Moment l.known.start) (λ e. cc) (λ x h. h) refl leads-note_time
 
 pub loads : (v : Verifies) (c : CoreDoc) (files : Files) (l : LoadedDoc) (answers : List AnswerDoc) → IsFresh c → Loadable v files c.setting l → AllHonest v files l.known.start c answers → IsLoaded v c answers l
 loads v c files l answers fresh able h =
     let n = sum_by (role_turns c.setting l.known) (fetch_order l.targets.role) in
-    let count : n + 1 + 1 + 1 + 1 + 1 + 1 + 1 + 1 + 1 + 1 ≡ all_turns c.setting l = omega arith in
+    let count : n + 1 + 1 + 1 + 1 + 1 + 1 + 1 + 1 + 1 + 1 + 1 ≡ all_turns c.setting l = omega arith in
     let from : Leads v files c.setting l able (all_turns c.setting l) at.Moment = subst (λ k. Leads v files c.setting l able k at.Moment) count (leads-moment v files c.setting l able) in
     let r = (subst (λ st. Leads v files c.setting l able (all_turns c.setting l) st) (sym fresh) from) answers h in
     record { within = r.0; soon = r.1; ends = r.2 }

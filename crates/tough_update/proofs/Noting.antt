@@ -10,7 +10,7 @@ use Rattle.tough_roles.specs.Timestamp.{metafile_in}
 use Rattle.tough_checks.specs.Files.{snapshot_file, targets_file}
 use Rattle.tough_vault.specs.Act.{NoteTime}
 use Rattle.tough_trust.specs.Failure.{Failure, ParseMetadata}
-use Rattle.tough_trust.specs.Walk.{first_root, next_root}
+use Rattle.tough_trust.specs.Walk.{next_root}
 use Rattle.tough_trust.specs.Outcomes.{holds_json}
 use Rattle.tough_trust.specs.Requests.{RequestDoc}
 use Rattle.tough_trust.specs.Listed.{by_root, judged}
@@ -25,9 +25,9 @@ use Rattle.tough_update.specs.Stages as at
 use Rattle.tough_update.specs.Questions as ask
 use Rattle.tough_update.specs.Answered.{AnswerDoc}
 use Rattle.tough_update.specs.Answered as got
-use Rattle.tough_update.specs.Machine.{question, question_at, answered, walked, walk_ended, want_snapshot, known_of, want_targets, read_wanted, after, settled, stage_after}
+use Rattle.tough_update.specs.Machine.{question, question_at, answered, walked, walk_from, walk_ended, want_snapshot, known_of, want_targets, read_wanted, after, settled, stage_after}
 use Rattle.tough_update.specs.Runs.{run}
-use Rattle.tough_update.proofs.Turning.{Fine, if-fine, and_then-fine, walking, ending, reading, keeps-answer}
+use Rattle.tough_update.proofs.Turning.{Fine, if-fine, and_then-fine, walking, ending, beginning, reading, keeps-answer}
 use Rattle.tough_update.proofs.Prefixes.{run-on, Parts, parts}
 
 -- the moment was noted before
@@ -43,7 +43,7 @@ walked-late : (s : SettingDoc) (w : WalkDoc) → Fine Late bad (walked s.limits 
 walked-late s w = walking Late bad s.limits w (λ _ _. tt) (λ _. tt)
 
 walk_ended-late : (s : SettingDoc) (w : WalkDoc) → Fine Late bad (walk_ended s.limits s.enforced w)
-walk_ended-late s w = ending Late bad s.limits s.enforced w (λ _ _. tt) (λ _. tt)
+walk_ended-late s w = ending Late bad s.limits s.enforced w (λ _. tt)
 
 want_snapshot-late : (s : SettingDoc) (b : BaseDoc) (t : SignedDoc TimestampDoc) (o : Option MetafileDoc) → Fine Late bad (want_snapshot s.limits b t o)
 want_snapshot-late s b t None = tt
@@ -74,11 +74,9 @@ module _ (v : Verifies) where
       if-fine Late bad (is_reserved r.name) (role_given s.limits k (with_received roles bytes) d) (Ok (at.Step (at.PutDelegated k (with_received roles bytes) r.name d))) (λ _. given-late s k (with_received roles bytes) d) tt)
 
   step-late : (s : SettingDoc) (p : PendingDoc) → Fine Late bad (after v s p)
-  step-late s (at.NoteTime now) = and_then-fine Late bad (first_root v s.trusted) (λ root. walked s.limits (record { start = now; first = root; last = root })) (λ root _.
-      walked-late s (record { start = now; first = root; last = root }))
+  step-late s (at.NoteTime now) = beginning Late bad v s.trusted now (λ root _. tt)
   step-late s (at.PutRoot w) = walked-late s w
   step-late s (at.PutLast w) = walk_ended-late s w
-  step-late s (at.Clear b) = tt
   step-late s (at.PutTimestamp b t) = want_snapshot-late s b t (metafile_in t.role.meta snapshot_file)
   step-late s (at.PutSnapshot k n) = want_targets-late s k (metafile_in k.snapshot.role.meta targets_file)
   step-late s (at.PutTargets k d) = grown-late s k [] (begun (metas_in k) (held_as [] d))
@@ -86,7 +84,7 @@ module _ (v : Verifies) where
 
   answer-late : (s : SettingDoc) (st : StageDoc) (a : AnswerDoc) → Late st → Late (settled (stage_after v s st a))
   answer-late s st a h = keeps-answer v s Late Late bad (λ _ _. ⊤)
-      (record { moment = λ now l _. absurd l; read = λ w r bytes _ _. read-late s w r bytes; ends = λ w r a _ _ _. tt; step = λ p _ _. step-late s p; same = λ st a _ _ l _. l }) st a h tt
+      (record { moment = λ now l _. absurd l; stored = λ w r _ _. walked-late s (walk_from w r); read = λ w r bytes _ _. read-late s w r bytes; ends = λ w r a _ _ _. tt; step = λ p _ _. step-late s p; same = λ st a _ _ l _. l }) st a h tt
 
   run-late : (answers : List AnswerDoc) (d : CoreDoc) → Late d.stage → Late (run v d answers).stage
   run-late [] d h = h

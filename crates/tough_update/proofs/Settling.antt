@@ -31,6 +31,7 @@ failed r (DatastoreRemove path) h = inl (sym (ap settled h))
 -- a stage that is no end
 pub unended : (s : Stage) → ((o : Result Loaded UpdateError) → s ≡ in_stage.Done o → ⊥) → None ≡ ended (stage_doc s)
 unended in_stage.Moment h = refl
+unended (in_stage.ReadRoot w) h = refl
 unended (in_stage.Fetch w r) h = refl
 unended (in_stage.Step p) h = refl
 unended (in_stage.Done o) h = absurd (h o refl)

@@ -1,6 +1,6 @@
 -- What holds of each stage, and that each answer keeps it.
 use Rattle.std.specs.Prelude.{◌≡◌, ℕ, ℤ, ◌+◌, ◌-◌, ◌^◌, ◌≤◌, List, [], ◌∷◌, ◌++◌, length, codes, Option, Some, None, IfSome, Bool, true, false, IsTrue, ⊤, Ok, Err, nat_le}
-use Rattle.std.proofs.Common.{◌≤ℤ◌, int_lt, refl, sym, ◌∙◌, ap, subst, arith}
+use Rattle.std.proofs.Common.{◌≤ℤ◌, int_lt, refl, sym, ◌∙◌, ap, subst, inl, inr, arith}
 use Rattle.jiff_core.proofs.SignedLemmas.{signed_arith}
 use Rattle.std.proofs.lemmas.Bool.{leb-true}
 use Rattle.tough_keys.specs.Same.{Verifies}
@@ -44,21 +44,21 @@ use Rattle.tough_update.specs.Stages.{WalkDoc, BaseDoc, KnownDoc, WantedDoc, Pen
 use Rattle.tough_update.specs.Stages as at
 use Rattle.tough_update.specs.Answered.{AnswerDoc}
 use Rattle.tough_update.specs.Answered as got
-use Rattle.tough_update.specs.Machine.{walked, began, new_root, walk_ended, want_snapshot, known_of, want_targets, new_targets, read_wanted, after, stage_after, question_at}
-use Rattle.tough_update.specs.Trusted.{Chain, handed_in, followed, Lists, IsVouched}
+use Rattle.tough_update.specs.Machine.{walked, began, walk_from, new_root, walk_ended, want_snapshot, known_of, want_targets, new_targets, read_wanted, after, stage_after, question_at}
+use Rattle.tough_update.specs.Trusted.{Chain, starts, followed, IsHandedIn, Begins, Lists, IsVouched}
 use Rattle.tough_update.specs.Runs.{Keeps, EndsWalk}
 use Rattle.tough_net.specs.Digests.{has_digests}
 use Rattle.tough_trust.proofs.lemmas.Passing.{size-stated, digests-stated, has-true, not-true, timestamp-passes, snapshot-passes, not-expired}
 use Rattle.tough_trust.proofs.lemmas.Walking.{first-passed, next-fine}
 use Rattle.tough_trust.proofs.lemmas.Judging.{judged-ok, delegated-at}
-use Rattle.tough_update.proofs.Turning.{Fine, if-fine, and_then-fine, walking, ending, keeps-answer}
+use Rattle.tough_update.proofs.Turning.{Fine, if-fine, and_then-fine, walking, ending, beginning, keeps-answer}
 
 -- ---- documents that were read and verified
 
-pub first-fine : (verifies : Verifies) (bytes : List ℕ) (root : SignedDoc RootDoc) → first_root verifies bytes ≡ Ok root → Chain verifies bytes root
+pub first-fine : (verifies : Verifies) (bytes : List ℕ) (root : SignedDoc RootDoc) → first_root verifies bytes ≡ Ok root → IsHandedIn verifies bytes root
 first-fine verifies bytes root h =
     let r = first-passed verifies bytes root h in
-    handed_in root r.0 r.1
+    record { reading = r.0; signed = r.1 }
 
 -- ---- delegations that vouch
 
@@ -81,13 +81,17 @@ pub in-time : (enforced : Bool) (start expires : ℤ) → enforced ≡ true → 
 in-time true start expires e h = le_from_lt expires start h
 in-time false start expires e h = cc
 
-module _ (verifies : Verifies) (s : SettingDoc) (N : ℤ → Type 0) (E : SignedDoc RootDoc → Type 0) where
+module _ (verifies : Verifies) (s : SettingDoc) (N : ℤ → Type 0) (G E : SignedDoc RootDoc → Type 0) where
+  -- a chain from the root that was handed in, or from one that was given
+  abbrev pub Chained : SignedDoc RootDoc → Type 0
+  Chained = Chain verifies (Begins verifies s.trusted G)
+
   -- whether a moment is within an expiry, where that counts
   abbrev pub InTime : ℤ → ℤ → Type 0
   InTime start expires = is_expired s.enforced start expires ≡ false
 
   abbrev pub BaseFine : ℤ → SignedDoc RootDoc → Type 0
-  BaseFine start root = N start × Chain verifies s.trusted root × E root × InTime start root.role.head.expires
+  BaseFine start root = N start × Chained root × E root × InTime start root.role.head.expires
 
   abbrev pub TimestampFine : ℤ → SignedDoc RootDoc → SignedDoc TimestampDoc → Type 0
   TimestampFine start root t = ReachesUnder verifies root.role role.Timestamp timestamp_json t × (length t.role.meta ≡ 1) × InTime start t.role.head.expires
@@ -127,7 +131,7 @@ module _ (verifies : Verifies) (s : SettingDoc) (N : ℤ → Type 0) (E : Signed
     pub found : IsValid t.role
 
   abbrev pub HoldsWanted : WantedDoc → RequestDoc → Type 0
-  HoldsWanted (at.Root w) r = N w.start × Chain verifies s.trusted w.last × (r ≡ root_request s.limits (w.last.role.head.version + 1))
+  HoldsWanted (at.Root w) r = N w.start × Chained w.last × (r ≡ root_request s.limits (w.last.role.head.version + 1))
   HoldsWanted (at.Timestamp b) r = BaseFine b.start b.root
   HoldsWanted (at.Snapshot b t listed) r = BaseFine b.start b.root × TimestampFine b.start b.root t × AskedBy t.role.meta snapshot_file s.limits.max_snapshot_size listed r
   HoldsWanted (at.Targets k listed) r = KnownFine k × AskedBy k.snapshot.role.meta targets_file s.limits.max_targets_size listed r
@@ -136,9 +140,8 @@ module _ (verifies : Verifies) (s : SettingDoc) (N : ℤ → Type 0) (E : Signed
 
   abbrev pub HoldsPending : PendingDoc → Type 0
   HoldsPending (at.NoteTime now) = ⊤
-  HoldsPending (at.PutRoot w) = N w.start × Chain verifies s.trusted w.last
-  HoldsPending (at.PutLast w) = N w.start × Chain verifies s.trusted w.last × E w.last
-  HoldsPending (at.Clear b) = BaseFine b.start b.root
+  HoldsPending (at.PutRoot w) = N w.start × Chained w.last
+  HoldsPending (at.PutLast w) = N w.start × Chained w.last × E w.last
   HoldsPending (at.PutTimestamp b t) = BaseFine b.start b.root
   HoldsPending (at.PutSnapshot k listed) = BaseFine k.start k.root × TimestampFine k.start k.root k.timestamp × Lists snapshot_in k.timestamp.role.meta snapshot_file listed k.snapshot
   HoldsPending (at.PutTargets k d) = KnownFine k × ((top : SignedDoc TargetsDoc) × (d ≡ bare top) × TargetsFine k top)
@@ -146,6 +149,7 @@ module _ (verifies : Verifies) (s : SettingDoc) (N : ℤ → Type 0) (E : Signed
       KnownFine k × ((m : MetafileDoc) × GrowsTo k (wants roles.work m)) × ((page : SignedDoc TargetsDoc) × (d ≡ bare page) × RoleFine k (holder_of roles.work) (wanted_name roles.work) page)
 
   abbrev pub Holds : StageDoc → Type 0
+  Holds (at.ReadRoot w) = N w.start × IsHandedIn verifies s.trusted w.first × (w.last ≡ w.first)
   Holds (at.Fetch w r) = HoldsWanted w r
   Holds (at.Step p) = HoldsPending p
   Holds (at.Done (Ok l)) = KnownFine l.known × TreeFine l.known l.targets
@@ -155,6 +159,7 @@ module _ (verifies : Verifies) (s : SettingDoc) (N : ℤ → Type 0) (E : Signed
   abbrev pub Told : StageDoc → AnswerDoc → Type 0
   Told (at.Fetch (at.Root w) r) a = r ≡ root_request s.limits (w.last.role.head.version + 1) → EndsWalk a → E w.last
   Told (at.Step (at.NoteTime now)) a = a ≡ got.Step (Ok (tt {0})) → N now
+  Told (at.ReadRoot w) a = (r : SignedDoc RootDoc) → a ≡ got.Stored (Ok (Some r)) → G r
   Told _ a = ⊤
 
   abbrev pub Heard : StageDoc → AnswerDoc → Type 0
@@ -164,19 +169,23 @@ module _ (verifies : Verifies) (s : SettingDoc) (N : ℤ → Type 0) (E : Signed
   bad f = tt
 
   module _ (at_end : (r : SignedDoc RootDoc) → r.role.head.version ≡ 2 ^ 64 - 1 → E r) where
-    walked-fine : (w : WalkDoc) → N w.start → Chain verifies s.trusted w.last → Fine Holds bad (walked s.limits w)
+    walked-fine : (w : WalkDoc) → N w.start → Chained w.last → Fine Holds bad (walked s.limits w)
     walked-fine w n c = walking Holds bad s.limits w (λ _ e. (n, c, at_end w.last e)) (λ _. (n, c, refl))
 
-    began-fine : (start : ℤ) → N start → Fine Holds bad (began verifies s.limits s.trusted start)
-    began-fine start n = and_then-fine Holds bad (first_root verifies s.trusted) (λ root. walked s.limits (record { start = start; first = root; last = root })) (λ root is.
-        walked-fine (record { start = start; first = root; last = root }) n (first-fine verifies s.trusted root is))
+    began-fine : (start : ℤ) → N start → Fine Holds bad (began verifies s.trusted start)
+    began-fine start n = beginning Holds bad verifies s.trusted start (λ root is. (n, first-fine verifies s.trusted root is, refl))
 
-    new_root-fine : (w : WalkDoc) (bytes : List ℕ) → N w.start → Chain verifies s.trusted w.last → Fine Holds bad (new_root verifies w bytes)
+    -- the walk begins
+    from-fine : (w : WalkDoc) (r : Option (SignedDoc RootDoc)) → Holds (at.ReadRoot w) → Heard (at.ReadRoot w) (got.Stored (Ok r)) → Fine Holds bad (walked s.limits (walk_from w r))
+    from-fine w None h l = walked-fine w h.0 (subst Chained (sym h.2) (starts w.first (inl h.1)))
+    from-fine w (Some r) h l = walked-fine (record { start = w.start; first = r; last = r }) h.0 (starts r (inr (l.1 r refl, l.0.1)))
+
+    new_root-fine : (w : WalkDoc) (bytes : List ℕ) → N w.start → Chained w.last → Fine Holds bad (new_root verifies w bytes)
     new_root-fine w bytes n c = and_then-fine Holds bad (next_root verifies w.last.role bytes) (λ root. Ok (at.Step (at.PutRoot (record { start = w.start; first = w.first; last = root })))) (λ root is.
         (n, followed w.last root c (next-fine verifies w.last bytes root is)))
 
-    walk_ended-fine : (w : WalkDoc) → N w.start → Chain verifies s.trusted w.last → E w.last → Fine Holds bad (walk_ended s.limits s.enforced w)
-    walk_ended-fine w n c e = ending Holds bad s.limits s.enforced w (λ t _. (n, c, e, not-true _ t)) (λ t. (n, c, e, not-true _ t))
+    walk_ended-fine : (w : WalkDoc) → N w.start → Chained w.last → E w.last → Fine Holds bad (walk_ended s.limits s.enforced w)
+    walk_ended-fine w n c e = ending Holds bad s.limits s.enforced w (λ t. (n, c, e, not-true _ t))
 
     new_timestamp-fine : (b : BaseDoc) (bytes : List ℕ) (o : Option (SignedDoc TimestampDoc)) → BaseFine b.start b.root → Fine Holds bad (if_read (ParseMetadata role.Timestamp (holds_json bytes)) o (λ t. Ok (at.Step (at.PutTimestamp b t))))
     new_timestamp-fine b bytes None h = tt
@@ -307,7 +316,6 @@ module _ (verifies : Verifies) (s : SettingDoc) (N : ℤ → Type 0) (E : Signed
     step-fine (at.NoteTime now) h l = began-fine now (l.1 refl)
     step-fine (at.PutRoot w) h l = walked-fine w h.0 h.1
     step-fine (at.PutLast w) h l = walk_ended-fine w h.0 h.1 h.2
-    step-fine (at.Clear b) h l = h
     step-fine (at.PutTimestamp b t) h l =
         let p = timestamp-passes verifies b.root.role t l.0.0 in
         want_snapshot-fine b t (metafile_in t.role.meta snapshot_file) refl h (p.0, p.1, not-expired role.Timestamp s.enforced b.start t.role.head.expires l.0.1)
@@ -317,4 +325,4 @@ module _ (verifies : Verifies) (s : SettingDoc) (N : ℤ → Type 0) (E : Signed
 
     -- each answer keeps what holds of a stage
     pub answer-fine : (stage : StageDoc) (a : AnswerDoc) → Holds stage → Heard stage a → Fine Holds bad (stage_after verifies s stage a)
-    answer-fine = keeps-answer verifies s Holds Holds bad Heard (record { moment = λ now h l. tt; read = read-fine; ends = λ w r a e h l. (h.0, h.1, l.1 h.2 e); step = step-fine; same = λ stage a _ e h l. h })
+    answer-fine = keeps-answer verifies s Holds Holds bad Heard (record { moment = λ now h l. tt; stored = from-fine; read = read-fine; ends = λ w r a e h l. (h.0, h.1, l.1 h.2 e); step = step-fine; same = λ stage a _ e h l. h })

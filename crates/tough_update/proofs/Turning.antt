@@ -6,20 +6,22 @@ use Rattle.tough_net.specs.declared.error.TransportErrorKind.{TransportErrorKind
 use Rattle.tough_net.specs.declared.error.TransportErrorKind.TheVariants as kind
 use Rattle.tough_net.specs.Errors.{error_kind}
 use Rattle.tough_keys.specs.Same.{Verifies}
+use Rattle.tough_roles.specs.Root.{RootDoc}
+use Rattle.tough_roles.specs.Signature.{SignedDoc}
 use Rattle.tough_roles.specs.declared.role_type.RoleType.TheVariants as role
 use Rattle.tough_checks.specs.Checks.{ExpiredMetadata, is_expired}
 use Rattle.tough_trust.specs.Failure.{Failure, MaxUpdatesExceeded, Checked}
 use Rattle.tough_net.specs.declared.limits.Limits.{Limits}
+use Rattle.tough_trust.specs.Walk.{first_root}
 use Rattle.tough_trust.specs.Outcomes.{unless, if_read, and_then}
 use Rattle.tough_trust.specs.Requests.{RequestDoc, root_request, timestamp_request}
-use Rattle.tough_trust.specs.Rotation.{is_rotated}
 use Rattle.tough_update.specs.Stages.{WalkDoc, WantedDoc, PendingDoc, StageDoc, SettingDoc}
 use Rattle.tough_update.specs.Stages as at
 use Rattle.tough_trust.specs.declared.fault.Fault.{Fault}
 use Rattle.tough_trust.specs.declared.fault.Fault.TheVariants as fault
 use Rattle.tough_update.specs.Answered.{AnswerDoc}
 use Rattle.tough_update.specs.Answered as got
-use Rattle.tough_update.specs.Machine.{ask_root, walked, base_of, walk_ended, read_wanted, after, settled, stage_after}
+use Rattle.tough_update.specs.Machine.{ask_root, walked, began, walk_from, base_of, walk_ended, read_wanted, after, settled, stage_after}
 use Rattle.tough_trust.specs.Faults.{fault_failure, is_memory, is_missing, ends_start, ends_stream}
 use Rattle.tough_update.specs.Runs.{EndsWalk}
 
@@ -54,16 +56,18 @@ module _ (P : StageDoc → Type 0) (bad : (f : Failure) → P (at.Done (Err f)))
       walks-on l w (w.last.role.head.version + 1) (MaxUpdatesExceeded l.max_root_updates) (nat_lt (w.last.role.head.version - w.first.role.head.version) l.max_root_updates) (w.last.role.head.version == 2 ^ 64 - 1)
       (λ m e. ends m (eqb-true _ _ e)) goes
 
-  -- where the last root hasn't expired, timestamp and snapshot are forgotten or the timestamp is asked for
+  -- where the last root hasn't expired, the timestamp is asked for
   pub ending : (l : Limits) (enforced : Bool) (w : WalkDoc)
-      → (IsTrue (not (is_expired enforced w.start w.last.role.head.expires)) → IsTrue (is_rotated w.first.role w.last.role) → P (at.Step (at.Clear (base_of w))))
       → (IsTrue (not (is_expired enforced w.start w.last.role.head.expires)) → P (at.Fetch (at.Timestamp (base_of w)) (timestamp_request l)))
       → Fine (walk_ended l enforced w)
-  ending l enforced w cleared kept =
-      let clears : Result StageDoc Failure = Ok (at.Step (at.Clear (base_of w))) in
-      let keeps : Result StageDoc Failure = Ok (at.Fetch (at.Timestamp (base_of w)) (timestamp_request l)) in
-      unless-fine (Checked (ExpiredMetadata role.Root w.last.role.head.expires w.start)) (not (is_expired enforced w.start w.last.role.head.expires)) (if is_rotated w.first.role w.last.role then clears else keeps) (λ t.
-      if-fine (is_rotated w.first.role w.last.role) clears keeps (cleared t) (kept t))
+  ending l enforced w goes =
+      unless-fine (Checked (ExpiredMetadata role.Root w.last.role.head.expires w.start)) (not (is_expired enforced w.start w.last.role.head.expires)) (Ok (at.Fetch (at.Timestamp (base_of w)) (timestamp_request l))) goes
+
+  -- the root that was handed in stands
+  pub beginning : (verifies : Verifies) (trusted : List ℕ) (start : ℤ)
+      → ((root : SignedDoc RootDoc) → first_root verifies trusted ≡ Ok root → P (at.ReadRoot (record { start = start; first = root; last = root })))
+      → Fine (began verifies trusted start)
+  beginning verifies trusted start goes = and_then-fine (first_root verifies trusted) (λ root. Ok (at.ReadRoot (record { start = start; first = root; last = root }))) goes
 
   -- a document was read
   pub reading : {D : Type 0} (f : Failure) (o : Option D) (to : D → StageDoc) → ((d : D) → P (to d)) → Fine (if_read f o (λ d. Ok (to d)))
@@ -90,6 +94,7 @@ stream-ends (fault.Transport e) h = is-missing (error_kind e) h
 -- the answer is of the kind that the stage waits for
 abbrev pub waits : StageDoc → AnswerDoc → Bool
 waits at.Moment (got.Moment now) = true
+waits (at.ReadRoot w) (got.Stored r) = true
 waits (at.Fetch w r) (got.Bytes bytes) = true
 waits (at.Fetch w r) (got.NotStarted f) = true
 waits (at.Fetch w r) (got.Cut f) = true
@@ -101,6 +106,7 @@ module _ (verifies : Verifies) (s : SettingDoc) (P Q : StageDoc → Type 0) (bad
   -- what is to be shown, with what is heard of each answer
   pub record Kept : Type 0 where
     pub moment : (now : ℤ) → P at.Moment → Heard at.Moment (got.Moment now) → Q (at.Step (at.NoteTime now))
+    pub stored : (w : WalkDoc) (r : Option (SignedDoc RootDoc)) → P (at.ReadRoot w) → Heard (at.ReadRoot w) (got.Stored (Ok r)) → Fine Q bad (walked s.limits (walk_from w r))
     pub read : (w : WantedDoc) (r : RequestDoc) (bytes : List ℕ) → P (at.Fetch w r) → Heard (at.Fetch w r) (got.Bytes bytes) → Fine Q bad (read_wanted verifies s w r bytes)
     pub ends : (w : WalkDoc) (r : RequestDoc) (a : AnswerDoc) → EndsWalk a → P (at.Fetch (at.Root w) r) → Heard (at.Fetch (at.Root w) r) a → Q (at.Step (at.PutLast w))
     pub step : (p : PendingDoc) → P (at.Step p) → Heard (at.Step p) (got.Step (Ok (tt {0}))) → Fine Q bad (after verifies s p)
@@ -109,6 +115,8 @@ module _ (verifies : Verifies) (s : SettingDoc) (P Q : StageDoc → Type 0) (bad
 
   pub keeps-answer : Kept → (stage : StageDoc) (a : AnswerDoc) → P stage → Heard stage a → Fine Q bad (stage_after verifies s stage a)
   keeps-answer k at.Moment (got.Moment now) h l = k.moment now h l
+  keeps-answer k (at.ReadRoot w) (got.Stored (Ok r)) h l = k.stored w r h l
+  keeps-answer k (at.ReadRoot w) (got.Stored (Err f)) h l = bad f
   keeps-answer k (at.Fetch w r) (got.Bytes bytes) h l = k.read w r bytes h l
   keeps-answer k (at.Fetch (at.Root w) r) (got.NotStarted f) h l = if-fine Q bad (ends_start f) (Ok (at.Step (at.PutLast w))) (Err (fault_failure r.name f)) (λ e. k.ends w r (got.NotStarted f) (start-ends f e) h l) (bad (fault_failure r.name f))
   keeps-answer k (at.Fetch (at.Root w) r) (got.Cut f) h l = if-fine Q bad (ends_stream f) (Ok (at.Step (at.PutLast w))) (Err (fault_failure r.name f)) (λ e. k.ends w r (got.Cut f) (stream-ends f e) h l) (bad (fault_failure r.name f))

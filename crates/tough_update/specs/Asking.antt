@@ -18,8 +18,8 @@ use Rattle.tough_update.specs.Questions as ask
 use Rattle.tough_update.specs.Answered.{AnswerDoc}
 use Rattle.tough_update.specs.Answered as got
 use Rattle.tough_update.specs.Machine.{question, answered}
-use Rattle.tough_update.specs.Trusted.{Chain}
-use Rattle.tough_update.specs.Runs.{run}
+use Rattle.tough_update.specs.Trusted.{Chain, IsHandedIn}
+use Rattle.tough_update.specs.Runs.{run, WasStored}
 
 -- ---- which file is asked for
 
@@ -30,10 +30,14 @@ pub record HasTaken (verifies : Verifies) (c : CoreDoc) (answers : List AnswerDo
   pub all : answers ≡ before ++ got.Step (Ok (tt {0})) ∷ after
   pub asked : question (run verifies c before) ≡ ask.Step act
 
--- the root after one that ends a chain from the root that was handed in
-pub record AsksRoot (verifies : Verifies) (c : CoreDoc) (r : RequestDoc) : Type 0 where
+-- the walk may begin with the root that was handed in, or with one that was answered where the stored root was asked for
+abbrev pub MayBegin : Verifies → CoreDoc → List AnswerDoc → SignedDoc RootDoc → Type 0
+MayBegin verifies c answers r = IsHandedIn verifies c.setting.trusted r ⊎ WasStored verifies c answers r
+
+-- the root after one that ends a chain from the root that the walk began with
+pub record AsksRoot (verifies : Verifies) (c : CoreDoc) (answers : List AnswerDoc) (r : RequestDoc) : Type 0 where
   pub last : SignedDoc RootDoc
-  pub chain : Chain verifies c.setting.trusted last
+  pub chain : Chain verifies (MayBegin verifies c answers) last
   pub is : r ≡ root_request c.setting.limits (last.role.head.version + 1)
 
 -- the snapshot, as the timestamp that was accepted lists it
@@ -71,7 +75,7 @@ pub record AsksRole (verifies : Verifies) (c : CoreDoc) (answers : List AnswerDo
 
 -- one of the five kinds of file
 abbrev pub AsksFile : Verifies → CoreDoc → List AnswerDoc → RequestDoc → Type 0
-AsksFile verifies c answers r = AsksRoot verifies c r ⊎ ((r ≡ timestamp_request c.setting.limits) ⊎ (AsksSnapshot verifies c answers r ⊎ (AsksTargets verifies c answers r ⊎ AsksRole verifies c answers r)))
+AsksFile verifies c answers r = AsksRoot verifies c answers r ⊎ ((r ≡ timestamp_request c.setting.limits) ⊎ (AsksSnapshot verifies c answers r ⊎ (AsksTargets verifies c answers r ⊎ AsksRole verifies c answers r)))
 
 -- ---- how many files are asked for
 
@@ -101,13 +105,20 @@ first_version (Some r) = r.role.head.version
 abbrev pub IsOfRole : Limits → RequestDoc → Type 0
 IsOfRole l r = (consistent : Bool) × (name : List ℕ) × (entry : MetafileDoc) × (r ≡ role_request l consistent name entry)
 
--- Roots one after another, from the one after the root that was handed in and at most as many as the limit allows; then at most three
+-- a walk may begin with a root of this version
+abbrev pub BeginsAt : Verifies → CoreDoc → List AnswerDoc → ℕ → Type 0
+BeginsAt verifies c answers version =
+    (version ≡ first_version (root_in c.setting.trusted)) ⊎ ((r : SignedDoc RootDoc) × WasStored verifies c answers r × (version ≡ r.role.head.version))
+
+-- Roots one after another, from the one after the root that the walk began with and at most as many as the limit allows; then at most three
 -- files; and then documents of delegated roles.
 pub record AsksFew (verifies : Verifies) (c : CoreDoc) (answers : List AnswerDoc) : Type 0 where
+  pub first : ℕ
+  pub begins : BeginsAt verifies c answers first
   pub roots : ℕ
   pub few : roots ≤ c.setting.limits.max_root_updates
   pub others : List RequestDoc
   pub roles : List RequestDoc
-  pub all : requests verifies c answers ≡ roots_after c.setting.limits (first_version (root_in c.setting.trusted)) roots ++ (others ++ roles)
+  pub all : requests verifies c answers ≡ roots_after c.setting.limits first roots ++ (others ++ roles)
   pub three : length others ≤ 3
   pub delegated : AllByRecursion (IsOfRole c.setting.limits) roles

@@ -61,7 +61,7 @@ Gets r (Some bytes) a = Delivers (fits_request r bytes) bytes a
 
 -- nothing was accepted yet
 abbrev pub nothing : Last
-nothing = record { time = None; timestamp = None; snapshot = None }
+nothing = record { time = None; root = None; timestamp = None; snapshot = None }
 
 -- the first check that refuses, where the step's file isn't there
 abbrev pub refusal_of : Step → Option Reason
@@ -70,7 +70,7 @@ refusal_of step = or_else step.before (step.after None)
 -- the same of each step, on a store that held nothing
 abbrev pub refusal_at_first : Verifies → Act → Option Reason
 refusal_at_first verifies (act.NoteTime now) = refusal_of (time_step nothing now)
-refusal_at_first verifies (act.PutRoot root) = refusal_of (root_step root)
+refusal_at_first verifies (act.PutRoot root) = refusal_of (root_step verifies nothing root)
 refusal_at_first verifies act.ClearRotated = None
 refusal_at_first verifies (act.AdvanceTimestamp root t start enforced) = refusal_of (timestamp_step verifies root nothing t start enforced)
 refusal_at_first verifies (act.AdvanceSnapshot root listed s start enforced) = refusal_of (snapshot_step verifies root nothing listed s start enforced)
@@ -84,6 +84,7 @@ step_answer (Some reason) = got.Step (Err (Checked reason))
 -- the answers of these files, of a clock at this moment, and of a store that held nothing
 abbrev pub Honest : Verifies → Files → ℤ → Question → AnswerDoc → Type 0
 Honest verifies files now ask.Moment a = a ≡ got.Moment now
+Honest verifies files now (ask.Stored first) a = a ≡ got.Stored (Ok None)
 Honest verifies files now (ask.Fetch r) a = Gets r (files r.name) a
 Honest verifies files now (ask.Step act) a = a ≡ step_answer (refusal_at_first verifies act)
 Honest verifies files now ask.Ready a = ⊥
@@ -173,9 +174,9 @@ turns_as s k name (Some m) = if is_reserved (role_request s.limits k.root.role.c
 abbrev pub role_turns : SettingDoc → KnownDoc → List ℕ → ℕ
 role_turns s k name = turns_as s k name (listed_as (metas_in k) name)
 
--- ten answers, and those for the delegated roles
+-- eleven answers, and those for the delegated roles
 abbrev pub all_turns : SettingDoc → LoadedDoc → ℕ
-all_turns s l = 10 + sum_by (role_turns s l.known) (fetch_order l.targets.role)
+all_turns s l = 11 + sum_by (role_turns s l.known) (fetch_order l.targets.role)
 
 -- It is ready after so many answers, and not before; and then it has ended with these documents.
 pub record IsLoaded (verifies : Verifies) (c : CoreDoc) (answers : List AnswerDoc) (l : LoadedDoc) : Type 0 where

@@ -2,6 +2,7 @@
 -- isn't waited for changes nothing.
 use Rattle.std.specs.Prelude.{ℕ, ℤ, List, Option, Some, None, Bool, not, if◌then◌else◌, Result, Ok, Err}
 use Rattle.tough_keys.specs.Same.{Verifies}
+use Rattle.tough_roles.specs.Root.{RootDoc}
 use Rattle.tough_roles.specs.Signature.{SignedDoc}
 use Rattle.tough_roles.specs.Timestamp.{TimestampDoc, MetafileDoc}
 use Rattle.tough_roles.specs.Snapshot.{SnapshotDoc}
@@ -19,7 +20,6 @@ use Rattle.tough_trust.specs.Walk.{first_root, next_root, next_request}
 use Rattle.tough_trust.specs.Faults.{fault_failure, ends_start, ends_stream}
 use Rattle.tough_trust.specs.Outcomes.{unless, if_read, holds_json, and_then}
 use Rattle.tough_trust.specs.Requests.{RequestDoc, timestamp_request, snapshot_request, targets_request}
-use Rattle.tough_trust.specs.Rotation.{is_rotated}
 use Rattle.tough_trust.specs.delegations.Bare.{top_page}
 use Rattle.tough_trust.specs.Listed.{by_root, targets_text, judged}
 use Rattle.tough_update.specs.Delegated.{roles_begun, role_given, new_role}
@@ -41,9 +41,17 @@ ask_root w (Some r) = at.Fetch (at.Root w) r
 abbrev pub walked : Limits → WalkDoc → Result StageDoc Failure
 walked l w = and_then (next_request l w.first.role.head.version w.last.role.head.version) (λ r. Ok (ask_root w r))
 
--- the walk begins with the root that was handed in
-abbrev pub began : Verifies → Limits → List ℕ → ℤ → Result StageDoc Failure
-began verifies l trusted start = and_then (first_root verifies trusted) (λ root. walked l (record { start = start; first = root; last = root }))
+-- the root that was handed in stands, and the stored one is to be read
+abbrev pub began : Verifies → List ℕ → ℤ → Result StageDoc Failure
+began verifies trusted start = and_then (first_root verifies trusted) (λ root. Ok (at.ReadRoot (record { start = start; first = root; last = root })))
+
+-- the walk begins with the stored root, where there is one, else with the root that was handed in
+abbrev pub walk_from : WalkDoc → Option (SignedDoc RootDoc) → WalkDoc
+walk_from w None = w
+walk_from w (Some r) = record { start = w.start; first = r; last = r }
+
+abbrev pub root_read : Limits → WalkDoc → Result (Option (SignedDoc RootDoc)) Failure → Result StageDoc Failure
+root_read l w r = and_then r (λ o. walked l (walk_from w o))
 
 abbrev pub new_root : Verifies → WalkDoc → List ℕ → Result StageDoc Failure
 new_root verifies w bytes = and_then (next_root verifies w.last.role bytes) (λ root. Ok (at.Step (at.PutRoot (record { start = w.start; first = w.first; last = root }))))
@@ -51,10 +59,10 @@ new_root verifies w bytes = and_then (next_root verifies w.last.role bytes) (λ 
 abbrev pub base_of : WalkDoc → BaseDoc
 base_of w = record { start = w.start; root = w.last }
 
--- the last root was stored: its expiry, and whether keys were rotated
+-- the last root was stored: its expiry, and then the timestamp
 abbrev pub walk_ended : Limits → Bool → WalkDoc → Result StageDoc Failure
 walk_ended l enforced w = unless (Checked (ExpiredMetadata role.Root w.last.role.head.expires w.start)) (not (is_expired enforced w.start w.last.role.head.expires))
-    (if is_rotated w.first.role w.last.role then Ok (at.Step (at.Clear (base_of w))) else Ok (at.Fetch (at.Timestamp (base_of w)) (timestamp_request l)))
+    (Ok (at.Fetch (at.Timestamp (base_of w)) (timestamp_request l)))
 
 -- ---- the timestamp (TUF specification 5.4)
 
@@ -101,10 +109,9 @@ read_wanted verifies s (at.Targets k listed) r bytes = new_targets verifies s.en
 read_wanted verifies s (at.Role k roles listed) r bytes = new_role verifies s k roles listed r.name bytes
 
 abbrev pub after : Verifies → SettingDoc → PendingDoc → Result StageDoc Failure
-after verifies s (at.NoteTime now) = began verifies s.limits s.trusted now
+after verifies s (at.NoteTime now) = began verifies s.trusted now
 after verifies s (at.PutRoot w) = walked s.limits w
 after verifies s (at.PutLast w) = walk_ended s.limits s.enforced w
-after verifies s (at.Clear b) = Ok (at.Fetch (at.Timestamp b) (timestamp_request s.limits))
 after verifies s (at.PutTimestamp b t) = want_snapshot s.limits b t (metafile_in t.role.meta snapshot_file)
 after verifies s (at.PutSnapshot k listed) = want_targets s.limits k (metafile_in k.snapshot.role.meta targets_file)
 after verifies s (at.PutTargets k d) = roles_begun s.limits k d
@@ -114,6 +121,7 @@ after verifies s (at.PutDelegated k roles name d) = role_given s.limits k roles 
 
 abbrev pub stage_after : Verifies → SettingDoc → StageDoc → AnswerDoc → Result StageDoc Failure
 stage_after verifies s at.Moment (got.Moment now) = Ok (at.Step (at.NoteTime now))
+stage_after verifies s (at.ReadRoot w) (got.Stored r) = root_read s.limits w r
 stage_after verifies s (at.Fetch w r) (got.Bytes bytes) = read_wanted verifies s w r bytes
 stage_after verifies s (at.Fetch w r) (got.NotStarted f) = unfetched w (ends_start f) r.name f
 stage_after verifies s (at.Fetch w r) (got.Cut f) = unfetched w (ends_stream f) r.name f
@@ -137,7 +145,6 @@ abbrev pub act_at : Bool → PendingDoc → Act
 act_at enforced (at.NoteTime now) = act.NoteTime now
 act_at enforced (at.PutRoot w) = act.PutRoot w.last
 act_at enforced (at.PutLast w) = act.PutRoot w.last
-act_at enforced (at.Clear b) = act.ClearRotated
 act_at enforced (at.PutTimestamp b t) = act.AdvanceTimestamp b.root.role t b.start enforced
 act_at enforced (at.PutSnapshot k listed) = act.AdvanceSnapshot k.root.role listed k.snapshot k.start enforced
 act_at enforced (at.PutTargets k d) = act.PutDocument targets_file (targets_text (top_page d))
@@ -145,6 +152,7 @@ act_at enforced (at.PutDelegated k roles name d) = act.PutDocument name (targets
 
 abbrev pub question_at : Bool → StageDoc → Question
 question_at enforced at.Moment = ask.Moment
+question_at enforced (at.ReadRoot w) = ask.Stored w.first.role.head.version
 question_at enforced (at.Fetch w r) = ask.Fetch r
 question_at enforced (at.Step p) = ask.Step (act_at enforced p)
 question_at enforced _ = ask.Ready

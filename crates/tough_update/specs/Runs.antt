@@ -1,27 +1,26 @@
 -- Runs of an update, over any answers.
-use Rattle.std.specs.Prelude.{◌≡◌, ◌≢◌, ◌⊎◌, ℤ, ◌+◌, ◌-◌, ◌^◌, List, [], ◌∷◌, ◌++◌, Some, true, false, IsTrue, ⊤, Ok, if◌then◌else◌}
+use Rattle.std.specs.Prelude.{◌≡◌, ◌≢◌, ◌⊎◌, ℕ, ℤ, ◌+◌, ◌-◌, ◌^◌, List, [], ◌∷◌, ◌++◌, Some, true, IsTrue, ⊤, Ok}
 use Rattle.tough_net.specs.declared.error.TransportErrorKind.TheVariants as kind
 use Rattle.tough_net.specs.Errors.{error_kind}
 use Rattle.tough_keys.specs.Same.{Verifies}
 use Rattle.tough_roles.specs.Signature.{SignedDoc}
 use Rattle.tough_roles.specs.Root.{RootDoc}
-use Rattle.tough_checks.specs.Checks.{is_expired}
-use Rattle.tough_vault.specs.Act.{NoteTime, ClearRotated, HasChecked}
+use Rattle.tough_vault.specs.Act.{NoteTime, HasChecked}
+use Rattle.tough_vault.specs.Looking.{VouchesRoot}
 use Rattle.tough_trust.specs.declared.fault.Fault.TheVariants as fault
-use Rattle.tough_trust.specs.Requests.{fits_request, root_request, timestamp_request}
-use Rattle.tough_update.specs.Stages.{WalkDoc, LoadedDoc, CoreDoc, Moment}
-use Rattle.tough_update.specs.Stages as at
+use Rattle.tough_trust.specs.Requests.{fits_request, root_request}
+use Rattle.tough_update.specs.Stages.{LoadedDoc, CoreDoc, Moment}
 use Rattle.tough_update.specs.Questions.{Question}
 use Rattle.tough_update.specs.Questions as ask
 use Rattle.tough_update.specs.Answered.{AnswerDoc}
 use Rattle.tough_update.specs.Answered as got
 use Rattle.tough_update.specs.Machine.{question, answered}
-use Rattle.tough_checks.specs.Documents.{root_in}
-use Rattle.tough_trust.specs.Rotation.{is_rotated}
-use Rattle.tough_update.specs.Trusted.{Chain, Trusted, Unexpired}
+use Rattle.tough_update.specs.Trusted.{Trusted, Unexpired}
 
--- What an answer promises, by what was asked: bytes fit, and a step that succeeds has made its checks on what it was given.
+-- What an answer promises, by what was asked: a stored root is newer and verifies itself, bytes fit, and a step that succeeds has made its checks
+-- on what it was given.
 abbrev pub Keeps : Verifies → Question → AnswerDoc → Type 0
+Keeps verifies (ask.Stored first) (got.Stored (Ok r)) = VouchesRoot verifies first r
 Keeps verifies (ask.Fetch r) (got.Bytes bytes) = IsTrue (fits_request r bytes)
 Keeps verifies (ask.Step act) (got.Step (Ok u)) = HasChecked verifies act
 Keeps verifies _ _ = ⊤
@@ -71,9 +70,17 @@ pub record HasNoted (verifies : Verifies) (c : CoreDoc) (answers : List AnswerDo
   pub told : WasTold verifies c before start
   pub once : (h t : List AnswerDoc) (now : ℤ) → answers ≡ h ++ got.Step (Ok (tt {0})) ∷ t → question (run verifies c h) ≡ ask.Step (NoteTime now) → h ≡ before
 
+-- this root was answered where the stored root was asked for
+pub record WasStored (verifies : Verifies) (c : CoreDoc) (answers : List AnswerDoc) (r : SignedDoc RootDoc) : Type 0 where
+  pub before : List AnswerDoc
+  pub after : List AnswerDoc
+  pub all : answers ≡ before ++ got.Stored (Ok (Some r)) ∷ after
+  pub first : ℕ
+  pub asked : question (run verifies c before) ≡ ask.Stored first
+
 -- what an update that succeeds promises
 pub record Loaded (verifies : Verifies) (c : CoreDoc) (answers : List AnswerDoc) (l : LoadedDoc) : Type 0 where
-  pub trusted : Trusted verifies c.setting.trusted l.known l.targets
+  pub trusted : Trusted verifies c.setting.trusted (WasStored verifies c answers) l.known l.targets
   pub unexpired : c.setting.enforced ≡ true → Unexpired l.known l.targets
   pub noted : HasNoted verifies c answers l.known.start
   pub last : IsLast verifies c answers l.known.root
@@ -81,25 +88,3 @@ pub record Loaded (verifies : Verifies) (c : CoreDoc) (answers : List AnswerDoc)
 -- nothing was answered yet
 abbrev pub IsFresh : CoreDoc → Type 0
 IsFresh c = c.stage ≡ Moment
-
--- The walk's last root is about to be stored: it ends a chain from the one that was handed in, and no root follows it. Where it hasn't
--- expired, timestamp and snapshot are forgotten next exactly if their keys differ between these two roots.
-pub record EndsWalking (verifies : Verifies) (c : CoreDoc) (answers : List AnswerDoc) (w : WalkDoc) : Type 0 where
-  pub handed_in : root_in c.setting.trusted ≡ Some w.first
-  pub chain : Chain verifies c.setting.trusted w.last
-  pub no_later : IsLast verifies c answers w.last
-  pub next : is_expired c.setting.enforced w.start w.last.role.head.expires ≡ false
-      → question (answered verifies (run verifies c answers) (got.Step (Ok (tt {0}))))
-      ≡ (if is_rotated w.first.role w.last.role then ask.Step ClearRotated else ask.Fetch (timestamp_request c.setting.limits))
-
--- The walk of this run ended: its last root was stored, and its keys for timestamp or snapshot differ from those of the root that was
--- handed in. Since then nothing came that was waited for.
-pub record WasRotated (verifies : Verifies) (c : CoreDoc) (answers : List AnswerDoc) : Type 0 where
-  pub walk : WalkDoc
-  pub before : List AnswerDoc
-  pub after : List AnswerDoc
-  pub all : answers ≡ before ++ got.Step (Ok (tt {0})) ∷ after
-  pub last : (run verifies c before).stage ≡ at.Step (at.PutLast walk)
-  pub walked : EndsWalking verifies c before walk
-  pub rotated : is_rotated walk.first.role walk.last.role ≡ true
-  pub since : run verifies c answers ≡ run verifies c (before ++ got.Step (Ok (tt {0})) ∷ [])

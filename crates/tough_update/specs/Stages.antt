@@ -12,7 +12,7 @@ use Rattle.tough_trust.specs.Requests.{RequestDoc}
 
 -- ---- what is known
 
--- a walk from root to root: when the update began, the root that was handed in, and the last one
+-- a walk from root to root: when the update began, the root that the walk began with, and the last one
 pub record WalkDoc : Type 0 where
   pub start : ℤ
   pub first : SignedDoc RootDoc
@@ -64,7 +64,6 @@ pub data PendingDoc : Type 0 where
   PutRoot : WalkDoc → PendingDoc
   -- the walk is at its end
   PutLast : WalkDoc → PendingDoc
-  Clear : BaseDoc → PendingDoc
   PutTimestamp : BaseDoc → SignedDoc TimestampDoc → PendingDoc
   -- the version that the timestamp lists
   PutSnapshot : KnownDoc → ℕ → PendingDoc
@@ -74,6 +73,8 @@ pub data PendingDoc : Type 0 where
 
 pub data StageDoc : Type 0 where
   Moment : StageDoc
+  -- the stored root is to be read; the walk is at the root that was handed in
+  ReadRoot : WalkDoc → StageDoc
   Fetch : WantedDoc → RequestDoc → StageDoc
   Step : PendingDoc → StageDoc
   Done : Result LoadedDoc Failure → StageDoc

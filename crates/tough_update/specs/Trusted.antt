@@ -1,5 +1,5 @@
 -- What an update that succeeds vouches for (TUF specification 1.0, section 5).
-use Rattle.std.specs.Prelude.{◌≡◌, ◌≤◌, ◌≤ℤ◌, ℕ, List, ◌++◌, length, codes, Option, Some, None, IfSome}
+use Rattle.std.specs.Prelude.{◌≡◌, ◌⊎◌, ◌≤◌, ◌≤ℤ◌, ℕ, List, ◌++◌, length, codes, Option, Some, None, IfSome}
 use Rattle.tough_keys.specs.Same.{Verifies}
 use Rattle.tough_roles.specs.Signature.{SignedDoc}
 use Rattle.tough_roles.specs.Root.{RootDoc, root_json}
@@ -24,11 +24,19 @@ use Rattle.tough_trust.specs.Requests.{stated_digests}
 use Rattle.tough_trust.specs.Listed.{targets_in}
 use Rattle.tough_update.specs.Stages.{KnownDoc}
 
--- A chain of roots from these bytes ends in this one: the bytes are the first, which reaches its own threshold, and each other one follows
--- the one before it.
-pub data Chain (verifies : Verifies) (bytes : List ℕ) : SignedDoc RootDoc → Type 0 where
-  handed_in : (r : SignedDoc RootDoc) → root_in bytes ≡ Some r → ReachesUnder verifies r.role role.Root root_json r → Chain verifies bytes r
-  followed : (r s : SignedDoc RootDoc) → Chain verifies bytes r → IsNext verifies r s → Chain verifies bytes s
+-- A chain of roots ends in this one: it begins with such a root, and each other one follows the one before it.
+pub data Chain (verifies : Verifies) (begins : SignedDoc RootDoc → Type 0) : SignedDoc RootDoc → Type 0 where
+  starts : (r : SignedDoc RootDoc) → begins r → Chain verifies begins r
+  followed : (r s : SignedDoc RootDoc) → Chain verifies begins r → IsNext verifies r s → Chain verifies begins s
+
+-- the root was handed in as these bytes, and reaches its own threshold
+pub record IsHandedIn (verifies : Verifies) (bytes : List ℕ) (r : SignedDoc RootDoc) : Type 0 where
+  pub reading : root_in bytes ≡ Some r
+  pub signed : ReachesUnder verifies r.role role.Root root_json r
+
+-- a chain may begin with the root that was handed in, or with one that was given and reaches its own threshold
+abbrev pub Begins : Verifies → List ℕ → (SignedDoc RootDoc → Type 0) → SignedDoc RootDoc → Type 0
+Begins verifies bytes given r = IsHandedIn verifies bytes r ⊎ (given r × ReachesUnder verifies r.role role.Root root_json r)
 
 -- an entry names this document: there are bytes that are the document, with each digest and within the length that the entry states, and
 -- the document has the listed version
@@ -50,8 +58,8 @@ IsVouched verifies entries None name d = ⊥
 IsVouched verifies entries (Some g) name d = ReachesDelegated verifies g name targets_json d × Lists targets_in entries (name ++ codes ".json") d.role.head.version d
 
 -- the targets have the documents of the delegated roles
-pub record Trusted (verifies : Verifies) (bytes : List ℕ) (k : KnownDoc) (targets : SignedDoc TreeDoc) : Type 0 where
-  pub root : Chain verifies bytes k.root
+pub record Trusted (verifies : Verifies) (bytes : List ℕ) (given : SignedDoc RootDoc → Type 0) (k : KnownDoc) (targets : SignedDoc TreeDoc) : Type 0 where
+  pub root : Chain verifies (Begins verifies bytes given) k.root
   pub timestamp : ReachesUnder verifies k.root.role role.Timestamp timestamp_json k.timestamp
   -- the timestamp lists the snapshot alone
   pub alone : length k.timestamp.role.meta ≡ 1

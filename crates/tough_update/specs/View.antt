@@ -34,7 +34,8 @@ use Rattle.tough_update.specs.declared.stage.Stage.TheVariants as in_stage
 use Rattle.tough_update.specs.declared.turns.Setting.{Setting}
 use Rattle.tough_update.specs.declared.counts.Counts.{Counts}
 use Rattle.tough_update.specs.declared.machine.Core.{Core}
-use Rattle.tough_trust.specs.View.{request_doc, act_of, step_doc}
+use Rattle.tough_vault.specs.Looking.{look_doc}
+use Rattle.tough_trust.specs.View.{request_doc, act_of, read_doc, step_doc}
 use Rattle.tough_update.specs.Stages.{WalkDoc, BaseDoc, KnownDoc, ReceivedDoc, RolesDoc, LoadedDoc, WantedDoc, PendingDoc, StageDoc, SettingDoc, CoreDoc}
 use Rattle.tough_update.specs.Stages as at
 use Rattle.tough_update.specs.Questions.{Question}
@@ -46,12 +47,14 @@ use Rattle.tough_update.specs.Answered as got
 
 abbrev pub question_of : Ask → Question
 question_of wants.Moment = ask.Moment
+question_of (wants.Stored first) = ask.Stored first
 question_of (wants.Fetch r) = ask.Fetch (request_doc r.now)
 question_of (wants.Step a) = ask.Step (act_of a)
 question_of wants.Ready = ask.Ready
 
 abbrev pub answer_doc : Answer → AnswerDoc
 answer_doc (by.Moment now) = got.Moment now.nanosecond
+answer_doc (by.Stored r) = got.Stored (read_doc (look_doc r))
 answer_doc (by.Bytes v) = got.Bytes v.items
 answer_doc (by.NotStarted f) = got.NotStarted f
 answer_doc (by.Cut f) = got.Cut f
@@ -120,7 +123,6 @@ abbrev pub pending_doc : Pending → PendingDoc
 pending_doc (pending.NoteTime now) = at.NoteTime now.nanosecond
 pending_doc (pending.PutRoot w) = at.PutRoot (walk_doc w)
 pending_doc (pending.PutLast w) = at.PutLast (walk_doc w)
-pending_doc (pending.Clear b) = at.Clear (base_doc b)
 pending_doc (pending.PutTimestamp b t) = at.PutTimestamp (base_doc b) (signed_doc timestamp_doc t)
 pending_doc (pending.PutSnapshot k listed) = at.PutSnapshot (known_doc k) listed
 pending_doc (pending.PutTargets k d) = at.PutTargets (known_doc k) (signed_doc tree_doc d)
@@ -128,6 +130,7 @@ pending_doc (pending.PutDelegated k roles name d) = at.PutDelegated (known_doc k
 
 abbrev pub stage_doc : Stage → StageDoc
 stage_doc in_stage.Moment = at.Moment
+stage_doc (in_stage.ReadRoot w) = at.ReadRoot (walk_doc w)
 stage_doc (in_stage.Fetch w r) = at.Fetch (wanted_doc w) (request_doc r)
 stage_doc (in_stage.Step p) = at.Step (pending_doc p)
 stage_doc (in_stage.Done r) = at.Done (outcome_doc r)

@@ -1,6 +1,7 @@
 //! What an update asks, and what it is answered.
 
 use jiff::Timestamp as Instant;
+use tough_roles::{Root, Signed};
 use tough_trust::{Act, Fault, Request};
 use tough_vault::StepError;
 
@@ -9,6 +10,8 @@ use tough_vault::StepError;
 pub enum Ask<'a> {
     /// The time.
     Moment,
+    /// The stored root, where it is newer than this version.
+    Stored(u64),
     /// A file.
     Fetch(&'a Request),
     /// A step on the store.
@@ -22,6 +25,8 @@ pub enum Ask<'a> {
 pub enum Answer {
     /// The time.
     Moment(Instant),
+    /// The stored root, where it verifies itself and is newer, or why it couldn't be read.
+    Stored(Result<Option<Signed<Root>>, StepError>),
     /// All the bytes of the file; they must fit what was asked for.
     Bytes(Vec<u8>),
     /// The fetch didn't start.

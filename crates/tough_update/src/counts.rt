@@ -42,7 +42,7 @@ fn ends_fetch(answer: &Answer) -> bool
 {
     match answer {
         Answer::Bytes(_) | Answer::NotStarted(_) | Answer::Cut(_) => true,
-        Answer::Moment(_) | Answer::Step(_) => false,
+        Answer::Moment(_) | Answer::Stored(_) | Answer::Step(_) => false,
     }
 }
 

@@ -3,14 +3,12 @@
 ghost use Rattle.std.specs.Prelude.{◌≡◌, List, Ok};
 ghost use Rattle.tough_keys.specs.Same.{Verifies};
 ghost use Rattle.tough_trust.specs.Requests.{RequestDoc};
-ghost use Rattle.tough_update.specs.Stages.{WalkDoc, LoadedDoc, CoreDoc, PutLast, Done};
-ghost use Rattle.tough_update.specs.Stages.{Step as AtStep};
+ghost use Rattle.tough_update.specs.Stages.{LoadedDoc, CoreDoc, Done};
 ghost use Rattle.tough_update.specs.Answered.{AnswerDoc};
-ghost use Rattle.tough_vault.specs.Act.{ClearRotated};
-ghost use Rattle.tough_update.specs.Questions.{Fetch, Step};
+ghost use Rattle.tough_update.specs.Questions.{Fetch};
 ghost use Rattle.tough_update.specs.Machine.{question};
 ghost use Rattle.tough_update.specs.Loadable.{Files, AllHonest, Loadable, IsLoaded};
-ghost use Rattle.tough_update.specs.Runs.{run, Along, IsFresh, Loaded, EndsWalking, WasRotated};
+ghost use Rattle.tough_update.specs.Runs.{run, Along, IsFresh, Loaded};
 ghost use Rattle.tough_update.specs.Asking.{AsksFile, AsksFew};
 ghost use Rattle.tough_update.specs.declared.counts.Counts.{Counts};
 ghost use Rattle.tough_update.specs.Counted.{Counted, FetchesFew, KeepsFew, KeepsAll};
@@ -24,26 +22,11 @@ pub fn trusts()
 
 /// Documents that are served, that fit, are signed and unexpired, and that vouch for one another, are loaded, those of delegated roles
 /// included, where each role has one and no two have one name: a transport that serves them, a clock, and a store that held nothing, give an
-/// update ten answers and at most two for each delegated role, and then it has ended with them.
+/// update eleven answers and at most two for each delegated role, and then it has ended with them.
 pub fn loads()
     ensures { (verifies : Verifies) (c : CoreDoc) (files : Files) (l : LoadedDoc)
         (answers : List AnswerDoc) → IsFresh c → Loadable verifies files c.setting l
         → AllHonest verifies files l.known.start c answers → IsLoaded verifies c answers l }
-{}
-
-/// Timestamp and snapshot are forgotten only where this run stored the walk's last root, and its keys for them differ from those of the root
-/// that was handed in.
-pub fn clears()
-    ensures { (verifies : Verifies) (c : CoreDoc) (answers : List AnswerDoc) → IsFresh c
-        → question (run verifies c answers) ≡ Step ClearRotated → WasRotated verifies c answers }
-{}
-
-/// Where the walk's last root was stored and hasn't expired, timestamp and snapshot are forgotten if these keys differ, and else the
-/// timestamp is asked for.
-pub fn ends_walk()
-    ensures { (verifies : Verifies) (c : CoreDoc) (answers : List AnswerDoc) (w : WalkDoc)
-        → IsFresh c → (run verifies c answers).stage ≡ AtStep (PutLast w)
-        → EndsWalking verifies c answers w }
 {}
 
 /// Each file that is asked for is one of four: the root after one that ends a chain, the timestamp, the snapshot that the accepted timestamp
@@ -53,8 +36,8 @@ pub fn asks()
         → IsFresh c → question (run verifies c answers) ≡ Fetch r → AsksFile verifies c answers r }
 {}
 
-/// In any run, at most as many roots are asked for as the limit allows, one after another from the one after the root that was handed in, and
-/// then at most three files.
+/// In any run, at most as many roots are asked for as the limit allows, one after another from the one after the root that the walk began
+/// with, and then at most three files.
 pub fn asks_few()
     ensures { (verifies : Verifies) (c : CoreDoc) (answers : List AnswerDoc) → IsFresh c
         → AsksFew verifies c answers }
@@ -73,4 +56,4 @@ pub fn counts_few()
 {}
 
 /// How many laws this file states.
-pub const LAWS: usize = 7;
+pub const LAWS: usize = 5;

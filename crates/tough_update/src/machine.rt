@@ -13,7 +13,7 @@ ghost use Rattle.tough_update.specs.Promises.{Settles, Goes, fits, ended};
 use crate::ask::{Answer, Ask};
 use crate::counts::Counts;
 use crate::stage::{Loaded, Pending, Stage};
-use crate::turns::{Setting, end_cut, end_unstarted, read_wanted, take_step};
+use crate::turns::{Setting, end_cut, end_unstarted, read_wanted, take_step, take_stored};
 use std::alloc::Global;
 use std::mem;
 use tough_roles::Verify;
@@ -46,6 +46,10 @@ fn turn<V: Verify>(
     match answer {
         Answer::Moment(now) => match stage {
             Stage::Moment => Ok(Stage::Step(Pending::NoteTime(now))),
+            stage => Ok(stage),
+        },
+        Answer::Stored(stored) => match stage {
+            Stage::ReadRoot(walk) => take_stored(setting.alloc, &setting.limits, walk, stored),
             stage => Ok(stage),
         },
         Answer::Bytes(bytes) => match stage {
@@ -106,6 +110,7 @@ impl Core {
     {
         match &self.stage {
             Stage::Moment => Ask::Moment,
+            Stage::ReadRoot(walk) => Ask::Stored(walk.first.signed.version.get()),
             Stage::Fetch(_, request) => Ask::Fetch(request),
             Stage::Step(pending) => Ask::Step(pending.act(self.enforcement)),
             Stage::Done(_) | Stage::Taken => Ask::Ready,

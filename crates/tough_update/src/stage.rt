@@ -17,7 +17,7 @@ use tough_vault::{DocumentName, ExpirationEnforcement};
 #[derive(Drop)]
 pub(crate) struct Walk {
     pub(crate) start: Instant,
-    /// The root that was handed in.
+    /// The root that it began with.
     pub(crate) first: Signed<Root>,
     /// The last root, where it is another one.
     pub(crate) later: Option<Signed<Root>>,
@@ -82,7 +82,6 @@ pub(crate) enum Pending {
     NoteTime(Instant),
     PutRoot(Walk),
     PutLast(Walk),
-    Clear(Base),
     PutTimestamp(Base, Signed<Timestamp>),
     PutSnapshot(Known, u64),
     PutTargets(Known, Signed<Targets>),
@@ -93,6 +92,8 @@ pub(crate) enum Pending {
 #[derive(Drop)]
 pub(crate) enum Stage {
     Moment,
+    /// The walk is at the root that was handed in.
+    ReadRoot(Walk),
     Fetch(Wanted, Request),
     Step(Pending),
     Done(Result<Loaded, UpdateError>),
@@ -135,7 +136,6 @@ impl Pending {
             Pending::NoteTime(now) => Act::NoteTime(*now),
             Pending::PutRoot(walk) => Act::PutRoot(walk.last()),
             Pending::PutLast(walk) => Act::PutRoot(walk.last()),
-            Pending::Clear(_) => Act::ClearRotated,
             Pending::PutTimestamp(base, timestamp) => Act::AdvanceTimestamp {
                 root: &base.root.signed,
                 new: timestamp,

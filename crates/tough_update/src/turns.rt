@@ -12,8 +12,9 @@ ghost use Rattle.tough_roles.specs.Timestamp.{metafile_in};
 ghost use Rattle.tough_checks.specs.Files.{snapshot_file, targets_file};
 ghost use Rattle.tough_trust.specs.Failure.{Gives};
 ghost use Rattle.tough_trust.specs.Faults.{ends_start, ends_stream};
-ghost use Rattle.tough_trust.specs.View.{request_doc, step_doc};
-ghost use Rattle.tough_update.specs.Machine.{walked, began, new_root, walk_ended, new_timestamp, want_snapshot, new_snapshot, want_targets, new_targets, unfetched, read_wanted, after, stage_after};
+ghost use Rattle.tough_trust.specs.View.{request_doc, read_doc, step_doc};
+ghost use Rattle.tough_vault.specs.Looking.{look_doc};
+ghost use Rattle.tough_update.specs.Machine.{walked, began, root_read, new_root, walk_ended, new_timestamp, want_snapshot, new_snapshot, want_targets, new_targets, unfetched, read_wanted, after, stage_after};
 ghost use Rattle.tough_update.specs.Stages.{Step};
 ghost use Rattle.tough_update.specs.Answered as got;
 ghost use Rattle.tough_roles.specs.declared.role_type.RoleType.TheVariants as types;
@@ -23,10 +24,10 @@ use crate::roles::{begin_roles, give_role, take_role};
 use crate::stage::{Base, Known, Pending, Stage, Walk, Wanted};
 use jiff::Timestamp as Instant;
 use std::alloc::Global;
-use tough_roles::{ReadError, RoleType, Signed, Snapshot, Timestamp, Verify};
+use tough_roles::{ReadError, RoleType, Root, Signed, Snapshot, Timestamp, Verify};
 use tough_trust::{
-    Fault, Limits, Request, UpdateError, first_root, holder_of, is_rotated, next_request,
-    next_root, read_targets, snapshot_request, targets_request, timestamp_request,
+    Fault, Limits, Request, UpdateError, first_root, holder_of, next_request, next_root,
+    read_targets, snapshot_request, targets_request, timestamp_request,
 };
 use tough_vault::{Checker, ExpirationEnforcement, Refusal, StepError, check_expiry};
 
@@ -55,27 +56,53 @@ fn go_on(alloc: Global, limits: &Limits, walk: Walk) -> Result<Stage, UpdateErro
     }
 }
 
-/// The walk begins.
+/// The root that was handed in stands.
 fn begin<V: Verify>(
     alloc: Global,
-    limits: &Limits,
     trusted: &[u8],
     start: Instant,
     verifier: &V,
 ) -> Result<Stage, UpdateError>
     ensures { Gives stage_doc
-        (began (V.verifies verifier.now) limits.now trusted.now start.nanosecond) result }
+        (began (V.verifies verifier.now) trusted.now start.nanosecond) result }
 {
-    let first = match first_root(alloc, trusted, verifier) {
-        Ok(first) => first,
-        Err(error) => return Err(error),
-    };
-    let walk = Walk {
-        start,
-        first,
-        later: None,
-    };
-    go_on(alloc, limits, walk)
+    match first_root(alloc, trusted, verifier) {
+        Ok(first) => Ok(Stage::ReadRoot(Walk {
+            start,
+            first,
+            later: None,
+        })),
+        Err(error) => Err(error),
+    }
+}
+
+/// The walk begins, with the stored root where there is one.
+pub(crate) fn take_stored(
+    alloc: Global,
+    limits: &Limits,
+    walk: Walk,
+    stored: Result<Option<Signed<Root>>, StepError>,
+) -> Result<Stage, UpdateError>
+    ensures { Gives stage_doc
+        (root_read limits.now (walk_doc walk) (read_doc (look_doc stored))) result }
+{
+    match stored {
+        Ok(None) => go_on(alloc, limits, walk),
+        Ok(Some(first)) => {
+            let start = walk.start;
+            drop(walk);
+            let walk = Walk {
+                start,
+                first,
+                later: None,
+            };
+            go_on(alloc, limits, walk)
+        }
+        Err(error) => {
+            drop(walk);
+            Err(UpdateError::from(error))
+        }
+    }
 }
 
 fn take_root<V: Verify>(
@@ -116,9 +143,6 @@ fn end_walk(
     let last = &walk.last().signed;
     if let Err(refusal) = check_expiry(RoleType::Root, enforcement, walk.start, last.expires) {
         return Err(UpdateError::Step(StepError::Refused(refusal)));
-    }
-    if is_rotated(&walk.first.signed, last) {
-        return Ok(Stage::Step(Pending::Clear(walk.into_base())));
     }
     let request = timestamp_request(alloc, limits)?;
     Ok(Stage::Fetch(Wanted::Timestamp(walk.into_base()), request))
@@ -318,13 +342,9 @@ fn after<V: Verify>(
     let alloc = setting.alloc;
     let limits = &setting.limits;
     match pending {
-        Pending::NoteTime(now) => begin(alloc, limits, setting.trusted, now, verifier),
+        Pending::NoteTime(now) => begin(alloc, setting.trusted, now, verifier),
         Pending::PutRoot(walk) => go_on(alloc, limits, walk),
         Pending::PutLast(walk) => end_walk(alloc, limits, setting.enforcement, walk),
-        Pending::Clear(base) => {
-            let request = timestamp_request(alloc, limits)?;
-            Ok(Stage::Fetch(Wanted::Timestamp(base), request))
-        }
         Pending::PutTimestamp(base, timestamp) => go_to_snapshot(alloc, limits, base, timestamp),
         Pending::PutSnapshot(known, _) => go_to_targets(alloc, limits, known),
         Pending::PutTargets(known, targets) => begin_roles(alloc, limits, known, targets),

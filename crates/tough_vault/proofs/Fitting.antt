@@ -1,11 +1,13 @@
 -- What passed the checks of a step follows the tip, and its file then holds it.
-use Rattle.std.proofs.Common.{◌≡◌, ℕ, ℤ, ◌≤◌, ◌≤ℤ◌, List, [], ◌∷◌, Option, None, Some, Bool, true, false, nat_lt, nat_le, int_lt, is_some, Result, Ok, Err, OnOk, IfErr, refl, sym, ap, ◌∙◌, subst, arith, rules}
+use Rattle.std.proofs.Common.{◌≡◌, ℕ, ℤ, ◌≤◌, ◌≤ℤ◌, List, [], ◌∷◌, ◌++◌, Option, None, Some, Bool, true, false, nat_lt, nat_le, int_lt, is_some, Result, Ok, Err, OnOk, IfErr, refl, sym, ap, ◌∙◌, subst, arith, rules}
 use Rattle.std.proofs.lemmas.Bool.Decides.{nat_tests}
 use Rattle.std.proofs.lemmas.Slice.Eq.{bytes_eq-Decides}
 use Rattle.std.specs.Str.{bytes_eq}
 use Rattle.std.specs.Prelude.{if◌then◌else◌}
 use Rattle.tough_roles.specs.Signature.{SignedDoc, signed_json}
-use Rattle.tough_roles.specs.Root.{RootDoc, AreOwn, root_json}
+use Rattle.tough_roles.specs.Root.{RootDoc, root_json}
+use Rattle.tough_roles.specs.Chain.{ReachesUnder}
+use Rattle.tough_roles.proofs.lemmas.Reached.{ok-reaches}
 use Rattle.tough_roles.specs.Timestamp.{TimestampDoc, timestamp_json}
 use Rattle.tough_roles.specs.Snapshot.{SnapshotDoc, snapshot_json}
 use Rattle.tough_keys.specs.Same.{Verifies}
@@ -16,13 +18,15 @@ use Rattle.tough_checks.specs.declared.checks.StepError.{StepError}
 use Rattle.tough_vault.specs.Stored.{Files}
 use Rattle.tough_checks.specs.Files.{IsFree}
 use Rattle.tough_checks.specs.Versions.{Pair, Item, Roles, version_in}
-use Rattle.tough_vault.specs.Journal.{PairAtMost, KeepsNames, RolesAtMost, has_at_least}
-use Rattle.tough_checks.specs.Checks.{Reason, SnapshotRoleRollback, fallen_at, fallen, items_in, snapshot_older, snapshot_against, snapshot_tip, snapshot_after, SystemTimeSteppedBackward, later, time_after, OlderMetadata, OlderSnapshotInTimestamp, refuse, or_else, first_of, snapshot_version, expiry, timestamp_older, timestamp_below, timestamp_against, timestamp_tip, timestamp_after, versions_in, roles_in}
-use Rattle.tough_checks.specs.Documents.{root_text, root_in, timestamp_text, timestamp_in, snapshot_text, snapshot_in, ReadsBack}
+use Rattle.tough_vault.specs.Checking.{verdict_of}
+use Rattle.tough_vault.specs.Journal.{Root as RootNote, applied, PairAtMost, KeepsNames, RolesAtMost, has_at_least}
+use Rattle.tough_checks.specs.Checks.{Reason, SnapshotRoleRollback, fallen_at, fallen, items_in, snapshot_older, snapshot_against, snapshot_tip, snapshot_after, verified, root_against, root_tip, root_after, SystemTimeSteppedBackward, later, time_after, OlderMetadata, OlderSnapshotInTimestamp, refuse, or_else, first_of, snapshot_version, expiry, timestamp_older, timestamp_below, timestamp_against, timestamp_tip, timestamp_after, versions_in, roles_in}
+use Rattle.tough_checks.specs.Documents.{root_text, root_verdict, timestamp_text, timestamp_in, snapshot_text, snapshot_in, ReadsBack}
 use Rattle.tough_vault.specs.Step.{Step, Parts, Passes, Takes}
-use Rattle.tough_checks.specs.StoredDocuments.{stored_snapshot, stored_time, stored_timestamp}
+use Rattle.tough_checks.specs.StoredDocuments.{stored_root, stored_snapshot, stored_time, stored_timestamp}
 use Rattle.tough_vault.specs.Steps.{snapshot_step, time_text, needs, time_step, root_step, timestamp_step, document_step}
-use Rattle.tough_vault.specs.Parts.{NamesFree, Prepares, Concludes}
+use Rattle.tough_checks.specs.Rotation.{rotates}
+use Rattle.tough_vault.specs.Parts.{Holds, NamesFree, RootReadsBack, Prepares, Concludes}
 use Rattle.tough_vault.proofs.Holding.{holds_noted, holds_root, holds_timestamp, holds_snapshot, holds_document}
 use Rattle.tough_vault.proofs.Journals.{some_inj}
 use Rattle.tough_vault.proofs.Taking.{takes}
@@ -94,6 +98,17 @@ snapshot_follows old tip s start enforced q h e =
       fallen_keeps q.items (items_in s.meta) q.version s.head.version d.0,
     )
 
+pub root_follows : (old : Option (SignedDoc RootDoc)) (tip : Option ℕ) (root : RootDoc) (needed : Option Reason) (v : ℕ) → or_else (root_after old tip root) needed ≡ None → tip ≡ Some v → v ≤ root.head.version
+root_follows old tip root needed v h e =
+    let a = or_else_none (root_after old tip root) needed h in
+    let b = or_else_none (root_against old root) (first_of (root_tip tip root ∷ [])) a.0 in
+    let c = or_else_none (root_tip tip root) None b.1 in
+    not_lt root.head.version v (refuse_none (nat_lt root.head.version v) (OlderMetadata role.Root v root.head.version) (ap (λ o. root_tip o root) (sym e) ∙ c.0))
+
+-- a root that verified itself
+pub own_root : (verifies : Verifies) (root : SignedDoc RootDoc) → verified role.Root (root_verdict verifies root.role root) ≡ None → (v : Verifies) × ReachesUnder v root.role role.Root root_json root
+own_root verifies root h = (verifies, ok-reaches verifies root.role role.Root root_json root (Ok (tt {0})) (verdict_of role.Root (root_verdict verifies root.role root) h))
+
 module _ {S : Type 0} (tells : Bool) (files : S → Files) (count : S → ℕ) (old : Parts S) (free : NamesFree old.notes) (now : Files) where
   pub fits_timestamp : (verifies : Verifies) (root : RootDoc) (new : SignedDoc TimestampDoc) (start : ℤ) (enforced : Bool) → ReadsBack timestamp_in (signed_json timestamp_json new) new (timestamp_text new) → (found : Option (List ℕ))
       → Passes tells files count (timestamp_step verifies root old.tip new start enforced) old.store found → Fits tells files count (timestamp_step verifies root old.tip new start enforced) old now found
@@ -120,12 +135,18 @@ module _ {S : Type 0} (tells : Bool) (files : S → Files) (count : S → ℕ) (
         holds = λ h same is there. holds_noted (files old.store) now old.notes old.tip h free t same is there back;
       }
 
-  pub fits_root : (root : SignedDoc RootDoc) → (AreOwn root.role.keys → ReadsBack root_in (signed_json root_json root) root (root_text root)) → (found : Option (List ℕ)) → Passes tells files count (root_step root) old.store found → Fits tells files count (root_step root) old now found
-  fits_root root back found p = record {
-    follows = tt;
-    free = λ name x. absurd (cc (x));
-    holds = λ h same is there. holds_root (files old.store) now old.notes old.tip h free root same is there back;
-  }
+  -- a root that passed its checks verified itself, and follows the tip
+  pub fits_root : (verifies : Verifies) (root : SignedDoc RootDoc) → RootReadsBack root → (found : Option (List ℕ)) → rotates (stored_root verifies found) root.role ≡ false
+      → Passes tells files count (root_step verifies old.tip root) old.store found → Fits tells files count (root_step verifies old.tip root) old now found
+  fits_root verifies root back found kept p =
+      let note = RootNote root.role.head.version in
+      record {
+        follows = λ v e. root_follows (stored_root verifies found) old.tip.root root.role (first_of (needs (root_text root) ∷ [])) v p.after e;
+        free = λ name x. absurd (cc (x));
+        holds = λ h same is there.
+            subst (λ (b : Bool). Holds now (old.notes ++ note b ∷ []) (applied old.tip (note b))) (sym kept)
+            (holds_root (files old.store) now old.notes old.tip h free root same is there (own_root verifies root p.before) back);
+      }
 
   pub fits_document : (name : List ℕ) (text : Option (List ℕ)) → IsFree name → (found : Option (List ℕ))
       → Passes tells files count (document_step name text) old.store found → Fits tells files count (document_step name text) old now found
@@ -142,7 +163,7 @@ module _ {S : Type 0} (tells : Bool) (files : S → Files) (count : S → ℕ) w
       → Prepares tells files count step old.store mid prepared → Concludes tells files count step.file prepared (record { store = mid; notes = old.notes; tip = old.tip }) new result
       → ((p : Prepared) → prepared ≡ Ok p → (found : Option (List ℕ)) → Passes tells files count step old.store found → Fits tells files count step old (files new.store) found)
       → Sound tells files count new
-  after_step step old new mid (Ok q) (Ok r) s p c f = kept tells files count step old new r s (f q refl) (takes tells files count step old new mid (Ok q) (Ok r) p c)
+  after_step step old new mid (Ok q) (Ok r) s p c f = kept tells files count step old new r s (λ found d. f q refl found d.passes) (takes tells files count step old new mid (Ok q) (Ok r) p c)
   after_step step old new mid (Ok q) (Err e) s p c f = kept_refused tells files count step old new e s (takes tells files count step old new mid (Ok q) (Err e) p c)
   after_step step old new mid (Err e) result s p c f =
       kept_refused tells files count step old new e s (subst (λ (r : Result Receipt StepError). Takes tells files count step old new r) c.refused.0 (takes tells files count step old new mid (Err e) result p c))

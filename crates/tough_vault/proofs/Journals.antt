@@ -1,7 +1,7 @@
 -- The journal one entry longer.
-use Rattle.std.proofs.Common.{◌≡◌, ◌⊎◌, ℕ, suc, zero, List, [], ◌∷◌, ◌++◌, Option, Some, true, false, slice_get, refl, inl, inr}
+use Rattle.std.proofs.Common.{◌≡◌, ◌⊎◌, ℕ, suc, zero, List, [], ◌∷◌, ◌++◌, Some, true, false, slice_get, refl, inl, inr}
 use Rattle.tough_checks.specs.Files.{IsFree}
-use Rattle.tough_vault.specs.Journal.{Note, Noted, Root, Timestamp, Snapshot, Cleared, Document, Broken, Last, applied, replay, Follows, Rises, has_broken, last_root}
+use Rattle.tough_vault.specs.Journal.{Note, Noted, Root, Timestamp, Snapshot, Cleared, Document, Broken, Last, applied, replay, Follows, Rises, has_broken}
 use Rattle.tough_vault.specs.Parts.{NamesFree}
 
 pub some_inj : {A : Type 0} (x y : A) → Some x ≡ Some y → x ≡ y
@@ -18,7 +18,7 @@ rises-append tip (x ∷ ns) n h f = (h.0, rises-append (applied tip x) ns n h.1 
 pub broken-append : (ns : List Note) → has_broken (ns ++ Broken ∷ []) ≡ true
 broken-append [] = refl
 broken-append (Noted t ∷ ns) = broken-append ns
-broken-append (Root v ∷ ns) = broken-append ns
+broken-append (Root v c ∷ ns) = broken-append ns
 broken-append (Timestamp p o ∷ ns) = broken-append ns
 broken-append (Snapshot r o ∷ ns) = broken-append ns
 broken-append (Cleared ∷ ns) = broken-append ns
@@ -28,22 +28,12 @@ broken-append (Broken ∷ ns) = refl
 pub unbroken-before : (ns : List Note) (n : Note) → has_broken (ns ++ n ∷ []) ≡ false → has_broken ns ≡ false
 unbroken-before [] n h = refl
 unbroken-before (Noted t ∷ ns) n h = unbroken-before ns n h
-unbroken-before (Root v ∷ ns) n h = unbroken-before ns n h
+unbroken-before (Root v c ∷ ns) n h = unbroken-before ns n h
 unbroken-before (Timestamp p o ∷ ns) n h = unbroken-before ns n h
 unbroken-before (Snapshot r o ∷ ns) n h = unbroken-before ns n h
 unbroken-before (Cleared ∷ ns) n h = unbroken-before ns n h
 unbroken-before (Document d ∷ ns) n h = unbroken-before ns n h
 unbroken-before (Broken ∷ ns) n h = h
-
-pub last_root-append : (v : Option ℕ) (ns : List Note) (n : Note) → last_root v (ns ++ n ∷ []) ≡ last_root (last_root v ns) (n ∷ [])
-last_root-append v [] n = refl
-last_root-append v (Noted t ∷ ns) n = last_root-append v ns n
-last_root-append v (Root w ∷ ns) n = last_root-append (Some w) ns n
-last_root-append v (Timestamp p o ∷ ns) n = last_root-append v ns n
-last_root-append v (Snapshot r o ∷ ns) n = last_root-append v ns n
-last_root-append v (Cleared ∷ ns) n = last_root-append v ns n
-last_root-append v (Document d ∷ ns) n = last_root-append v ns n
-last_root-append v (Broken ∷ ns) n = last_root-append v ns n
 
 pub get_append : (ns : List Note) (n : Note) (k : ℕ) (m : Note) → slice_get (ns ++ n ∷ []) k ≡ Some m → (slice_get ns k ≡ Some m) ⊎ (n ≡ m)
 get_append [] n zero m h = inr (some_inj n m h)

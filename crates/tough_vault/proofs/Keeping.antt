@@ -1,5 +1,5 @@
 -- What a vault keeps through a step.
-use Rattle.std.proofs.Common.{◌≡◌, ◌≢◌, None, ℕ, List, [], ◌∷◌, ◌++◌, Option, Result, Ok, Err, Bool, true, false, sym, ap, ◌∙◌, subst, inl, inr}
+use Rattle.std.proofs.Common.{◌≡◌, ◌≢◌, None, ℕ, List, [], ◌∷◌, ◌++◌, Option, Result, Ok, Err, Bool, true, false, refl, sym, ap, ◌∙◌, subst, inl, inr}
 use Rattle.std.proofs.Math.Logic.{∥∥₁_map}
 use Rattle.tough_vault.specs.Stored.{Files, SameElsewhere}
 use Rattle.tough_vault.specs.declared.store.StoreError.{StoreError}
@@ -8,7 +8,7 @@ use Rattle.tough_checks.specs.declared.checks.StepError.{StepError}
 use Rattle.tough_checks.specs.declared.checks.StepError.TheVariants.{Refused, DatastoreOpen, DatastoreCreate, DatastoreRemove, Memory}
 use Rattle.tough_vault.specs.Journal.{Note, Cleared, Broken, Last, no_tip, applied, replay, Follows, Rises, has_broken}
 use Rattle.tough_checks.specs.Files.{timestamp_file, snapshot_file}
-use Rattle.tough_vault.specs.Step.{Step, Parts, IsNoted, Passes, Takes, EndsRemoval, Clears}
+use Rattle.tough_vault.specs.Step.{Step, Parts, IsNoted, Does, Takes, RemovesBoth, EndsRemoval, Clears}
 use Rattle.tough_vault.specs.Parts.{Holds, NamesFree}
 use Rattle.tough_vault.proofs.Journals.{replay-append, rises-append, broken-append, unbroken-before, free-append, FreeNote}
 use Rattle.tough_vault.proofs.Holding.{holds_same, holds_cleared}
@@ -45,7 +45,7 @@ module _ {S : Type 0} (tells : Bool) (files : S → Files) (count : S → ℕ) w
   broke : (old new : Parts S) → Sound old → IsNoted Broken old new → Sound new
   broke old new s n = noted Broken old new s n tt (λ name x. absurd (cc (x))) (λ t b. absurd (cc (b, broken-append old.notes)))
 
-  unchanged : (old new : Parts S) → Sound old → new.notes ≡ old.notes → new.tip ≡ old.tip → (tells ≡ true → (name : List ℕ) → files new.store name ≡ files old.store name) → Sound new
+  pub unchanged : (old new : Parts S) → Sound old → new.notes ≡ old.notes → new.tip ≡ old.tip → (tells ≡ true → (name : List ℕ) → files new.store name ≡ files old.store name) → Sound new
   unchanged old new s n t f = record {
     replays = ap (replay no_tip) n ∙ (s.replays ∙ sym t);
     rises = subst (λ (ns : List Note). Rises no_tip ns) (sym n) s.rises;
@@ -57,11 +57,11 @@ module _ {S : Type 0} (tells : Bool) (files : S → Files) (count : S → ℕ) w
   }
 
   pub kept : (step : Step) (old new : Parts S) (r : Receipt) → Sound old
-      → ((found : Option (List ℕ)) → Passes tells files count step old.store found → Fits step old (files new.store) found)
+      → ((found : Option (List ℕ)) → Does tells files count step old new r found → Fits step old (files new.store) found)
       → Takes tells files count step old new (Ok r) → Sound new
   kept step old new r s f t =
       let found = t.done.0 in
-      let fits = f found t.done.1.passes in
+      let fits = f found t.done.1 in
       noted (step.entry found) old new s t.done.1.noted fits.follows fits.free
       (λ told b. ∥∥₁_map (s.holds told (unbroken-before old.notes (step.entry found) b)) (λ h. fits.holds h (t.elsewhere told) (t.stored.1 told) t.stored.0))
 
@@ -72,20 +72,29 @@ module _ {S : Type 0} (tells : Bool) (files : S → Files) (count : S → ℕ) w
   kept_refused step old new (DatastoreRemove path) s t = let e = t.same (λ x. x) in unchanged old new s e.0 e.1 e.2
   kept_refused step old new Memory s t = let e = t.same (λ x. x) in unchanged old new s e.0 e.1 e.2
 
-  -- a removal of both files, however it ended
-  ended : (old new : Parts S) (first second : Result Unit StoreError) (result : Result Receipt StepError) → Sound old
-      → (tells ≡ true → (name : List ℕ) → name ≢ timestamp_file → name ≢ snapshot_file → files new.store name ≡ files old.store name)
-      → EndsRemoval tells files count first second old new result → Sound new
-  ended old new (Ok u) (Ok v) (Ok r) s same e =
-      noted Cleared old new s e.0 tt (λ name x. absurd (cc (x)))
-      (λ told b. ∥∥₁_map (s.holds told (unbroken-before old.notes Cleared b)) (λ h. holds_cleared (files old.store) (files new.store) old.notes old.tip h s.free (same told)))
-  ended old new (Err fault) second (Err x) s same e = broke old new s e.0
-  ended old new (Ok u) (Err fault) (Err x) s same e = broke old new s e.0
-  ended old new (Ok u) (Ok v) (Err x) s same e = absurd e
-  ended old new (Err fault) second (Ok r) s same e = absurd e
-  ended old new (Ok u) (Err fault) (Ok r) s same e = absurd e
+  as_before : (note : Note) (old before new : Parts S) → before.notes ≡ old.notes → before.tip ≡ old.tip → IsNoted note before new → IsNoted note old new
+  as_before note old before new n t i = record { notes = i.notes ∙ ap (λ ns. ns ++ note ∷ []) n; tip = i.tip ∙ ap (λ l. applied l note) t }
+
+  -- a removal of both files, however it ended; its store may have changed before
+  pub ended : (note : Note) (old before new : Parts S) (first second : Result Unit StoreError) (result : Result Receipt StepError) → before.notes ≡ old.notes → before.tip ≡ old.tip
+      → Sound old → Follows old.tip note → FreeNote note
+      → (tells ≡ true → AllHold (files old.store) old.notes old.tip → AllHold (files new.store) (old.notes ++ note ∷ []) (applied old.tip note))
+      → EndsRemoval tells files count note first second before new result → Sound new
+  ended note old before new (Ok u) (Ok v) (Ok r) n t s f free holds e =
+      noted note old new s (as_before note old before new n t e.0) f free (λ told b. ∥∥₁_map (s.holds told (unbroken-before old.notes note b)) (holds told))
+  ended note old before new (Err fault) second (Err x) n t s f free holds e = broke old new s (as_before Broken old before new n t e.0)
+  ended note old before new (Ok u) (Err fault) (Err x) n t s f free holds e = broke old new s (as_before Broken old before new n t e.0)
+  ended note old before new (Ok u) (Ok v) (Err x) n t s f free holds e = absurd e
+  ended note old before new (Err fault) second (Ok r) n t s f free holds e = absurd e
+  ended note old before new (Ok u) (Err fault) (Ok r) n t s f free holds e = absurd e
+
+  -- after both removals no other file has changed
+  pub apart : {first second : Result Unit StoreError} (old new : S) → RemovesBoth tells files count old new first second
+      → tells ≡ true → (name : List ℕ) → name ≢ timestamp_file → name ≢ snapshot_file → files new name ≡ files old name
+  apart old new r told name a b = r.snapshot.elsewhere told name b ∙ r.timestamp.elsewhere told name a
 
   pub kept_cleared : (old new : Parts S) (result : Result Receipt StepError) → Sound old → Clears tells files count old new result → Sound new
   kept_cleared old new result s (inl untried) = subst (λ (p : Parts S). Sound p) (sym untried.1) s
   kept_cleared old new result s (inr t) =
-      ended old new t.first t.second result s (λ told name a b. t.removes.snapshot.elsewhere told name b ∙ t.removes.timestamp.elsewhere told name a) t.ends
+      ended Cleared old old new t.first t.second result refl refl s tt (λ name x. absurd (cc (x)))
+      (λ told h. holds_cleared (files old.store) (files new.store) old.notes old.tip h s.free (apart old.store new.store t.removes told)) t.ends

@@ -9,7 +9,10 @@ use Rattle.tough_roles.specs.declared.timestamp.Timestamp.{Timestamp as Timestam
 use Rattle.tough_roles.specs.Timestamp.{TimestampDoc}
 use Rattle.tough_roles.specs.declared.snapshot.Snapshot.{Snapshot as SnapshotFile}
 use Rattle.tough_roles.specs.Snapshot.{SnapshotDoc}
-use Rattle.tough_vault.specs.Journal.{Timestamp}
+use Rattle.tough_vault.specs.Journal.{Root, Timestamp}
+use Rattle.tough_roles.specs.Root.{RootDoc}
+use Rattle.tough_roles.specs.Signature.{SignedDoc}
+use Rattle.tough_checks.specs.Rotation.{rotates}
 use Rattle.tough_vault.specs.Steps.{needs}
 use Rattle.tough_vault.specs.Step.{Step, Finds}
 use Rattle.tough_vault.specs.Parts.{Carries, Prepares}
@@ -59,6 +62,9 @@ pub same_pair : (u v s w : ℕ) (a b : Bool) → u ≡ v → s ≡ w → a ≡ b
 same_pair u v s w a b o p q =
     ap (λ x. Timestamp (record { version = x; snapshot = s }) a) o
     ∙ (ap (λ x. Timestamp (record { version = v; snapshot = x }) a) p ∙ ap (λ x. Timestamp (record { version = v; snapshot = w }) x) q)
+
+pub same_root : (u v : ℕ) (o p : Option (SignedDoc RootDoc)) (new : RootDoc) {b : Bool} → u ≡ v → b ≡ rotates o new → o ≡ p → Root u b ≡ Root v (rotates p new)
+same_root u v o p new {b} n h e = ap (λ x. Root x b) n ∙ ap (Root v) (h ∙ ap (λ x. rotates x new) e)
 
 pub or_second : (a b : Option Reason) (r : Reason) → a ≡ None → b ≡ Some r → or_else a b ≡ Some r
 or_second a b r p q = ap (λ x. or_else x b) p ∙ q

@@ -1,5 +1,5 @@
 -- The journal of a vault, and its tip.
-use Rattle.std.specs.Prelude.{◌≡◌, ℕ, ℤ, ◌≤◌, ◌≤ℤ◌, List, [], ◌∷◌, ◌++◌, map, Option, None, Some, Bool, true, false, nat_le, string_bytes}
+use Rattle.std.specs.Prelude.{◌≡◌, ℕ, ℤ, ◌≤◌, ◌≤ℤ◌, List, [], ◌∷◌, ◌++◌, map, Option, None, Some, Bool, true, false, ◌||◌, nat_le, string_bytes}
 use Rattle.tough_checks.specs.Versions.{Pair, Roles, Item, time_where, pair_of, pair_where, roles_of, roles_where, version_in}
 use Rattle.tough_vault.specs.declared.entry.Tip.{Tip}
 use Rattle.tough_vault.specs.declared.entry.Receipt.{Receipt}
@@ -9,7 +9,8 @@ use Rattle.tough_vault.specs.declared.entry.Entry.TheVariants as entry
 -- an entry of the journal; an instant is in nanoseconds since 1970
 pub data Note : Type 0 where
   Noted : ℤ → Note
-  Root : ℕ → Note
+  -- the version, and whether timestamp and snapshot were cleared
+  Root : ℕ → Bool → Note
   Timestamp : Pair → Bool → Note
   Snapshot : Roles → Bool → Note
   Cleared : Note
@@ -19,12 +20,13 @@ pub data Note : Type 0 where
 -- what was accepted last
 pub record Last : Type 0 where
   pub time : Option ℤ
+  pub root : Option ℕ
   pub timestamp : Option Pair
   pub snapshot : Option Roles
 
 abbrev pub note_of : Entry → Note
 note_of (entry.Noted t) = Noted t.nanosecond
-note_of (entry.Root v) = Root v
+note_of (entry.Root v cleared) = Root v cleared
 note_of (entry.Timestamp p had) = Timestamp (pair_of p) had
 note_of (entry.Snapshot v had) = Snapshot (roles_of v) had
 note_of entry.Cleared = Cleared
@@ -35,7 +37,7 @@ abbrev pub notes_of : List Entry → List Note
 notes_of es = map note_of es
 
 abbrev pub tip_of : Tip → Last
-tip_of t = record { time = time_where t.time; timestamp = pair_where t.timestamp; snapshot = roles_where t.snapshot }
+tip_of t = record { time = time_where t.time; root = t.root; timestamp = pair_where t.timestamp; snapshot = roles_where t.snapshot }
 
 -- the number of a receipt's entry in the journal, and its copy of the entry
 abbrev pub number_of : Receipt → ℕ
@@ -45,12 +47,17 @@ abbrev pub entry_of : Receipt → Entry
 entry_of r = r.entry
 
 abbrev pub no_tip : Last
-no_tip = record { time = None; timestamp = None; snapshot = None }
+no_tip = record { time = None; root = None; timestamp = None; snapshot = None }
+
+-- what is left of a part of the tip
+abbrev pub unless_cleared : {A : Type 0} → Bool → Option A → Option A
+unless_cleared true part = None
+unless_cleared false part = part
 
 -- the tip after an entry
 abbrev pub applied : Last → Note → Last
 applied tip (Noted t) = record tip { time = Some t }
-applied tip (Root v) = tip
+applied tip (Root v cleared) = record { time = tip.time; root = Some v; timestamp = unless_cleared cleared tip.timestamp; snapshot = unless_cleared cleared tip.snapshot }
 applied tip (Timestamp p had) = record tip { timestamp = Some p }
 applied tip (Snapshot r had) = record tip { snapshot = Some r }
 applied tip Cleared = record tip { timestamp = None; snapshot = None }
@@ -80,6 +87,7 @@ RolesAtMost r s = (r.version ≤ s.version) × KeepsNames r.items s.items
 -- the entry isn't below what the tip has
 abbrev pub Follows : Last → Note → Type 0
 Follows tip (Noted t) = (u : ℤ) → tip.time ≡ Some u → u ≤ℤ t
+Follows tip (Root v cleared) = (w : ℕ) → tip.root ≡ Some w → w ≤ v
 Follows tip (Timestamp p had) = (q : Pair) → tip.timestamp ≡ Some q → PairAtMost q p
 Follows tip (Snapshot r had) = (s : Roles) → tip.snapshot ≡ Some s → RolesAtMost s r
 Follows tip _ = Unit {0}
@@ -102,6 +110,7 @@ has_broken (n ∷ ns) = has_broken ns
 abbrev pub has_cleared : List Note → Bool
 has_cleared [] = false
 has_cleared (Cleared ∷ ns) = true
+has_cleared (Root v cleared ∷ ns) = cleared || has_cleared ns
 has_cleared (n ∷ ns) = has_cleared ns
 
 -- Of two accepted documents with no clearing between them the later isn't below the earlier, and noted times don't fall.
@@ -113,8 +122,7 @@ pub record NothingGoesBack (notes : List Note) : Type 0 where
   pub times : (xs ys zs : List Note) (t u : ℤ)
       → notes ≡ xs ++ Noted t ∷ (ys ++ Noted u ∷ zs) → t ≤ℤ u
 
--- the version of the last root
-abbrev pub last_root : Option ℕ → List Note → Option ℕ
-last_root v [] = v
-last_root v (Root w ∷ ns) = last_root (Some w) ns
-last_root v (n ∷ ns) = last_root v ns
+-- Of two accepted roots the later isn't older.
+pub record RootsRise (notes : List Note) : Type 0 where
+  pub roots : (xs ys zs : List Note) (v w : ℕ) (a b : Bool)
+      → notes ≡ xs ++ Root v a ∷ (ys ++ Root w b ∷ zs) → v ≤ w

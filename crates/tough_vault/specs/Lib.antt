@@ -3,7 +3,10 @@ pub mod Memory
 pub mod Journal
 pub mod Step
 pub mod Steps
+pub mod Puts
 pub mod Parts
+pub mod Looking
+pub mod Rotated
 pub mod Props
 pub mod Vault
 pub mod Act

@@ -1,6 +1,9 @@
 -- What a vault holds, and the parts of a step's work.
 use Rattle.std.specs.Prelude.{◌≡◌, ◌≢◌, ℕ, ℤ, List, length, Option, None, Some, Result, Err, Bool, true, IfOk, IfErr, OnOk, IsErrOf, slice_get, string_bytes}
+use Rattle.tough_keys.specs.Same.{Verifies}
+use Rattle.tough_roles.specs.Chain.{ReachesUnder}
 use Rattle.tough_roles.specs.Signature.{SignedDoc, signed_json}
+use Rattle.tough_roles.specs.declared.role_type.RoleType.TheVariants as role
 use Rattle.tough_roles.specs.Root.{RootDoc, AreOwn, root_json}
 use Rattle.tough_roles.specs.Timestamp.{TimestampDoc, timestamp_json}
 use Rattle.tough_roles.specs.Snapshot.{SnapshotDoc, snapshot_json}
@@ -14,7 +17,7 @@ use Rattle.tough_checks.specs.declared.checks.StepError.TheVariants.{DatastoreOp
 use Rattle.tough_checks.specs.Files.{time_file, root_file, timestamp_file, snapshot_file, IsFree}
 use Rattle.tough_checks.specs.Documents.{root_text, root_in, timestamp_text, timestamp_in, snapshot_text, snapshot_in, ReadsBack}
 use Rattle.tough_checks.specs.Versions.{Pair, Roles}
-use Rattle.tough_vault.specs.Journal.{Note, Document, Broken, Last, note_of, notes_of, tip_of, last_root}
+use Rattle.tough_vault.specs.Journal.{Note, Document, Broken, Last, note_of, notes_of, tip_of}
 use Rattle.tough_vault.specs.Step.{Step, Parts, IsNoted, IsReceipt, IsUnwritten, Passes, Why}
 use Rattle.tough_checks.specs.StoredDocuments.{stored_time}
 use Rattle.tough_checks.specs.Checks.{versions_in, roles_in}
@@ -43,9 +46,15 @@ TimestampReadsBack d = ReadsBack timestamp_in (signed_json timestamp_json d) d (
 abbrev pub SnapshotReadsBack : SignedDoc SnapshotDoc → Type 0
 SnapshotReadsBack d = ReadsBack snapshot_in (signed_json snapshot_json d) d (snapshot_text d)
 
--- the file is the text of a signed root of this version, which is read as it where its keys stand under their own identifiers
+-- the same of a root whose keys stand under their own identifiers
+abbrev pub RootReadsBack : SignedDoc RootDoc → Type 0
+RootReadsBack d = AreOwn d.role.keys → ReadsBack root_in (signed_json root_json d) d (root_text d)
+
+-- the file is the text of a signed root of this version that verified itself, and is read as it where its keys stand under their own identifiers
 abbrev pub HoldsRoot : ℕ → Option (List ℕ) → Type 0
-HoldsRoot v file = (d : SignedDoc RootDoc) × (file ≡ root_text d) × (file ≢ None) × (d.role.head.version ≡ v) × (AreOwn d.role.keys → ReadsBack root_in (signed_json root_json d) d file)
+HoldsRoot v file = (d : SignedDoc RootDoc) × (file ≡ root_text d) × (file ≢ None) × (d.role.head.version ≡ v)
+    × ((verifies : Verifies) × ReachesUnder verifies d.role role.Root root_json d)
+    × (AreOwn d.role.keys → ReadsBack root_in (signed_json root_json d) d file)
 
 -- What the files of a vault hold, for each part of the tip and each entry that speaks of one.
 pub record Holds (files : Files) (notes : List Note) (tip : Last) : Type 0 where
@@ -55,8 +64,8 @@ pub record Holds (files : Files) (notes : List Note) (tip : Last) : Type 0 where
   pub timestamp : (p : Pair) → tip.timestamp ≡ Some p → HoldsTimestamp p (files timestamp_file)
   -- `snapshot.json` is the text of a signed snapshot with the tip's versions
   pub snapshot : (r : Roles) → tip.snapshot ≡ Some r → HoldsSnapshot r (files snapshot_file)
-  -- `root.json` is the text of a signed root of the last Root entry's version
-  pub root : (v : ℕ) → last_root None notes ≡ Some v → HoldsRoot v (files root_file)
+  -- `root.json` is the text of a signed root of the tip's version
+  pub root : (v : ℕ) → tip.root ≡ Some v → HoldsRoot v (files root_file)
   -- each Document entry's file is there
   pub documents : (k : ℕ) (name : List ℕ) → slice_get notes k ≡ Some (Document name) → files name ≢ None
 

@@ -5,7 +5,7 @@ use Rattle.tough_vault.specs.Journal.{Note, Noted, Root, Timestamp, Snapshot, Cl
 
 pub Follows-prop : (tip : Last) (n : Note) → IsProp (Follows tip n)
 Follows-prop tip (Noted t) = hlevel props
-Follows-prop tip (Root v) = hlevel props
+Follows-prop tip (Root v c) = hlevel props
 Follows-prop tip (Timestamp p had) = hlevel props
 Follows-prop tip (Snapshot r had) = hlevel props
 Follows-prop tip Cleared = hlevel props

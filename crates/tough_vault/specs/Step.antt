@@ -106,24 +106,24 @@ module _ {S : Type 0} (tells : Bool) (files : S → Files) (count : S → ℕ) w
     pub timestamp : Removes timestamp_file old between first
     pub snapshot : Removes snapshot_file between new second
 
-  -- How the step ends: where both removals succeeded, Cleared is noted, and the receipt tells it; else Broken is noted,
+  -- How the step ends: where both removals succeeded, the entry is noted, and the receipt tells it; else Broken is noted,
   -- and the answer is the fault of the first that failed.
-  abbrev pub EndsRemoval : Result Unit StoreError → Result Unit StoreError → Parts S → Parts S → Result Receipt StepError → Type 0
-  EndsRemoval (Err fault) second old new (Err e) = IsNoted Broken old new × TellsRemoval timestamp_file fault e
-  EndsRemoval (Ok u) (Err fault) old new (Err e) = IsNoted Broken old new × TellsRemoval snapshot_file fault e
-  EndsRemoval (Ok u) (Ok v) old new (Ok r) = IsNoted Cleared old new × IsReceipt (length old.notes) Cleared r
-  EndsRemoval _ _ old new result = ⊥
+  abbrev pub EndsRemoval : Note → Result Unit StoreError → Result Unit StoreError → Parts S → Parts S → Result Receipt StepError → Type 0
+  EndsRemoval note (Err fault) second old new (Err e) = IsNoted Broken old new × TellsRemoval timestamp_file fault e
+  EndsRemoval note (Ok u) (Err fault) old new (Err e) = IsNoted Broken old new × TellsRemoval snapshot_file fault e
+  EndsRemoval note (Ok u) (Ok v) old new (Ok r) = IsNoted note old new × IsReceipt (length old.notes) note r
+  EndsRemoval note _ _ old new result = ⊥
 
-  -- Both removals were tried, and the step ended by the first that failed.
-  pub record Tried (old new : Parts S) (result : Result Receipt StepError) : Type 0 where
+  -- Both removals were tried, and the step that notes this entry ended by the first that failed.
+  pub record Tried (note : Note) (old new : Parts S) (result : Result Receipt StepError) : Type 0 where
     pub first : Result Unit StoreError
     pub second : Result Unit StoreError
     pub removes : RemovesBoth old.store new.store first second
-    pub ends : EndsRemoval first second old new result
+    pub ends : EndsRemoval note first second old new result
 
   -- The contract of `clear_rotated`: both removals are tried; only want of memory before the first changes nothing.
   abbrev pub Clears : Parts S → Parts S → Result Receipt StepError → Type 0
-  Clears old new result = ((result ≡ Err Memory) × (new ≡ old)) ⊎ Tried old new result
+  Clears old new result = ((result ≡ Err Memory) × (new ≡ old)) ⊎ Tried Cleared old new result
 
 -- a step that did anything has tried to remove two files
 abbrev pub TriesTwo : {S : Type 0} → (S → ℕ) → Parts S → Parts S → Type 0

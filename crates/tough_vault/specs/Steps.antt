@@ -4,15 +4,17 @@ use Rattle.tough_roles.specs.Signature.{SignedDoc}
 use Rattle.tough_roles.specs.Root.{RootDoc}
 use Rattle.tough_roles.specs.Timestamp.{TimestampDoc}
 use Rattle.tough_roles.specs.Snapshot.{SnapshotDoc}
+use Rattle.tough_roles.specs.declared.role_type.RoleType.TheVariants as role
 use Rattle.tough_keys.specs.Same.{Verifies}
 use Rattle.tough_json.specs.Moment.{moment_text}
 use Rattle.serde_json.specs.Data as Data
 use Rattle.serde_json.specs.Written.{compact_text}
 use Rattle.tough_checks.specs.Files.{time_file, root_file, timestamp_file, snapshot_file}
-use Rattle.tough_checks.specs.Documents.{root_text, timestamp_text, timestamp_verdict, snapshot_text, snapshot_verdict}
+use Rattle.tough_checks.specs.Documents.{root_text, root_verdict, timestamp_text, timestamp_verdict, snapshot_text, snapshot_verdict}
 use Rattle.tough_vault.specs.Journal.{Noted, Root as RootNote, Timestamp, Snapshot, Document, Last}
-use Rattle.tough_checks.specs.Checks.{Reason, DatastoreSerialize, first_of, time_after, timestamp_first, timestamp_after, snapshot_first, snapshot_after, versions_in, roles_in}
-use Rattle.tough_checks.specs.StoredDocuments.{stored_time, stored_timestamp, stored_snapshot}
+use Rattle.tough_checks.specs.Checks.{Reason, DatastoreSerialize, first_of, verified, time_after, root_after, timestamp_first, timestamp_after, snapshot_first, snapshot_after, versions_in, roles_in}
+use Rattle.tough_checks.specs.Rotation.{rotates}
+use Rattle.tough_checks.specs.StoredDocuments.{stored_time, stored_root, stored_timestamp, stored_snapshot}
 use Rattle.tough_vault.specs.Step.{Step}
 
 -- the text of an instant in a store: one JSON text
@@ -35,15 +37,15 @@ time_step tip now = record {
   entry = λ found. Noted now;
 }
 
--- Stores a root.
-abbrev pub root_step : SignedDoc RootDoc → Step
-root_step root = record {
+-- Accepts a root (TUF specification 5.3). Where the stored root has other lists of keys, timestamp and snapshot are cleared.
+abbrev pub root_step : Verifies → Last → SignedDoc RootDoc → Step
+root_step verifies tip root = record {
   file = root_file;
-  reads = false;
-  before = needs (root_text root);
-  after = λ found. None;
+  reads = true;
+  before = verified role.Root (root_verdict verifies root.role root);
+  after = λ found. first_of (root_after (stored_root verifies found) tip.root root.role ∷ needs (root_text root) ∷ []);
   bytes = root_text root;
-  entry = λ found. RootNote root.role.head.version;
+  entry = λ found. RootNote root.role.head.version (rotates (stored_root verifies found) root.role);
 }
 
 -- Accepts a timestamp (TUF specification 5.4).

@@ -12,8 +12,8 @@ use tough_checks::{SnapshotVersions, TimestampVersions};
 pub enum Entry {
     /// This time was noted.
     Noted(Timestamp),
-    /// A root of this version was stored.
-    Root(u64),
+    /// A root of this version was stored; and whether timestamp and snapshot were removed, since their keys were rotated.
+    Root(u64, bool),
     /// A timestamp was accepted; and whether a stored one was verified, against which it was compared.
     Timestamp(TimestampVersions, bool),
     /// A snapshot was accepted; and whether a stored one was verified, against which it was compared.
@@ -31,6 +31,8 @@ pub enum Entry {
 pub struct Tip {
     /// The latest time that was noted.
     pub time: Option<Timestamp>,
+    /// The root's version.
+    pub root: Option<u64>,
     /// The timestamp.
     pub timestamp: Option<TimestampVersions>,
     /// The snapshot.
@@ -51,7 +53,7 @@ impl Entry {
     {
         Ok(match self {
             Entry::Noted(time) => Entry::Noted(*time),
-            Entry::Root(version) => Entry::Root(*version),
+            Entry::Root(version, cleared) => Entry::Root(*version, *cleared),
             Entry::Timestamp(versions, had_stored) => Entry::Timestamp(*versions, *had_stored),
             Entry::Snapshot(versions, had_stored) => {
                 Entry::Snapshot(versions.copy(alloc)?, *had_stored)
@@ -69,6 +71,7 @@ impl Tip {
     {
         Tip {
             time: None,
+            root: None,
             timestamp: None,
             snapshot: None,
         }
@@ -80,13 +83,20 @@ impl Tip {
     {
         match entry {
             Entry::Noted(time) => self.time = Some(time),
+            Entry::Root(version, cleared) => {
+                self.root = Some(version);
+                if cleared {
+                    self.timestamp = None;
+                    self.snapshot = None;
+                }
+            }
             Entry::Timestamp(versions, _) => self.timestamp = Some(versions),
             Entry::Snapshot(versions, _) => self.snapshot = Some(versions),
             Entry::Cleared => {
                 self.timestamp = None;
                 self.snapshot = None;
             }
-            Entry::Root(_) | Entry::Document(_) | Entry::Broken => {}
+            Entry::Document(_) | Entry::Broken => {}
         }
     }
 }

@@ -9,6 +9,7 @@ pub mod laws;
 mod memory;
 mod parts;
 mod prepare;
+mod root_step;
 mod rotated;
 mod snapshot_step;
 mod store;
@@ -21,6 +22,6 @@ pub use memory::MemoryStore;
 pub use store::{Store, StoreError};
 pub use tough_checks::{
     Checker, DocumentName, ExpirationEnforcement, ListedVersion, Refusal, SnapshotVersions,
-    StepError, TimestampVersions, check_expiry, check_signed, check_version,
+    StepError, TimestampVersions, check_expiry, check_signed, check_version, is_rotated,
 };
 pub use vault::Vault;

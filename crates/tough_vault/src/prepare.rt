@@ -2,7 +2,7 @@
 
 ghost use Rattle.std.specs.Prelude.{◌≡◌, IfOk, IfErr, OnOk, Some, true};
 ghost use Rattle.tough_roles.specs.Signature.{signed_doc, signed_json};
-ghost use Rattle.tough_roles.specs.Root.{AreOwn, root_doc, root_json};
+ghost use Rattle.tough_roles.specs.Root.{root_doc};
 ghost use Rattle.tough_roles.specs.Timestamp.{timestamp_doc, timestamp_json};
 ghost use Rattle.tough_checks.specs.StoredDocuments.{content, stored_timestamp, stored_time, time_in};
 ghost use Rattle.tough_vault.specs.Stored.{SameFiles};
@@ -10,9 +10,9 @@ ghost use Rattle.tough_vault.specs.Step.{Finds};
 ghost use Rattle.tough_checks.specs.Versions.{time_where};
 ghost use Rattle.tough_vault.specs.Journal.{tip_of};
 ghost use Rattle.tough_checks.specs.Checks.{timestamp_where, enforces};
-ghost use Rattle.tough_checks.specs.Documents.{role_text, root_text, root_in, timestamp_text, timestamp_in, ReadsBack};
+ghost use Rattle.tough_checks.specs.Documents.{role_text, timestamp_text, timestamp_in, ReadsBack};
 ghost use Rattle.tough_checks.specs.DocumentName.{name_of};
-ghost use Rattle.tough_vault.specs.Steps.{time_step, root_step, timestamp_step, document_step, time_text};
+ghost use Rattle.tough_vault.specs.Steps.{time_step, timestamp_step, document_step, time_text};
 ghost use Rattle.tough_json.specs.Results.{Writes};
 ghost use Rattle.tough_vault.specs.Parts.{Prepares, IsReadFault};
 
@@ -106,29 +106,6 @@ pub(crate) fn prepare_time<S: Store>(
     Ok(Prepared {
         bytes,
         entry: Entry::Noted(now),
-    })
-}
-
-pub(crate) fn prepare_root<S: Store>(
-    alloc: Global,
-    store: &mut S,
-    root: &Signed<Root>,
-) -> Result<Prepared, StepError>
-    ensures step { Prepares S.tells S.files S.count (root_step (signed_doc root_doc root.now))
-        store.old store.new result }
-    ensures back { OnOk result
-        (AreOwn (root_doc root.now.signed).keys
-        → ReadsBack root_in (signed_json root_json (signed_doc root_doc root.now))
-        (signed_doc root_doc root.now) (root_text (signed_doc root_doc root.now))) }
-{
-    let bytes = match root.compact(alloc) {
-        Ok(bytes) => bytes,
-        Err(WriteError::Unwritable) => return Err(StepError::Refused(Refusal::DatastoreSerialize)),
-        Err(WriteError::Memory) => return Err(StepError::Memory),
-    };
-    Ok(Prepared {
-        bytes,
-        entry: Entry::Root(root.signed.version.get()),
     })
 }
 

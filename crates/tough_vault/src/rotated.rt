@@ -1,13 +1,16 @@
 //! Forgetting what rotated keys had signed.
 
-ghost use Rattle.std.specs.Prelude.{◌≡◌, ◌+◌, ◌%◌, ◌^◌, string_bytes};
-ghost use Rattle.tough_vault.specs.Step.{RemovesBoth, Clears, TriesTwo, TellsRemoval};
+ghost use Rattle.std.specs.Prelude.{◌≡◌, ◌<◌, ◌+◌, ◌%◌, ◌^◌, vec_len, vec_capacity, IfOk, string_bytes};
+ghost use Rattle.tough_vault.specs.Journal.{note_of};
+ghost use Rattle.tough_vault.specs.Step.{RemovesBoth, Tried, Clears, TriesTwo, TellsRemoval};
 ghost use Rattle.tough_vault.specs.Parts.{parts};
+ghost use Rattle.tough_vault.specs.Rotated.{IsOfBoth, note_after, WritesAnew, ConcludesRoot};
 
 use crate::entry::{Entry, Receipt, Tip};
-use crate::parts::note;
-use crate::prepare::{SNAPSHOT, TIMESTAMP};
+use crate::parts::{Prepared, conclude, note};
+use crate::prepare::{ROOT, SNAPSHOT, TIMESTAMP};
 use crate::store::{Store, StoreError};
+use std::alloc::{AllocError, Global};
 use tough_checks::StepError;
 
 // Tries both removals. The outcomes are those of the timestamp's and of the snapshot's.
@@ -18,6 +21,66 @@ fn remove_both<S: Store>(store: &mut S) -> (Result<(), StoreError>, Result<(), S
     let timestamp = store.remove(TIMESTAMP);
     let snapshot = store.remove(SNAPSHOT);
     (timestamp, snapshot)
+}
+
+// The names of both files, for the faults of their removals.
+#[derive(Drop)]
+struct Names {
+    timestamp: String,
+    snapshot: String,
+}
+
+fn both_names(alloc: Global) -> Result<Names, AllocError>
+    ensures { IfOk result IsOfBoth }
+{
+    let timestamp = String::from_str(alloc, TIMESTAMP)?;
+    let snapshot = String::from_str(alloc, SNAPSHOT)?;
+    Ok(Names {
+        timestamp,
+        snapshot,
+    })
+}
+
+// The entry of a step that removed both files: that of a root, where one of this version was stored before.
+fn entry_after(root: Option<u64>) -> Entry
+    ensures { note_of result ≡ note_after root }
+{
+    match root {
+        Some(version) => Entry::Root(version, true),
+        None => Entry::Cleared,
+    }
+}
+
+// Tries both removals, for whose entry there is room. The fault is that of the first that failed.
+fn forget<S: Store>(
+    store: &mut S,
+    journal: &mut Vec<Entry>,
+    tip: &mut Tip,
+    root: Option<u64>,
+    names: Names,
+) -> Result<Receipt, StepError>
+    requires room { vec_len journal.old < vec_capacity journal.old }
+    requires names { IsOfBoth names }
+    ensures tried { Tried S.tells S.files S.count (note_after root)
+        (parts store.old journal.old.items tip.old)
+        (parts store.new journal.new.items tip.new) result }
+    ensures counted { S.removals store.new ≡ (S.removals store.old + 2) % 2 ^ 64 }
+{
+    let Names {
+        timestamp: first,
+        snapshot: second,
+    } = names;
+    let (timestamp, snapshot) = remove_both(store);
+    if let Err(fault) = timestamp {
+        note(journal, Entry::Broken, Entry::Broken);
+        return Err(removal_error(fault, first));
+    }
+    if let Err(fault) = snapshot {
+        note(journal, Entry::Broken, Entry::Broken);
+        return Err(removal_error(fault, second));
+    }
+    tip.apply(entry_after(root));
+    Ok(note(journal, entry_after(root), entry_after(root)))
 }
 
 /// Both removals are tried; the fault is that of the first that failed.
@@ -32,26 +95,64 @@ pub(crate) fn clear<S: Store>(
         (parts store.new journal.new.items tip.new) }
 {
     let alloc = *journal.allocator();
-    let (Ok(first), Ok(second)) = (
-        String::from_str(alloc, TIMESTAMP),
-        String::from_str(alloc, SNAPSHOT),
-    ) else {
+    let Ok(names) = both_names(alloc) else {
         return Err(StepError::Memory);
     };
     if journal.reserve(1).is_err() {
         return Err(StepError::Memory);
     }
-    let (timestamp, snapshot) = remove_both(store);
-    if let Err(fault) = timestamp {
-        note(journal, Entry::Broken, Entry::Broken);
-        return Err(removal_error(fault, first));
+    forget(store, journal, tip, None, names)
+}
+
+// Writes a root, after one whose keys it rotated, and then tries both removals.
+fn replace<S: Store>(
+    store: &mut S,
+    journal: &mut Vec<Entry>,
+    tip: &mut Tip,
+    version: u64,
+    bytes: &[u8],
+) -> Result<Receipt, StepError>
+    ensures { WritesAnew S.tells S.files S.count version bytes.now
+        (parts store.old journal.old.items tip.old)
+        (parts store.new journal.new.items tip.new) result }
+{
+    let alloc = *journal.allocator();
+    let (Ok(names), Ok(path)) = (both_names(alloc), String::from_str(alloc, ROOT)) else {
+        return Err(StepError::Memory);
+    };
+    if journal.reserve(1).is_err() {
+        return Err(StepError::Memory);
     }
-    if let Err(fault) = snapshot {
-        note(journal, Entry::Broken, Entry::Broken);
-        return Err(removal_error(fault, second));
+    match store.write(ROOT, bytes) {
+        Ok(()) => forget(store, journal, tip, Some(version), names),
+        Err(StoreError::Failed) => {
+            note(journal, Entry::Broken, Entry::Broken);
+            Err(StepError::DatastoreCreate { path })
+        }
+        Err(StoreError::Memory) => Err(StepError::Memory),
     }
-    tip.apply(Entry::Cleared);
-    Ok(note(journal, Entry::Cleared, Entry::Cleared))
+}
+
+/// Writes a root that was prepared and notes it; where it rotated keys, timestamp and snapshot are removed in the same step. Where the
+/// first part refused, nothing is done.
+pub(crate) fn conclude_root<S: Store>(
+    store: &mut S,
+    journal: &mut Vec<Entry>,
+    tip: &mut Tip,
+    prepared: Result<Prepared, StepError>,
+) -> Result<Receipt, StepError>
+    ensures { ConcludesRoot S.tells S.files S.count prepared
+        (parts store.old journal.old.items tip.old)
+        (parts store.new journal.new.items tip.new) result }
+{
+    let Prepared { bytes, entry } = match prepared {
+        Ok(prepared) => prepared,
+        Err(error) => return Err(error),
+    };
+    match entry {
+        Entry::Root(version, true) => replace(store, journal, tip, version, &bytes),
+        entry => conclude(store, journal, tip, ROOT, Ok(Prepared { bytes, entry })),
+    }
 }
 
 // The fault of a file's removal, as the step tells it.

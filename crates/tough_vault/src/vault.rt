@@ -6,22 +6,24 @@ ghost use Rattle.tough_roles.specs.Root.{root_doc};
 ghost use Rattle.tough_roles.specs.Timestamp.{timestamp_doc};
 ghost use Rattle.tough_roles.specs.Snapshot.{snapshot_doc};
 ghost use Rattle.tough_checks.specs.Checks.{enforces};
-ghost use Rattle.tough_vault.specs.Journal.{no_tip, replay, Rises, Legal, NothingGoesBack, has_broken, notes_of, tip_of};
+ghost use Rattle.tough_vault.specs.Journal.{no_tip, replay, Rises, Legal, NothingGoesBack, RootsRise, has_broken, notes_of, tip_of};
 ghost use Rattle.tough_vault.specs.Step.{Takes, Clears, TriesTwo};
-ghost use Rattle.tough_vault.specs.Steps.{time_text, time_step, root_step, timestamp_step, snapshot_step, document_step};
+ghost use Rattle.tough_vault.specs.Steps.{time_text, time_step, timestamp_step, snapshot_step, document_step};
 ghost use Rattle.tough_checks.specs.StoredDocuments.{stored_time};
 ghost use Rattle.tough_checks.specs.Documents.{role_text};
 ghost use Rattle.tough_checks.specs.DocumentName.{name_of};
-ghost use Rattle.tough_vault.specs.Parts.{Holds, NamesFree, TimestampReadsBack, SnapshotReadsBack};
+ghost use Rattle.tough_vault.specs.Looking.{Looks, look_doc};
+ghost use Rattle.tough_vault.specs.Parts.{Holds, NamesFree, RootReadsBack, TimestampReadsBack, SnapshotReadsBack};
+ghost use Rattle.tough_vault.specs.Puts.{Puts};
 ghost use Rattle.tough_vault.specs.Props.{Rises-prop, replays-prop};
 
 use crate::entry::{Entry, Receipt, Tip};
 use crate::parts::conclude;
 use crate::prepare::{
-    ROOT, SNAPSHOT, TIME, TIMESTAMP, prepare_document, prepare_root, prepare_time,
-    prepare_timestamp,
+    SNAPSHOT, TIME, TIMESTAMP, prepare_document, prepare_time, prepare_timestamp,
 };
-use crate::rotated::clear;
+use crate::root_step::{look, prepare_root};
+use crate::rotated::{clear, conclude_root};
 use crate::snapshot_step::prepare_snapshot;
 use crate::store::Store;
 use jiff::Timestamp as Instant;
@@ -61,11 +63,12 @@ impl<S: Store> Vault<S> {
     }
 
     /// All entries, the first one first. Replaying them gives the tip, no entry is below what those before it leave,
-    /// and of two accepted documents with no clearing between them the later isn't older.
+    /// of two accepted documents with no clearing between them the later isn't older, and of two roots the later isn't.
     pub fn journal(&self) -> &[Entry]
         ensures entries { result.now ≡ journal_of self.now }
         ensures legal { Legal (notes_in self.now) (tip_in self.now) }
         ensures rising { NothingGoesBack (notes_in self.now) }
+        ensures roots { RootsRise (notes_in self.now) }
     {
         self.journal.as_slice()
     }
@@ -97,11 +100,39 @@ impl<S: Store> Vault<S> {
         conclude(store, journal, tip, TIME, prepared)
     }
 
-    /// Stores a root as `root.json`. It refuses `DatastoreSerialize` where the root has no text, then
-    /// `DatastoreCreate`.
-    pub fn put_root(&mut self, root: &Signed<Root>) -> Result<Receipt, StepError>
-        ensures { Takes S.tells S.files S.count (root_step (signed_doc root_doc root.now))
-            (parts_of self.old) (parts_of self.new) result }
+    /// The root of `root.json`, where it can be read, verifies itself and is newer than this version. Nothing is written or noted. It refuses
+    /// `DatastoreOpen`.
+    pub fn read_root<V: Verify>(
+        &mut self,
+        first: u64,
+        verifier: &V,
+    ) -> Result<Option<Signed<Root>>, StepError>
+        ensures { Looks S.tells S.files S.count (V.verifies verifier.now) first
+            (parts_of self.old) (parts_of self.new) (look_doc result) }
+    {
+        let Vault {
+            alloc,
+            store,
+            journal: _,
+            tip: _,
+        } = self;
+        look(*alloc, store, first, verifier)
+    }
+
+    /// Accepts a root (TUF specification 5.3), and stores it as `root.json`. Where the root that was stored has another list of keys for
+    /// timestamp or snapshot, these two are then removed in the same step; both removals are tried.
+    ///
+    /// It refuses, in this order: `VerifyMetadata` where it doesn't verify itself; `DatastoreOpen`; `OlderMetadata` against a stored root that
+    /// verifies itself, then against the tip; `DatastoreSerialize` where it has no text; `DatastoreCreate`; and, where it was written, with
+    /// the fault of the first removal that failed. What was stored is read as this root, where it nests no deeper than is read.
+    pub fn put_root<V: Verify>(
+        &mut self,
+        root: &Signed<Root>,
+        verifier: &V,
+    ) -> Result<Receipt, StepError>
+        ensures puts { Puts S.tells S.files S.count (V.verifies verifier.now)
+            (signed_doc root_doc root.now) (parts_of self.old) (parts_of self.new) result }
+        ensures back { OnOk result (RootReadsBack (signed_doc root_doc root.now)) }
     {
         let Vault {
             alloc,
@@ -109,8 +140,8 @@ impl<S: Store> Vault<S> {
             journal,
             tip,
         } = self;
-        let prepared = prepare_root(*alloc, store, root);
-        conclude(store, journal, tip, ROOT, prepared)
+        let prepared = prepare_root(*alloc, store, tip, root, verifier);
+        conclude_root(store, journal, tip, prepared)
     }
 
     /// Forgets timestamp and snapshot, whose keys were rotated (TUF specification 5.3.11). Both removals are tried; it

@@ -16,22 +16,24 @@ use Rattle.tough_roles.specs.declared.role_type.RoleType.TheVariants as role
 use Rattle.tough_checks.specs.Checks.{Reason, SystemTimeSteppedBackward, VersionMismatch, OlderMetadata, OlderSnapshotInTimestamp, refuse, or_else, first_of, later, time_after, verified, snapshot_version, timestamp_form, timestamp_first, timestamp_older, timestamp_below, timestamp_against, timestamp_tip, timestamp_after, snapshot_form, snapshot_first, snapshot_older, snapshot_against, snapshot_tip, snapshot_after, fallen, items_in, expiry, versions_in, roles_in}
 use Rattle.tough_checks.specs.Documents.{timestamp_in, timestamp_text, timestamp_verdict, snapshot_in, snapshot_text, snapshot_verdict}
 use Rattle.tough_checks.specs.Files.{time_file, root_file, timestamp_file, snapshot_file, IsFree}
-use Rattle.tough_checks.specs.StoredDocuments.{if_verified, stored_time, stored_timestamp, stored_snapshot}
+use Rattle.tough_checks.specs.StoredDocuments.{if_verified, stored_root, stored_time, stored_timestamp, stored_snapshot}
+use Rattle.tough_checks.specs.Rotation.{rotates}
 use Rattle.tough_checks.specs.Versions.{Pair, Roles}
 use Rattle.tough_checks.specs.declared.checks.StepError.{StepError}
 use Rattle.tough_checks.specs.declared.checks.StepError.TheVariants.{Refused as ByCheck, DatastoreOpen, DatastoreCreate, DatastoreRemove, Memory}
 use Rattle.tough_vault.specs.declared.entry.Receipt.{Receipt}
 use Rattle.tough_vault.specs.declared.store.StoreError.{StoreError}
 use Rattle.tough_vault.specs.Act.{Act, NoteTime, PutRoot, ClearRotated, AdvanceTimestamp, AdvanceSnapshot, PutDocument, Acts}
-use Rattle.tough_vault.specs.Journal.{Note, Noted, Root, Timestamp, Snapshot, Cleared, Document, Broken, Last, no_tip, applied, replay, Follows, Rises, PairAtMost, RolesAtMost, has_broken, has_cleared, NothingGoesBack}
+use Rattle.tough_vault.specs.Journal.{Note, Noted, Root, Timestamp, Snapshot, Cleared, Document, Broken, Last, no_tip, unless_cleared, applied, replay, PairAtMost, RolesAtMost, has_broken, has_cleared, NothingGoesBack}
 use Rattle.tough_vault.specs.Step.{Step, Parts, IsNoted, Passes, Takes as StepTakes, EndsRemoval, Clears}
 use Rattle.tough_vault.specs.Steps.{time_text, needs, time_step, root_step, timestamp_step, snapshot_step, document_step}
+use Rattle.tough_vault.specs.Puts.{Puts}
 use Rattle.tough_vault.specs.Stored.{Files, SameFiles, SameElsewhere}
 use Rattle.tough_vault.proofs.Fitting.{or_else_none, refuse_none, not_lt, fallen_keeps}
 use Rattle.tough_vault.proofs.Holding.{distinct}
-use Rattle.tough_vault.proofs.Journals.{some_inj, replay-append, rises-append, broken-append}
+use Rattle.tough_vault.proofs.Journals.{some_inj, replay-append, broken-append}
 use Rattle.tough_vault.proofs.Preparing.{or_none}
-use Rattle.tough_vault.proofs.Rising.{nothing_goes_back}
+use Rattle.tough_vault.proofs.Rising.{DocumentFollows, DocumentsRise, documents-append, documents_go_on}
 use Rattle.tough_trust.specs.Vaults.{ReadsBack}
 use Rattle.tough_world.specs.Steps.{IsProper, IsUnder, Taken, all_notes, AllUnder, AllProper, Takes, Trail, AddsNothing}
 use Rattle.tough_world.proofs.Lists.{unbroken-front, uncleared-front, cleared-last, one-added, none-added}
@@ -43,11 +45,15 @@ le_of a b h = search (rules)
 lt_no : (a b : ℤ) → b ≤ℤ a → int_lt a b ≡ false
 lt_no a b h = search (rules)
 
-there : {A : Type 0} (o : Option A) → o ≢ None → (a : A) × (o ≡ Some a)
+was : {A : Type 0} (cleared : Bool) (o : Option A) (a : A) → unless_cleared cleared o ≡ Some a → o ≡ Some a
+was true o a e = absurd (cc (e))
+was false o a e = e
+
+pub there : {A : Type 0} (o : Option A) → o ≢ None → (a : A) × (o ≡ Some a)
 there None h = absurd (h refl)
 there (Some a) h = (a, refl)
 
-ok_of : (type : RoleType) (answer : Result Unit Refused) → verified type answer ≡ None → answer ≡ Ok tt
+pub ok_of : (type : RoleType) (answer : Result Unit Refused) → verified type answer ≡ None → answer ≡ Ok tt
 ok_of type (Ok u) h = refl
 ok_of type (Err r) h = cc
 
@@ -128,14 +134,14 @@ module _ {S : Type 0} (tells : Bool) (files : S → Files) (count : S → ℕ) (
     pub snapshot : (r : Roles) → tip.snapshot ≡ Some r → (d : SnapshotDoc) × (snapshot_by Q (now snapshot_file) ≡ Some d) × (roles_in d ≡ r)
 
   pub record Whole (store : S) (notes : List Note) : Type 0 where
-    pub rises : Rises no_tip notes
+    pub rises : DocumentsRise no_tip notes
     pub stored : Stored (files store) (replay no_tip notes)
 
   pub nothing_yet : (store : S) → Whole store []
   nothing_yet store = record { rises = tt; stored = record { time = λ t e. absurd (cc (e)); timestamp = λ p e. absurd (cc (e)); snapshot = λ r e. absurd (cc (e)) } }
 
   record Goes (step : Step) (old now : Files) (tip : Last) (note : Note) : Type 0 where
-    follows : Follows tip note
+    follows : DocumentFollows tip note
     stored : SameElsewhere step.file old now → now step.file ≡ step.bytes → step.bytes ≢ None → Stored now (applied tip note)
 
   same_stored : (old now : Files) (tip : Last) → ((name : List ℕ) → now name ≡ old name) → Stored old tip → Stored now tip
@@ -145,6 +151,9 @@ module _ {S : Type 0} (tells : Bool) (files : S → Files) (count : S → ℕ) (
     snapshot = λ p e. let d = s.snapshot p e in (d.0, ap (snapshot_by Q) (same snapshot_file) ∙ d.1, d.2);
   }
 
+  pub same_whole : (old new : S) (ns : List Note) → SameFiles (files old) (files new) → Whole old ns → Whole new ns
+  same_whole old new ns same w = record { rises = w.rises; stored = same_stored (files old) (files new) (replay no_tip ns) same w.stored }
+
   -- ---- any step
 
   module _ (ns : List Note) (before after : Parts S) (ms : List Note) (added : after.notes ≡ before.notes ++ ms) (w : Whole before.store ns) (unbroken : has_broken (ns ++ ms) ≡ false) where
@@ -153,6 +162,10 @@ module _ {S : Type 0} (tells : Bool) (files : S → Files) (count : S → ℕ) (
         let none = none-added before.notes after.notes ms (sym n) added in
         subst (λ (xs : List Note). Whole after.store xs) (sym (ap (λ (xs : List Note). ns ++ xs) none ∙ append-nil ns))
         (record { rises = w.rises; stored = same_stored (files before.store) (files after.store) (replay no_tip ns) same w.stored })
+
+    no_back : (result : Result Receipt StepError) → OnOk result ⊤
+    no_back (Ok r) = tt
+    no_back (Err e) = tt
 
     breaks : {X : Type 0} → after.notes ≡ before.notes ++ Broken ∷ [] → X
     breaks n = absurd (cc (unbroken, ap (λ (xs : List Note). has_broken (ns ++ xs)) (one-added before.notes after.notes ms Broken n added), broken-append ns))
@@ -166,7 +179,7 @@ module _ {S : Type 0} (tells : Bool) (files : S → Files) (count : S → ℕ) (
         let one = one-added before.notes after.notes ms n t.done.1.noted.notes added in
         subst (λ (xs : List Note). Whole after.store (ns ++ xs)) (sym one)
         (record {
-          rises = rises-append no_tip ns n w.rises goes.follows;
+          rises = documents-append no_tip ns n w.rises goes.follows;
           stored = subst (λ (l : Last). Stored (files after.store) l) (sym (replay-append no_tip ns n)) (goes.stored (t.elsewhere told) (t.stored.1 told) t.stored.0);
         })
     takes step (Err (DatastoreCreate path)) B b f t = breaks (t.broken tt).notes
@@ -175,17 +188,27 @@ module _ {S : Type 0} (tells : Bool) (files : S → Files) (count : S → ℕ) (
     takes step (Err (DatastoreRemove path)) B b f t = let e = t.same (λ x. x) in stays (sym e.0) (e.2 told)
     takes step (Err Memory) B b f t = let e = t.same (λ x. x) in stays (sym e.0) (e.2 told)
 
-    ends : (first second : Result Unit StoreError) (result : Result Receipt StepError) → has_cleared (ns ++ ms) ≡ false → EndsRemoval tells files count first second before after result → Whole after.store (ns ++ ms)
-    ends (Ok u) (Ok v) (Ok r) uncleared e = absurd (cc (uncleared, ap (λ (xs : List Note). has_cleared (ns ++ xs)) (one-added before.notes after.notes ms Cleared e.0.notes added), cleared-last ns))
-    ends (Err fault) second (Err x) uncleared e = breaks e.0.notes
-    ends (Ok u) (Err fault) (Err x) uncleared e = breaks e.0.notes
-    ends (Ok u) (Ok v) (Err x) uncleared e = absurd e
-    ends (Err fault) second (Ok r) uncleared e = absurd e
-    ends (Ok u) (Err fault) (Ok r) uncleared e = absurd e
+    ends : (note : Note) (first second : Result Unit StoreError) (mid : Parts S) (result : Result Receipt StepError) → mid.notes ≡ before.notes → has_cleared (note ∷ []) ≡ true → has_cleared (ns ++ ms) ≡ false
+        → EndsRemoval tells files count note first second mid after result → Whole after.store (ns ++ ms)
+    ends note (Ok u) (Ok v) mid (Ok r) same clears uncleared e =
+        let one = one-added before.notes after.notes ms note (e.0.notes ∙ ap (λ (xs : List Note). xs ++ note ∷ []) same) added in
+        absurd (cc (uncleared, ap (λ (xs : List Note). has_cleared (ns ++ xs)) one, cleared-last ns note clears))
+    ends note (Err fault) second mid (Err x) same clears uncleared e = breaks (e.0.notes ∙ ap (λ (xs : List Note). xs ++ Broken ∷ []) same)
+    ends note (Ok u) (Err fault) mid (Err x) same clears uncleared e = breaks (e.0.notes ∙ ap (λ (xs : List Note). xs ++ Broken ∷ []) same)
+    ends note (Ok u) (Ok v) mid (Err x) same clears uncleared e = absurd e
+    ends note (Err fault) second mid (Ok r) same clears uncleared e = absurd e
+    ends note (Ok u) (Err fault) mid (Ok r) same clears uncleared e = absurd e
 
     clears : (result : Result Receipt StepError) → has_cleared (ns ++ ms) ≡ false → Clears tells files count before after result → Whole after.store (ns ++ ms)
     clears result uncleared (inl same) = stays (sym (ap (λ (p : Parts S). p.notes) same.1)) (λ name. ap (λ (p : Parts S). files p.store name) same.1)
-    clears result uncleared (inr t) = ends t.first t.second result uncleared t.ends
+    clears result uncleared (inr t) = ends Cleared t.first t.second before result refl refl uncleared t.ends
+
+    puts : (root : SignedDoc RootDoc) (result : Result Receipt StepError) → has_cleared (ns ++ ms) ≡ false
+        → ((found : Option (List ℕ)) → Goes (root_step verifies before.tip root) (files before.store) (files after.store) (replay no_tip ns) ((root_step verifies before.tip root).entry found))
+        → Puts tells files count verifies root before after result → Whole after.store (ns ++ ms)
+    puts root result uncleared f (inl h) = takes (root_step verifies before.tip root) result ⊤ (no_back result) (λ u found p. f found) h.takes
+    puts root result uncleared f (inr h) =
+        ends (Root root.role.head.version true) h.tried.first h.tried.second (record { store = h.between; notes = before.notes; tip = before.tip }) result refl refl uncleared h.tried.ends
 
   -- ---- each step
 
@@ -199,8 +222,19 @@ module _ {S : Type 0} (tells : Bool) (files : S → Files) (count : S → ℕ) (
     keep_snapshot : (file : List ℕ) → SameElsewhere file old now → snapshot_file ≢ file → (p : Roles) → tip.snapshot ≡ Some p → (d : SnapshotDoc) × (snapshot_by Q (now snapshot_file) ≡ Some d) × (roles_in d ≡ p)
     keep_snapshot file same ne p e = let d = s.snapshot p e in (d.0, ap (snapshot_by Q) (same snapshot_file ne) ∙ d.1, d.2)
 
+    -- a root was written, and nothing was cleared or both are gone from the tip
+    root_goes : (step : Step) (v : ℕ) (cleared : Bool) → step.file ≡ root_file → Goes step old now tip (Root v cleared)
+    root_goes step v cleared is = record {
+      follows = tt;
+      stored = λ elsewhere written wrote. record {
+        time = keep_time step.file elsewhere (λ e. distinct _ _ refl (e ∙ is));
+        timestamp = λ p e. keep_timestamp step.file elsewhere (λ x. distinct _ _ refl (x ∙ is)) p (was cleared tip.timestamp p e);
+        snapshot = λ p e. keep_snapshot step.file elsewhere (λ x. distinct _ _ refl (x ∙ is)) p (was cleared tip.snapshot p e);
+      };
+    }
+
     -- another file was written
-    other_goes : (step : Step) (note : Note) → applied tip note ≡ tip → Follows tip note → time_file ≢ step.file → timestamp_file ≢ step.file → snapshot_file ≢ step.file → Goes step old now tip note
+    other_goes : (step : Step) (note : Note) → applied tip note ≡ tip → DocumentFollows tip note → time_file ≢ step.file → timestamp_file ≢ step.file → snapshot_file ≢ step.file → Goes step old now tip note
     other_goes step note is f a b c = record {
       follows = f;
       stored = λ elsewhere written wrote. subst (λ (l : Last). Stored now l) (sym is) (record { time = keep_time step.file elsewhere a; timestamp = keep_timestamp step.file elsewhere b; snapshot = keep_snapshot step.file elsewhere c });
@@ -271,8 +305,8 @@ module _ {S : Type 0} (tells : Bool) (files : S → Files) (count : S → ℕ) (
       takes ns before after ms added w b (time_step before.tip t) result (stored_time (time_text t) ≡ Some t) back
       (λ is found p. time_goes (files before.store) (files after.store) (replay no_tip ns) w.stored before.tip t found is (p.finds told) p.after) h
   acts ns before after ms added w b c (PutRoot r) result under proper back h =
-      takes ns before after ms added w b (root_step r) result ⊤ back
-      (λ is found p. other_goes (files before.store) (files after.store) (replay no_tip ns) w.stored (root_step r) (Root r.role.head.version) refl tt (distinct _ _ refl) (distinct _ _ refl) (distinct _ _ refl)) h
+      puts ns before after ms added w b r result c
+      (λ found. root_goes (files before.store) (files after.store) (replay no_tip ns) w.stored (root_step verifies before.tip r) r.role.head.version (rotates (stored_root verifies found) r.role) refl) h
   acts ns before after ms added w b c ClearRotated result under proper back h = clears ns before after ms added w b result c h
   acts ns before after ms added w b c (AdvanceTimestamp root d start enforced) result under proper back h =
       takes ns before after ms added w b (timestamp_step verifies root before.tip d start enforced) result (ReadsBack (AdvanceTimestamp root d start enforced)) back
@@ -288,10 +322,10 @@ module _ {S : Type 0} (tells : Bool) (files : S → Files) (count : S → ℕ) (
   pub keeps : (ns : List Note) (x : Taken) (old new : S) → IsUnder P Q x.act → IsProper x.act → Takes tells files count verifies x old new → has_broken (ns ++ x.notes) ≡ false → has_cleared (ns ++ x.notes) ≡ false → Whole old ns → Whole new (ns ++ x.notes)
   keeps ns x old new under proper t b c w =
       subst (λ (store : S). Whole store (ns ++ x.notes)) t.to
-      (acts ns t.before t.after x.notes t.added (subst (λ (store : S). Whole store ns) (sym t.from) w) b c x.act t.result under proper t.back t.acts)
+      (acts ns t.before t.after x.notes t.added (same_whole old t.before.store ns (t.from told) w) b c x.act t.result under proper t.back t.acts)
 
   pub trail : (xs : List Taken) (ns : List Note) (old new : S) → AllUnder P Q xs → AllProper xs → Trail tells files count verifies old xs new → has_broken (ns ++ all_notes xs) ≡ false → has_cleared (ns ++ all_notes xs) ≡ false → Whole old ns → Whole new (ns ++ all_notes xs)
-  trail [] ns old new u p t b c w = subst (λ (store : S). Whole store (ns ++ [])) (sym t) (subst (λ (xs : List Note). Whole old xs) (sym (append-nil ns)) w)
+  trail [] ns old new u p t b c w = subst (λ (xs : List Note). Whole new xs) (sym (append-nil ns)) (same_whole old new ns (t told) w)
   trail (x ∷ xs) ns old new u p t b c w =
       let e = append_assoc ns x.notes (all_notes xs) in
       let b2 : has_broken ((ns ++ x.notes) ++ all_notes xs) ≡ false = ap has_broken e ∙ b in
@@ -327,4 +361,4 @@ module _ {S : Type 0} (tells : Bool) (files : S → Files) (count : S → ℕ) (
   }
 
   pub steps_go_on : (xs : List Taken) (old new : S) → AllUnder P Q xs → AllProper xs → Trail tells files count verifies old xs new → has_broken (all_notes xs) ≡ false → has_cleared (all_notes xs) ≡ false → NothingGoesBack (all_notes xs)
-  steps_go_on xs old new u p t b c = nothing_goes_back (all_notes xs) (trail xs [] old new u p t b c (nothing_yet old)).rises
+  steps_go_on xs old new u p t b c = documents_go_on (all_notes xs) (trail xs [] old new u p t b c (nothing_yet old)).rises

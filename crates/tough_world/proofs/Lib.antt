@@ -1,7 +1,13 @@
 pub mod Lists
 pub mod Shallow
+pub mod RootDepth
 pub mod Going
+pub mod Sections
+pub mod Roots
 pub mod Rotation
 pub mod Standing
+pub mod Telling
 pub mod Turning
 pub mod Living
+pub mod Walking
+pub mod Chaining

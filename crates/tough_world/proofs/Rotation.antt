@@ -21,7 +21,7 @@ use Rattle.tough_roles.specs.Roles.{role_cmp}
 use Rattle.tough_roles.specs.Root.{RootDoc, RoleKeysDoc, key_under}
 use Rattle.tough_roles.specs.declared.role_type.RoleType.{RoleType}
 use Rattle.tough_roles.specs.declared.role_type.RoleType.TheVariants as role
-use Rattle.tough_trust.specs.Rotation.{ids_of, keys_in, same_keys, is_rotated_role, is_rotated}
+use Rattle.tough_checks.specs.Rotation.{ids_of, keys_in, same_keys, is_rotated_role, is_rotated}
 
 both : (a b : Bool) → a ≡ true → b ≡ true → a && b ≡ true
 both true b h k = k

@@ -25,13 +25,13 @@ use Rattle.tough_roles.specs.Timestamp.{HashesDoc, MetafileDoc, TimestampDoc, ha
 abbrev pub Below : ℕ → Members → Type 0
 Below n ms = members_depth ms ≤ n
 
-both : (a b n : ℕ) → a ≤ n → b ≤ n → max a b ≤ n
+pub both : (a b n : ℕ) → a ≤ n → b ≤ n → max a b ≤ n
 both a b n p q = omega (arith, p, q)
 
-first : (a b n : ℕ) → max a b ≤ n → a ≤ n
+pub first : (a b n : ℕ) → max a b ≤ n → a ≤ n
 first a b n p = omega (arith, p)
 
-second : (a b n : ℕ) → max a b ≤ n → b ≤ n
+pub second : (a b n : ℕ) → max a b ≤ n → b ≤ n
 second a b n p = omega (arith, p)
 
 picked : (n : ℕ) (o : Ordering) (a b c : Members) → Below n a → Below n b → Below n c → Below n (match_ordering o a b c)
@@ -70,7 +70,7 @@ get-below n k no_members h = tt
 get-below n k (member l e ms) h =
     found n (slice_cmp nat_cmp k l) e (get_member k ms) (first (depth e) (members_depth ms) n h) (get-below n k ms (second (depth e) (members_depth ms) n h))
 
-some-below : (n : ℕ) (o : Option Data) (d : Data) → o ≡ Some d → OptBelow n o → depth d ≤ n
+pub some-below : (n : ℕ) (o : Option Data) (d : Data) → o ≡ Some d → OptBelow n o → depth d ≤ n
 some-below n o d e h = subst (λ (x : Option Data). OptBelow n x) e h
 
 free-below : (n : ℕ) (o : Option Data) (a new : Members) → if_free o a ≡ Some new → Below n a → Below n new
@@ -86,11 +86,11 @@ with_optional-below n k (Some d) ms new e p h = with-below n k d ms new e p h
 
 -- ---- members that were read
 
-record Came {A : Type 0} (k : List ℕ) (f : Data → Option A) (ms : Members) (r : A × Members) : Type 0 where
-  from : Data
-  there : get_member k ms ≡ Some from
-  reads : f from ≡ Some r.0
-  left : r.1 ≡ without k ms
+pub record Came {A : Type 0} (k : List ℕ) (f : Data → Option A) (ms : Members) (r : A × Members) : Type 0 where
+  pub from : Data
+  pub there : get_member k ms ≡ Some from
+  pub reads : f from ≡ Some r.0
+  pub left : r.1 ≡ without k ms
 
 came-read : {A : Type 0} (k : List ℕ) (f : Data → Option A) (ms : Members) (r : A × Members) (d : Data) (a : Option A) → f d ≡ a → get_member k ms ≡ Some d → option_map (λ x. (x, without k ms)) a ≡ Some r → Came k f ms r
 came-read k f ms r d None p e h = absurd (cc (h))
@@ -100,10 +100,10 @@ came-at : {A : Type 0} (k : List ℕ) (f : Data → Option A) (ms : Members) (r 
 came-at k f ms r None e h = absurd (cc (h))
 came-at k f ms r (Some d) e h = came-read k f ms r d (f d) refl e h
 
-came : {A : Type 0} (k : List ℕ) (f : Data → Option A) (ms : Members) (r : A × Members) → required k f ms ≡ Some r → Came k f ms r
+pub came : {A : Type 0} (k : List ℕ) (f : Data → Option A) (ms : Members) (r : A × Members) → required k f ms ≡ Some r → Came k f ms r
 came k f ms r h = came-at k f ms r (get_member k ms) refl h
 
-left-below : {A : Type 0} (n : ℕ) (k : List ℕ) (f : Data → Option A) (ms : Members) (r : A × Members) → Came k f ms r → Below n ms → Below n r.1
+pub left-below : {A : Type 0} (n : ℕ) (k : List ℕ) (f : Data → Option A) (ms : Members) (r : A × Members) → Came k f ms r → Below n ms → Below n r.1
 left-below n k f ms r c h = subst (λ (x : Members). Below n x) (sym c.left) (without-below n k ms h)
 
 -- one that may be absent
@@ -157,20 +157,20 @@ object-of (string b) ms h = absurd (cc (h))
 object-of (array b) ms h = absurd (cc (h))
 object-of (object b) ms h = ap object (some-inj h)
 
-inside : (n : ℕ) (v : Data) (ms : Members) → as_object v ≡ Some ms → depth v ≤ suc n → Below n ms
+pub inside : (n : ℕ) (v : Data) (ms : Members) → as_object v ≡ Some ms → depth v ≤ suc n → Below n ms
 inside n v ms e h = let d : depth v ≡ suc (members_depth ms) = ap depth (object-of v ms e) in omega (arith, d, h)
 
-outside : (n : ℕ) (d : Data) (ms : Members) → object ms ≡ d → Below n ms → depth d ≤ suc n
+pub outside : (n : ℕ) (d : Data) (ms : Members) → object ms ≡ d → Below n ms → depth d ≤ suc n
 outside n d ms e h = let x : depth d ≡ suc (members_depth ms) = ap depth (sym e) in omega (arith, x, h)
 
-text-if : (n : ℕ) (b : Bool) (s : List ℕ) (d : Data) → (if b then Some (string s) else None) ≡ Some d → depth d ≤ n
+pub text-if : (n : ℕ) (b : Bool) (s : List ℕ) (d : Data) → (if b then Some (string s) else None) ≡ Some d → depth d ≤ n
 text-if n true s d e = subst (λ (x : Data). depth x ≤ n) (some-inj e) (omega arith)
 text-if n false s d e = absurd (cc (e))
 
 text-flat : (n : ℕ) (s : Spelled) (d : Data) → hexadecimal_json s ≡ Some d → depth d ≤ n
 text-flat n s d e = text-if n (stands_for (hex_bytes s.spelling) s.bytes) s.spelling d e
 
-number-flat : (n m : ℕ) (d : Data) → positive_json m ≡ Some d → depth d ≤ n
+pub number-flat : (n m : ℕ) (d : Data) → positive_json m ≡ Some d → depth d ≤ n
 number-flat n zero d e = absurd (cc (e))
 number-flat n (suc m) d e = subst (λ (x : Data). depth x ≤ n) (some-inj e) (omega arith)
 
@@ -245,7 +245,7 @@ read-shallow bytes d e = depth-read bytes d (if_utf8 (is_utf8 bytes) (read bytes
 
 -- ---- maps
 
-and_ok : {A B : Type 0} (f : A → Option B) (o : Option A) (b : B) → option_and_then f o ≡ Some b → (a : A) × (o ≡ Some a) × (f a ≡ Some b)
+pub and_ok : {A B : Type 0} (f : A → Option B) (o : Option A) (b : B) → option_and_then f o ≡ Some b → (a : A) × (o ≡ Some a) × (f a ≡ Some b)
 and_ok f (Some a) b h = (a, refl, h)
 and_ok f None b h = absurd (cc (h))
 
@@ -276,7 +276,7 @@ mapping-named n f g per v es out r w h =
 
 -- ---- heads
 
-head-left : (n : ℕ) (ms : Members) (r : Head × Members) → head_at ms ≡ Some r → Below n ms → Below n r.1
+pub head-left : (n : ℕ) (ms : Members) (r : Head × Members) → head_at ms ≡ Some r → Below n ms → Below n r.1
 unfolding head_at
 head-left n ms r e h =
     let a = bind_ok (required (codes "spec_version") text ms) _ r e in
@@ -287,7 +287,7 @@ head-left n ms r e h =
     let z : Below n c.0.1 = left-below n (codes "expires") instant b.0.1 c.0 (came (codes "expires") instant b.0.1 c.0 c.1) y in
     subst (λ (q : Head × Members). Below n q.1) (some-inj c.2) (without-below n (codes "_type") c.0.1 z)
 
-flat : (n : ℕ) (s : List ℕ) → depth (string s) ≤ n
+pub flat : (n : ℕ) (s : List ℕ) → depth (string s) ≤ n
 flat n s = omega arith
 
 moment-below : (n : ℕ) (k : List ℕ) (z : ℤ) (ms out : Members) → with_moment k z ms ≡ Some out → Below n ms → Below n out
@@ -295,7 +295,7 @@ moment-below n k z ms out e h =
     let t = bind_ok (moment_text z) (λ t. with k (string t) ms) out e in
     with-below n k (string t.0) ms out t.2 (flat n t.0) h
 
-head-written : (n : ℕ) (kind : List ℕ) (head : Head) (ms out : Members) → head_json kind head ms ≡ Some out → Below n ms → Below n out
+pub head-written : (n : ℕ) (kind : List ℕ) (head : Head) (ms out : Members) → head_json kind head ms ≡ Some out → Below n ms → Below n out
 unfolding head_json
 head-written n kind head ms out e h =
     let a = bind_ok (with (codes "_type") (string kind) ms) _ out e in
@@ -405,7 +405,7 @@ signed-below n f g per v s d r w le =
     let wrote : g a.0 ≡ Some b.0 = subst (λ x. g x ≡ Some b.0) (sym is) b.1 in
     parts-below n b.0 s.signatures d b.2 (per p.0.0 a.0 b.0 a.1 wrote (role-below (suc (suc n)) v p.0 p.1 le))
 
-shallow : {A : Type 0} (f : Data → Option A) (g : A → Option Data) → AddsNone 126 f g → (bytes : List ℕ) (s : SignedDoc A) (o : Option Data) → option_and_then (signed_at f) (json_of bytes) ≡ Some s → signed_json g s ≡ o → NestsWithin max_depth o
+pub shallow : {A : Type 0} (f : Data → Option A) (g : A → Option Data) → AddsNone 126 f g → (bytes : List ℕ) (s : SignedDoc A) (o : Option Data) → option_and_then (signed_at f) (json_of bytes) ≡ Some s → signed_json g s ≡ o → NestsWithin max_depth o
 shallow f g per bytes s None r w = tt
 shallow f g per bytes s (Some d) r w =
     let v = and_ok (signed_at f) (json_of bytes) s r in

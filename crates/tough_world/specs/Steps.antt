@@ -1,5 +1,5 @@
 -- Steps on one store, by one vault after another.
-use Rattle.std.specs.Prelude.{◌≡◌, ℕ, ℤ, List, [], ◌∷◌, ◌++◌, Option, None, Some, Bool, Result, OnOk, ⊤}
+use Rattle.std.specs.Prelude.{◌≡◌, ℕ, ℤ, List, [], ◌∷◌, ◌++◌, Option, None, Some, Bool, true, Result, OnOk, ⊤}
 use Rattle.tough_keys.specs.Same.{Verifies}
 use Rattle.tough_roles.specs.Policy.{Policy, policy}
 use Rattle.tough_roles.specs.Timestamp.{TimestampDoc}
@@ -7,15 +7,15 @@ use Rattle.tough_roles.specs.Snapshot.{SnapshotDoc}
 use Rattle.tough_roles.specs.Root.{RootDoc}
 use Rattle.tough_roles.specs.declared.role_type.RoleType.TheVariants as role
 use Rattle.tough_checks.specs.Checks.{later, timestamp_against, timestamp_tip, snapshot_against, snapshot_tip}
-use Rattle.tough_checks.specs.Documents.{timestamp_in, snapshot_in}
+use Rattle.tough_checks.specs.Documents.{root_in, timestamp_in, snapshot_in}
 use Rattle.tough_checks.specs.Files.{time_file, timestamp_file, snapshot_file, IsFree}
 use Rattle.tough_checks.specs.StoredDocuments.{stored_time, stored_timestamp, stored_snapshot}
 use Rattle.tough_checks.specs.declared.checks.StepError.{StepError}
 use Rattle.tough_vault.specs.declared.entry.Receipt.{Receipt}
-use Rattle.tough_vault.specs.Act.{Act, AdvanceTimestamp, AdvanceSnapshot, PutDocument, Acts}
+use Rattle.tough_vault.specs.Act.{Act, PutRoot, AdvanceTimestamp, AdvanceSnapshot, PutDocument, Acts}
 use Rattle.tough_vault.specs.Journal.{Note, Last}
 use Rattle.tough_vault.specs.Step.{Parts}
-use Rattle.tough_vault.specs.Stored.{Files}
+use Rattle.tough_vault.specs.Stored.{Files, SameFiles}
 use Rattle.tough_trust.specs.Vaults.{ReadsBack}
 
 -- Such steps updates ask for: a timestamp or snapshot was read from bytes, and no document has a name of the vault's own files.
@@ -24,6 +24,11 @@ IsProper (AdvanceTimestamp root t start enforced) = (bytes : List ℕ) × (times
 IsProper (AdvanceSnapshot root listed s start enforced) = (bytes : List ℕ) × (snapshot_in bytes ≡ Some s)
 IsProper (PutDocument name text) = IsFree name
 IsProper _ = ⊤
+
+-- a root was read from bytes, as each that an update stores
+abbrev pub IsRead : Act → Type 0
+IsRead (PutRoot root) = (bytes : List ℕ) × (root_in bytes ≡ Some root)
+IsRead _ = ⊤
 
 -- its root asks this of the signatures of a timestamp, and that of those of a snapshot
 abbrev pub IsUnder : Option Policy → Option Policy → Act → Type 0
@@ -48,6 +53,10 @@ abbrev pub AllProper : List Taken → Type 0
 AllProper [] = ⊤
 AllProper (x ∷ xs) = IsProper x.act × AllProper xs
 
+abbrev pub AllRead : List Taken → Type 0
+AllRead [] = ⊤
+AllRead (x ∷ xs) = IsRead x.act × AllRead xs
+
 module _ {S : Type 0} (tells : Bool) (files : S → Files) (count : S → ℕ) (verifies : Verifies) where
   -- some vault took it
   pub record Takes (x : Taken) (old new : S) : Type 0 where
@@ -57,12 +66,13 @@ module _ {S : Type 0} (tells : Bool) (files : S → Files) (count : S → ℕ) (
     pub acts : Acts tells files count verifies x.act before after result
     pub back : OnOk result (ReadsBack x.act)
     pub added : after.notes ≡ before.notes ++ x.notes
-    pub from : before.store ≡ old
+    -- since the last step the stored root may have been looked at
+    pub from : tells ≡ true → SameFiles (files old) (files before.store)
     pub to : after.store ≡ new
 
   -- steps one after another, of any vaults on the store
   abbrev pub Trail : S → List Taken → S → Type 0
-  Trail old [] new = new ≡ old
+  Trail old [] new = tells ≡ true → SameFiles (files old) (files new)
   Trail old (x ∷ xs) new = (mid : S) × Takes x old mid × Trail mid xs new
 
   -- The checks against a vault's tip refuse nothing that the checks against what its store holds let through, under roots of these policies.

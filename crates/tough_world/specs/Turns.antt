@@ -6,6 +6,10 @@ use Rattle.tough_checks.specs.declared.checks.StepError.{StepError}
 use Rattle.tough_vault.specs.Stored.{Files}
 use Rattle.tough_vault.specs.Step.{Parts}
 use Rattle.tough_vault.specs.Act.{Act, Acts}
+use Rattle.tough_roles.specs.Root.{RootDoc}
+use Rattle.tough_roles.specs.Signature.{SignedDoc}
+use Rattle.tough_vault.specs.Looking.{Looks}
+use Rattle.tough_trust.specs.View.{read_doc}
 use Rattle.tough_trust.specs.Failure.{Failure}
 use Rattle.tough_trust.specs.Steps.{taken}
 use Rattle.tough_update.specs.declared.machine.Core.{Core}
@@ -38,6 +42,7 @@ is_of_kind (ask.Fetch r) (by.Bytes v) = true
 is_of_kind (ask.Fetch r) (by.NotStarted f) = true
 is_of_kind (ask.Fetch r) (by.Cut f) = true
 is_of_kind (ask.Step act) by.Step = true
+is_of_kind (ask.Stored first) by.Step = true
 is_of_kind _ _ = false
 
 -- the bytes fit what is asked for
@@ -63,6 +68,7 @@ module _ {S : Type 0} (tells : Bool) (files : S → Files) (count : S → ℕ) (
   Replies (ask.Fetch r) (by.NotStarted f) old a new = (a ≡ got.NotStarted f) × (new ≡ old)
   Replies (ask.Fetch r) (by.Cut f) old a new = (a ≡ got.Cut f) × (new ≡ old)
   Replies (ask.Step act) by.Step old a new = (x : Result Unit Failure) × (a ≡ got.Step x) × Steps act old x new
+  Replies (ask.Stored first) by.Step old a new = (x : Result (Option (SignedDoc RootDoc)) StepError) × (a ≡ got.Stored (read_doc x)) × Looks tells files count verifies first old new x
   Replies _ _ old a new = ⊥
 
   -- the same, or why there is no answer

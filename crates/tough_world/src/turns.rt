@@ -24,7 +24,7 @@ pub enum Answer {
     NotStarted(Fault),
     /// The file's stream failed.
     Cut(Fault),
-    /// What the vault answers to the step that is asked for.
+    /// What the vault answers to the step or the look at the stored root that is asked for.
     Step,
 }
 
@@ -77,7 +77,7 @@ pub(crate) fn reply<S: Store, V: Verify>(
     match answer {
         Answer::Moment(now) => match ask {
             Ask::Moment => Ok(Reply::Moment(now)),
-            Ask::Fetch(_) | Ask::Step(_) | Ask::Ready => Err(TurnError::NotAsked),
+            Ask::Stored(_) | Ask::Fetch(_) | Ask::Step(_) | Ask::Ready => Err(TurnError::NotAsked),
         },
         Answer::Bytes(bytes) => match ask {
             Ask::Fetch(request) => {
@@ -87,18 +87,19 @@ pub(crate) fn reply<S: Store, V: Verify>(
                     Err(TurnError::Misfit)
                 }
             }
-            Ask::Moment | Ask::Step(_) | Ask::Ready => Err(TurnError::NotAsked),
+            Ask::Moment | Ask::Stored(_) | Ask::Step(_) | Ask::Ready => Err(TurnError::NotAsked),
         },
         Answer::NotStarted(fault) => match ask {
             Ask::Fetch(_) => Ok(Reply::NotStarted(fault)),
-            Ask::Moment | Ask::Step(_) | Ask::Ready => Err(TurnError::NotAsked),
+            Ask::Moment | Ask::Stored(_) | Ask::Step(_) | Ask::Ready => Err(TurnError::NotAsked),
         },
         Answer::Cut(fault) => match ask {
             Ask::Fetch(_) => Ok(Reply::Cut(fault)),
-            Ask::Moment | Ask::Step(_) | Ask::Ready => Err(TurnError::NotAsked),
+            Ask::Moment | Ask::Stored(_) | Ask::Step(_) | Ask::Ready => Err(TurnError::NotAsked),
         },
         Answer::Step => match ask {
             Ask::Step(act) => Ok(Reply::Step(step(vault, alloc, act, verifier))),
+            Ask::Stored(first) => Ok(Reply::Stored(vault.read_root(*first, verifier))),
             Ask::Moment | Ask::Fetch(_) | Ask::Ready => Err(TurnError::NotAsked),
         },
     }

@@ -89,7 +89,7 @@ fn take(
             let now = text(step, "now").parse()?;
             Ok(came_to(alloc, vault.note_time(now))?)
         }
-        "root" => Ok(came_to(alloc, vault.put_root(root))?),
+        "root" => Ok(came_to(alloc, vault.put_root(root, &DemoVerify))?),
         "timestamp" => advance_timestamp(alloc, vault, &root.signed, step),
         "snapshot" => advance_snapshot(alloc, vault, &root.signed, step),
         "document" => put_document(alloc, vault, step),

@@ -19,7 +19,7 @@ fn answer(alloc: Global, case: &Value, files: &Value, core: &Core) -> Result<Opt
     Ok(match core.ask() {
         Ask::Ready => None,
         Ask::Moment => Some(Answer::Moment(text(case, "now").parse::<Instant>()?)),
-        Ask::Step(_) => Some(Answer::Step),
+        Ask::Stored(_) | Ask::Step(_) => Some(Answer::Step),
         Ask::Fetch(request) => match files.get(request.name.as_str()).and_then(Value::as_str) {
             Some(file) => Some(Answer::Bytes(Vec::from_slice(alloc, file.as_bytes())?)),
             None => {

@@ -8,7 +8,7 @@ use serde_json::Value;
 use std::alloc::{AllocError, Global};
 use tough_client::{Act, Answer, Ask, Core, Counts, Error, Fault, Limits, StepError};
 use tough_net::{TransportError, TransportErrorKind};
-use tough_schema::DemoVerify;
+use tough_schema::{DemoVerify, Signed};
 use trials_calls::case::{list, text};
 use trials_calls::vault::enforcement;
 
@@ -41,6 +41,7 @@ fn asked(alloc: Global, core: &Core) -> Result<String, AllocError> {
                 request.name, request.max_size, request.specifier
             )
         }
+        Ask::Stored(first) => format!(in alloc; "Stored {first}"),
         Ask::Step(step) => act(alloc, &step),
         Ask::Ready => format!(in alloc; "Ready"),
     }
@@ -68,6 +69,8 @@ fn answer(alloc: Global, given: &Value) -> Result<Answer> {
     let said = text(given, "text");
     Ok(match text(given, "kind") {
         "moment" => Answer::Moment(said.parse::<Instant>()?),
+        "stored" if said.is_empty() => Answer::Stored(Ok(None)),
+        "stored" => Answer::Stored(Ok(Some(Signed::read(alloc, said.as_bytes())?))),
         "bytes" => Answer::Bytes(Vec::from_slice(alloc, said.as_bytes())?),
         "missing" => Answer::NotStarted(fault(alloc, TransportErrorKind::FileNotFound)?),
         "cut" => Answer::Cut(fault(alloc, TransportErrorKind::Other)?),
@@ -135,6 +138,7 @@ fn served(alloc: Global, core: &Core, case: &Value) -> Result<Option<Answer>> {
                 Answer::Cut(fault(alloc, TransportErrorKind::Other)?)
             })
         }
+        Ask::Stored(_) => Some(Answer::Stored(Ok(None))),
         Ask::Step(_) => Some(Answer::Step(Ok(()))),
         Ask::Ready => None,
     })

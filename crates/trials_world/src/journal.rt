@@ -8,7 +8,8 @@ use tough_vault::Entry;
 fn entry(alloc: Global, entry: &Entry) -> Result<String, AllocError> {
     match entry {
         Entry::Noted(_) => format!(in alloc; "Noted"),
-        Entry::Root(version) => format!(in alloc; "Root {version}"),
+        Entry::Root(version, false) => format!(in alloc; "Root {version}"),
+        Entry::Root(version, true) => format!(in alloc; "Root {version} cleared"),
         Entry::Timestamp(versions, _) => format!(in alloc; "Timestamp {}", versions.version),
         Entry::Snapshot(versions, _) => format!(in alloc; "Snapshot {}", versions.version),
         Entry::Cleared => format!(in alloc; "Cleared"),
@@ -30,7 +31,8 @@ pub(crate) fn journal(alloc: Global, entries: &[Entry]) -> Result<String> {
 pub(crate) fn is_entry(one: &Entry, other: &Entry) -> bool {
     match (one, other) {
         (Entry::Noted(one), Entry::Noted(other)) => *one == *other,
-        (Entry::Root(one), Entry::Root(other)) => *one == *other,
+        (Entry::Root(one, first), Entry::Root(other, second)) => *one == *other
+            && *first == *second,
         (Entry::Timestamp(one, _), Entry::Timestamp(other, _)) => one.version == other.version,
         (Entry::Snapshot(one, _), Entry::Snapshot(other, _)) => one.version == other.version,
         (Entry::Cleared, Entry::Cleared) => true,

@@ -67,6 +67,7 @@ fn asked(alloc: Global, core: &Core) -> Result<String> {
     Ok(match core.ask() {
         Ask::Moment => String::from_str(alloc, "the moment")?,
         Ask::Fetch(request) => String::from_str(alloc, request.name.as_str())?,
+        Ask::Stored(first) => format!(in alloc; "the stored root from {first}")?,
         Ask::Step(_) => String::from_str(alloc, "a step")?,
         Ask::Ready => String::from_str(alloc, "nothing")?,
     })

@@ -51,7 +51,7 @@ fn take<R: Wait, J: Naming>(
     let bytes = file(case, text(step, "file"));
     Ok(match text(step, "op") {
         "note_time" => store.note_time(rt, now),
-        "put_root" => store.put_root(rt, &root),
+        "put_root" => store.put_root(rt, &root, &DemoVerify),
         "clear_rotated" => store.clear_rotated(rt),
         "advance_timestamp" => {
             let new: Signed<Timestamp> = Signed::read(alloc, bytes)?;

@@ -9,11 +9,11 @@ use Rattle.tough_roles.specs.Chain.{ReachesUnder, IsNext}
 use Rattle.tough_roles.specs.declared.role_type.RoleType.TheVariants as role
 use Rattle.tough_roles.proofs.lemmas.Reached.{ok-reaches}
 use Rattle.tough_checks.specs.Checks.{or_else, refuse, verified, OlderMetadata}
-use Rattle.tough_checks.specs.Documents.{root_in}
+use Rattle.tough_checks.specs.Documents.{root_in, root_verdict}
 use Rattle.tough_roles.specs.Verdict.{Refused}
 use Rattle.tough_trust.specs.Failure.{ParseTrustedMetadata, ParseMetadata}
 use Rattle.tough_trust.specs.Outcomes.{holds_json, unrefused}
-use Rattle.tough_trust.specs.Walk.{root_verdict, if_trusted, first_root, root_refusal, next_root}
+use Rattle.tough_trust.specs.Walk.{if_trusted, first_root, root_refusal, next_root}
 use Rattle.tough_trust.proofs.lemmas.Passing.{or_first, or_second, not_refused, is_verified, if_read-ok, unrefused-ok}
 
 -- a verdict of Ok: the root's threshold is reached

@@ -9,7 +9,7 @@ use Rattle.tough_load.proofs.laws.loads_are_trusted.Goals as goal
 
 pub returns : goal.returns
 returns g c = λ from l d left kept begun h.
-    vouched g.T.Transport.refuses g.T.Transport.serves g.K.Keeper.keeps g.C.Clock.may_give g.T.Stream.Stream.yields g.met.K.Keeper.checks
+    vouched g.T.Transport.refuses g.T.Transport.serves g.K.Keeper.keeps g.K.Keeper.reads g.C.Clock.may_give g.T.Stream.Stream.yields g.met.K.Keeper.checks g.met.K.Keeper.vouches
     g.V.Verify.verifies (part.base_of l) (part.verifier_of l) (verifier_of from) (part.transport_of l) (transport_of from)
     (core_doc (part.core_of l)) (first_core (settings_of from)) (part.held_of l) (held_of from) (part.fetch_of l) (Ok d) left kept
     begun.verifier begun.transport begun.core (begun-held from l begun) begun.fetch refl h

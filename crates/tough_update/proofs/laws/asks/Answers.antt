@@ -1,4 +1,4 @@
-use Rattle.tough_update.proofs.Clears as lemmas
+use Rattle.tough_update.proofs.Asked as lemmas
 use Rattle.tough_update.proofs.laws.asks.Goals as goal
 
 pub returns : goal.returns

@@ -7,4 +7,4 @@ abbrev pub invariant-loop : goal.invariant-loop
 invariant-loop g l =
     CanPoll g.T.Stream.Stream.can_poll l.self.fetch
     × Keeps l.initial.cx l.cx
-    × Advances g.T.Transport.refuses g.T.Transport.serves g.K.Keeper.keeps g.C.Clock.may_give g.T.Stream.Stream.yields g.V.Verify.verifies l.initial.self l.self
+    × Advances g.T.Transport.refuses g.T.Transport.serves g.K.Keeper.keeps g.K.Keeper.reads g.C.Clock.may_give g.T.Stream.Stream.yields g.V.Verify.verifies l.initial.self l.self

@@ -1,5 +1,0 @@
-use Rattle.tough_update.proofs.Clears as lemmas
-use Rattle.tough_update.proofs.laws.clears.Goals as goal
-
-pub returns : goal.returns
-returns c = lemmas.clears
