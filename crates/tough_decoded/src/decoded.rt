@@ -204,6 +204,21 @@ impl<T: Decode> Decoded<T> {
         })
     }
 
+    /// The bytes that the text stands for, which keeps its place.
+    pub fn from_string(alloc: Global, text: String) -> Result<Decoded<T>, DecodeError>
+        ensures spelling { IfOk result (λ d. d.spelling ≡ string_bytes text) }
+        ensures bytes { IfOk result (λ d. T.decodes (string_bytes text) ≡ Some d.bytes) }
+        ensures err { IfErr result (λ e. e ≢ DecodeError.Memory → T.decodes (string_bytes text) ≡ None) }
+        ensures refusal { IfErr result (λ e. e ≢ DecodeError.Memory → e ≡ T.refusal) }
+    {
+        let bytes = T::decode(alloc, text.as_str())?;
+        Ok(Decoded {
+            spelling: text,
+            bytes,
+            kind: PhantomData,
+        })
+    }
+
     /// The bytes.
     pub fn as_slice(&self) -> &[u8]
         ensures { result.now ≡ self.now.bytes }

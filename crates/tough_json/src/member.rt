@@ -118,7 +118,7 @@ pub fn decoded<T: Decode>(
         (required name.now (decoded T.decodes) (members_view members.old.entries)) }
 {
     match take(members, name) {
-        Some(Value::String(text)) => match Decoded::from_str(alloc, text.as_str()) {
+        Some(Value::String(text)) => match Decoded::from_string(alloc, text) {
             Ok(decoded) => Ok(decoded),
             Err(DecodeError::Memory) => Err(ReadError::Memory),
             Err(_) => Err(member_shape(alloc, name, "(cannot be decoded)")),
@@ -151,7 +151,7 @@ pub fn stated_hexadecimal(
 {
     match take(members, name) {
         None => Ok(None),
-        Some(Value::String(text)) => match Decoded::from_str(alloc, text.as_str()) {
+        Some(Value::String(text)) => match Decoded::from_string(alloc, text) {
             Ok(decoded) => Ok(Some(decoded)),
             Err(DecodeError::Memory) => Err(ReadError::Memory),
             Err(_) => Err(member_shape(alloc, name, "(cannot be decoded)")),
