@@ -206,7 +206,6 @@ kept-had v c d k a h g (at.Fetch (at.Targets known listed) r) e t x = left v c d
 kept-had v c d k a h g (at.Step (at.NoteTime now)) e t x = left v c d k a h g x
 kept-had v c d k a h g (at.Step (at.PutRoot w)) e t x = left v c d k a h g x
 kept-had v c d k a h g (at.Step (at.PutLast w)) e t x = left v c d k a h g x
-kept-had v c d k a h g (at.Step (at.Clear b)) e t x = left v c d k a h g x
 kept-had v c d k a h g (at.Step (at.PutTimestamp b y)) e t x = left v c d k a h g x
 kept-had v c d k a h g (at.Step (at.PutSnapshot known listed)) e t x = left v c d k a h g x
 kept-had v c d k a h g (at.Step (at.PutTargets known doc)) e t x = left v c d k a h g x
