@@ -5,4 +5,5 @@ pub mod Plans
 pub mod Reading
 pub mod Repositories
 pub mod Saving
+pub mod Timely
 pub mod Opening

@@ -21,8 +21,8 @@ use Rattle.tough_checks.specs.declared.checks.StepError.{StepError}
 use Rattle.tough_trust.specs.Requests.{digests_in}
 use Rattle.tough_trust.specs.Failure.{Failure}
 use Rattle.tough_trust.specs.Steps.{Keeping}
-use Rattle.tough_trust.specs.Timely.{ExpiryDoc, NotesTimely}
-use Rattle.tough_trust.specs.Timely.{earliest as first_expiry}
+use Rattle.tough_client.specs.Timely.{ExpiryDoc, NotesTimely}
+use Rattle.tough_client.specs.Timely.{earliest as first_expiry}
 use Rattle.tough_update.specs.Stages.{LoadedDoc}
 use Rattle.tough_error.specs.declared.error.Error.{Error}
 use Rattle.tough_error.specs.declared.error.Error.TheVariants as error

@@ -4,11 +4,13 @@
 mod cache;
 mod driving;
 mod failure;
+mod listed;
 mod metadata;
 mod plan;
 mod read;
 mod repository;
 mod save;
+mod timely;
 
 pub use cache::{Cache, CacheMetadata};
 pub use driving::{drive, finish};

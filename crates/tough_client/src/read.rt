@@ -6,13 +6,15 @@ ghost use Rattle.futures.specs.Task.{Covers, Keeps};
 ghost use Rattle.tough_schema.specs.Target.{target_doc};
 ghost use Rattle.tough_client.specs.Futures.{repository_in, name_in};
 ghost use Rattle.tough_trust.specs.Steps.{Keeping};
-ghost use Rattle.tough_trust.specs.Timely.{expiry_doc};
+ghost use Rattle.tough_client.specs.Timely.{expiry_doc};
 ghost use Rattle.tough_client.specs.Reading.{InTime, NotInTime, IsStreamOf, IsUnfetched, Reads, target_at};
 ghost use Rattle.tough_client.specs.Reading as spec;
 ghost use Rattle.tough_client.specs.Repositories.{IsKept, documents_of, transport_of, keeping_of, clock_of, targets_base_of, enforced_of};
 
 use crate::failure::unfetched;
+use crate::listed::listed_target;
 use crate::repository::Repository;
+use crate::timely::{Expiry, earliest, note_timely};
 use futures::Future;
 use futures::task::{Context, Poll};
 use std::alloc::AllocError;
@@ -22,7 +24,7 @@ use tough_names::TargetName;
 use tough_net::Transport;
 use tough_save::{TargetStream, fetch_target, file_name};
 use tough_schema::Target;
-use tough_trust::{Expiry, digests_in, earliest, listed_target, note_timely};
+use tough_trust::digests_in;
 use tough_update::UpdateError;
 
 impl<T: Transport, K: Keeper, C: Clock + Drop> Repository<T, K, C> {

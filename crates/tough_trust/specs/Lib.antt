@@ -10,4 +10,3 @@ pub mod Steps
 pub mod Checking
 pub mod Vaults
 pub mod View
-pub mod Timely

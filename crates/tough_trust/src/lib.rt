@@ -8,10 +8,8 @@ mod error;
 mod fault;
 mod holder;
 mod keeper;
-mod listed;
 mod request;
 mod step;
-mod timely;
 mod walk;
 mod wide;
 
@@ -21,13 +19,11 @@ pub use error::UpdateError;
 pub use fault::Fault;
 pub use holder::{Holder, RoleHolder, check_tree, holder_of, read_targets};
 pub use keeper::{Keeper, take_step};
-pub use listed::listed_target;
 pub use request::{
     Request, digests_in, role_request, root_request, snapshot_request, targets_request,
     timestamp_request,
 };
 pub use step::act_on;
-pub use timely::{Expiry, earliest, note_timely};
 pub use tough_checks::is_rotated;
 pub use tough_net::Limits;
 pub use walk::{first_root, next_request, next_root, next_version};

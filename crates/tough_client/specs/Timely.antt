@@ -6,7 +6,7 @@ use Rattle.tough_roles.specs.declared.role_type.RoleType.TheVariants as role
 use Rattle.tough_vault.specs.Act.{Act, NoteTime}
 use Rattle.tough_checks.specs.Checks.{ExpiredMetadata}
 use Rattle.tough_checks.specs.declared.checks.StepError.{StepError}
-use Rattle.tough_trust.specs.declared.timely.Expiry.{Expiry}
+use Rattle.tough_client.specs.declared.timely.Expiry.{Expiry}
 use Rattle.tough_trust.specs.Failure.{Failure, Checked}
 use Rattle.tough_trust.specs.Steps.{Keeping, TakesStep}
 

@@ -1,24 +1,23 @@
 //! Until when what was loaded serves (TUF specification 5.7).
 
 ghost use Rattle.std.specs.Prelude.{◌≡◌};
-ghost use Rattle.tough_trust.specs.Timely.{expiry_doc, NotesTimely};
-ghost use Rattle.tough_trust.specs.Timely as spec;
+ghost use Rattle.tough_client.specs.Timely.{expiry_doc, NotesTimely};
+ghost use Rattle.tough_client.specs.Timely as spec;
 ghost use Rattle.tough_trust.specs.View.{step_doc};
 
-use crate::act::Act;
-use crate::keeper::{Keeper, take_step};
 use jiff::Timestamp as Instant;
 use std::alloc::Global;
 use tough_roles::{Key, RoleType, Verify};
+use tough_trust::{Act, Keeper, take_step};
 use tough_vault::{Refusal, StepError};
 
 /// A role, and when its document expires.
 #[derive(Clone, Copy, Drop)]
-pub struct Expiry {
+pub(crate) struct Expiry {
     /// The role.
-    pub role: RoleType,
+    pub(crate) role: RoleType,
     /// The expiry of its document.
-    pub expires: Instant,
+    pub(crate) expires: Instant,
 }
 
 // The one that comes first; of two that come at once, the first of them.
@@ -41,7 +40,7 @@ fn expiring(role: RoleType, expires: Instant) -> Expiry
 
 /// The role whose document expires first, by the expiries of the four: of two that expire at once, the first of root, timestamp, snapshot
 /// and targets.
-pub fn earliest(root: Instant, timestamp: Instant, snapshot: Instant, targets: Instant) -> Expiry
+pub(crate) fn earliest(root: Instant, timestamp: Instant, snapshot: Instant, targets: Instant) -> Expiry
     ensures { expiry_doc result ≡ spec.earliest root.nanosecond timestamp.nanosecond
         snapshot.nanosecond targets.nanosecond }
 {
@@ -65,7 +64,7 @@ impl Verify for Unverified {
 
 /// Has the keeper note the moment, and puts its receipt by, after those before it. The moment must be before the expiry, or else
 /// `ExpiredMetadata` tells that role; the other refusals are the keeper's own, and put no receipt by.
-pub fn note_timely<K: Keeper>(
+pub(crate) fn note_timely<K: Keeper>(
     alloc: Global,
     keeper: &mut K,
     receipts: &mut Vec<K::Receipt>,

@@ -10,7 +10,7 @@ use tough_names::TargetName;
 use tough_schema::{Target, Targets};
 
 /// What is listed under the name: what the search finds, which ends after a terminating role, and none where it finds nothing.
-pub fn listed_target<'a>(
+pub(crate) fn listed_target<'a>(
     alloc: Global,
     targets: &'a Targets,
     name: &TargetName,
