@@ -77,6 +77,36 @@ fn put_document(alloc: Global, vault: &mut Vault<Shelf>, step: &Value) -> anyhow
     Ok(came_to(alloc, vault.put_document(&name, &timestamp))?)
 }
 
+// Stores the root of the step, or the case's where the step has none.
+fn put_root(
+    alloc: Global,
+    vault: &mut Vault<Shelf>,
+    root: &Signed<Root>,
+    step: &Value,
+) -> anyhow::Result<String> {
+    match text(step, "text") {
+        "" => Ok(came_to(alloc, vault.put_root(root, &DemoVerify))?),
+        own => {
+            let own = Signed::<Root>::read(alloc, own.as_bytes())?;
+            Ok(came_to(alloc, vault.put_root(&own, &DemoVerify))?)
+        }
+    }
+}
+
+// Looks at the stored root, and tells its version where it is newer.
+fn read_root(
+    alloc: Global,
+    vault: &mut Vault<Shelf>,
+    step: &Value,
+) -> Result<String, AllocError> {
+    let first = number(step, "first").unwrap_or(0);
+    match vault.read_root(first, &DemoVerify) {
+        Ok(Some(root)) => format!(in alloc; "stored root {}", root.signed.version),
+        Ok(None) => format!(in alloc; "no newer root"),
+        Err(error) => format!(in alloc; "{error:?}"),
+    }
+}
+
 // Takes a step on the vault, and tells what it came to.
 fn take(
     alloc: Global,
@@ -89,7 +119,8 @@ fn take(
             let now = text(step, "now").parse()?;
             Ok(came_to(alloc, vault.note_time(now))?)
         }
-        "root" => Ok(came_to(alloc, vault.put_root(root, &DemoVerify))?),
+        "root" => put_root(alloc, vault, root, step),
+        "read" => Ok(read_root(alloc, vault, step)?),
         "timestamp" => advance_timestamp(alloc, vault, &root.signed, step),
         "snapshot" => advance_snapshot(alloc, vault, &root.signed, step),
         "document" => put_document(alloc, vault, step),

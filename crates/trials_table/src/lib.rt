@@ -92,7 +92,7 @@ pub const CALLS: [(&str, &str, &str); 92] = [
     (
         "vault",
         "root,read,steps,stuck,store,fails after,lacks memory after",
-        "step,now,text,reopened,unsafe,name,listed",
+        "step,now,text,reopened,unsafe,name,listed,first",
     ),
     ("ExpirationEnforcement", "refused", ""),
     ("DirStore", "steps,folder", "step,name,text,path,now"),
