@@ -5,11 +5,11 @@ use Rattle.serde_json.specs.Find.{get_member}
 use Rattle.serde_json.specs.View.{members_view}
 use Rattle.serde_json.proofs.Views.{Entry, get_member-put}
 use Rattle.tough_json.specs.Reading.{◌>>=◌, whole}
-use Rattle.tough_json.specs.Writing.{if_free, with, with_optional, length_json}
+use Rattle.tough_json.specs.Writing.{if_free, with, with_optional, length_json, hexadecimal_json}
 use Rattle.tough_json.proofs.lemmas.Write.{bind_ok, some-inj, required-with, length-back, without-with, without-absent}
-use Rattle.tough_roles.specs.Timestamp.{hashes_at, hashes_json}
+use Rattle.tough_roles.specs.Timestamp.{HashesDoc, hashes_at, hashes_json}
 use Rattle.tough_roles.proofs.lemmas.Timestamp.{hashes-back}
-use Rattle.tough_schema.specs.Target.{TargetDoc, target_at, target_json, custom_at, unless_empty}
+use Rattle.tough_schema.specs.Target.{TargetDoc, target_at, target_json, custom_at, unless_empty, IsPlain}
 
 pub unless_empty-filled : (es : List Entry) → (length es ≡ 0 → ⊥) → unless_empty (members_view es) ≡ Some (object (members_view es))
 unless_empty-filled [] h = absurd (h refl)
@@ -41,3 +41,16 @@ target-back t d w =
       required-with (codes "hashes") hashes_at b.0 a.0 c.0 t.hashes c.1 (hashes-back t.hashes b.0 b.1),
       custom-back t.custom t.extra a.0 a.1,
     ) refl
+
+pub none-there : (es : List Entry) → length es ≡ 0 → members_view es ≡ no_members
+none-there [] h = refl
+none-there (e ∷ es) h = cc
+
+hashes-plain : (h : HashesDoc) (d : Data) → h.sha512 ≡ None → h.extra ≡ no_members → hexadecimal_json h.sha256 ≡ Some d → hashes_json h ≡ Some (object (member (codes "sha256") d no_members))
+unfolding hashes_json
+hashes-plain h d none bare is = rw (none, bare, is) refl
+
+pub plain-json : (t : TargetDoc) (d size : Data) → IsPlain t → hexadecimal_json t.hashes.sha256 ≡ Some d → length_json t.length ≡ Some size
+    → target_json t ≡ Some (object (member (codes "hashes") (object (member (codes "sha256") d no_members)) (member (codes "length") size no_members)))
+unfolding target_json
+plain-json t d size plain is sized = rw (plain.0, plain.1, hashes-plain t.hashes d plain.2 plain.3 is, ← some-inj sized) refl

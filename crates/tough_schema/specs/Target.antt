@@ -1,5 +1,5 @@
 -- What is said of a target file (TUF specification 1.0, section 4.5, TARGETS).
-use Rattle.std.specs.Prelude.{ℕ, Option, Some, None, option_map, codes}
+use Rattle.std.specs.Prelude.{◌≡◌, ℕ, Option, Some, None, option_map, codes}
 use Rattle.serde_json.specs.Data.{Data, object, Members, no_members, member}
 use Rattle.serde_json.specs.Find.{get_member, as_object}
 use Rattle.serde_json.specs.View.{members_view}
@@ -47,3 +47,7 @@ target_json t = do
   size ← length_json t.length
   members ← with (codes "length") size hashes
   Some (object members)
+
+-- it states a length and its SHA-256 alone
+abbrev pub IsPlain : TargetDoc → Type 0
+IsPlain t = (t.custom ≡ no_members) × (t.extra ≡ no_members) × (t.hashes.sha512 ≡ None) × (t.hashes.extra ≡ no_members)

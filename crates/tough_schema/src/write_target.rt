@@ -1,16 +1,21 @@
 //! Targets' entries, written as JSON.
 
-ghost use Rattle.std.specs.Prelude.{◌≡◌, IfOk, Some, option_map};
+ghost use Rattle.std.specs.Prelude.{◌≡◌, IfOk, IsTrue, Some, None, option_map, codes};
+ghost use Rattle.serde_json.specs.Data.{Data, object, no_members, member};
 ghost use Rattle.serde_json.specs.View.{view, members_view};
+ghost use Rattle.tough_json.specs.Pieces.{text_in};
 ghost use Rattle.tough_json.specs.Results.{Writes};
-ghost use Rattle.tough_json.specs.Writing.{length_json};
-ghost use Rattle.tough_schema.specs.Target.{target_doc, target_json, unless_empty};
+ghost use Rattle.tough_json.specs.Writing.{length_json, hexadecimal_json};
+ghost use Rattle.tough_schema.specs.Target.{target_doc, target_json, unless_empty, IsPlain};
 
 use crate::target::Target;
 use serde_json::{Map, Value};
 use std::alloc::{AllocError, Global};
+use tough_decoded::{Decoded, Hex};
 use tough_json::error::WriteError;
-use tough_json::write::{copy_members, with, with_optional};
+use tough_json::pieces::text_in;
+use tough_json::write::{copy_members, digits, with, with_optional};
+use tough_json::{Form, ObjectText, PieceError};
 use tough_roles::write_timestamp::hashes_value;
 
 // The object, if it isn't empty.
@@ -43,4 +48,77 @@ pub(crate) fn target_value(alloc: Global, target: &Target) -> Result<Value, Writ
     let size = length_value(target.length);
     let members = with(alloc, hashes, "length", size)?;
     Ok(Value::Object(members))
+}
+
+fn is_bare(members: &Map<String, Value>) -> bool
+    ensures { IsTrue result → members_view members.now.entries ≡ no_members }
+{
+    members.is_empty()
+}
+
+fn is_unstated(digest: &Option<Decoded<Hex>>) -> bool
+    ensures { IsTrue result → digest.now ≡ None }
+{
+    match digest {
+        None => true,
+        Some(_) => false,
+    }
+}
+
+// Whether the target states a length and its SHA-256 alone.
+fn is_plain(target: &Target) -> bool
+    ensures { IsTrue result → IsPlain (target_doc target.now) }
+{
+    is_bare(&target.custom)
+        && is_bare(&target._extra)
+        && is_unstated(&target.hashes.sha512)
+        && is_bare(&target.hashes._extra)
+}
+
+// The text of the hashes that are this SHA-256 alone.
+fn digest_text(alloc: Global, form: Form, digest: &Decoded<Hex>) -> Result<Vec<u8>, PieceError>
+    ensures { IfOk result (λ t. (d : Data) × (hexadecimal_json digest.now ≡ Some d)
+        × (text_in form (object (member (codes "sha256") d no_members)) ≡ Some t.items)) }
+{
+    let value = digits(alloc, digest)?;
+    let mut object = ObjectText::new(alloc, form)?;
+    object.push(alloc, "sha256", &value)?;
+    let text = object.finish()?;
+    Ok(text)
+}
+
+// The text of a plain target, of which no value is made.
+fn plain_text(alloc: Global, form: Form, target: &Target) -> Result<Vec<u8>, PieceError>
+    ensures { IfOk result (λ t. IsPlain (target_doc target.now)
+        → (d : Data) × (target_json (target_doc target.now) ≡ Some d)
+        × (text_in form d ≡ Some t.items)) }
+{
+    let digest = digest_text(alloc, form, &target.hashes.sha256)?;
+    let mut object = ObjectText::new(alloc, form)?;
+    object.push_text("hashes", digest.as_slice())?;
+    object.push(alloc, "length", &length_value(target.length))?;
+    let text = object.finish()?;
+    Ok(text)
+}
+
+// The text of a target, by its value.
+fn value_text(alloc: Global, form: Form, target: &Target) -> Result<Vec<u8>, PieceError>
+    ensures { IfOk result (λ t. (d : Data) × (target_json (target_doc target.now) ≡ Some d)
+        × (text_in form d ≡ Some t.items)) }
+{
+    let value = target_value(alloc, target)?;
+    let text = text_in(alloc, form, &value)?;
+    Ok(text)
+}
+
+/// The text of a target. `Refused` if there is none.
+pub(crate) fn target_text(alloc: Global, form: Form, target: &Target) -> Result<Vec<u8>, PieceError>
+    ensures { IfOk result (λ t. (d : Data) × (target_json (target_doc target.now) ≡ Some d)
+        × (text_in form d ≡ Some t.items)) }
+{
+    if !is_plain(target) {
+        return value_text(alloc, form, target);
+    }
+    let text = plain_text(alloc, form, target)?;
+    Ok(text)
 }

@@ -1,21 +1,19 @@
 //! Targets, written as JSON.
 
-ghost use Rattle.std.specs.Prelude.{◌≡◌, IfOk, OnOk, Some, option_and_then};
+ghost use Rattle.std.specs.Prelude.{◌≡◌, IfOk, Some, option_and_then};
 ghost use Rattle.std.specs.List.Sorted.{IsStrictlySortedBy};
 ghost use Rattle.std.specs.Map.{keys_of};
-ghost use Rattle.serde_json.specs.Data.{Data, Members, no_members, object};
+ghost use Rattle.serde_json.specs.Data.{Members, no_members, object};
 ghost use Rattle.serde_json.specs.View.{view, members_view};
 ghost use Rattle.tough_names.specs.Named.{by_raw_then_resolved};
-ghost use Rattle.tough_json.specs.Pieces.{text_in, AreBelow, and_last, Stands};
-ghost use Rattle.tough_json.specs.declared.pieces.Form.{Form as Kind};
+ghost use Rattle.tough_json.specs.Pieces.{text_in};
 ghost use Rattle.tough_json.specs.Results.{Writes};
-ghost use Rattle.tough_schema.specs.Target.{target_doc, target_json};
 ghost use Rattle.tough_schema.specs.Targets.{listing_doc, listing_json, targets_doc, parts_json, around_json, targets_json, AreSorted, KeysRise};
 
 use crate::target::Target;
 use crate::targets::Targets;
 use crate::write_delegations::optional_delegations;
-use crate::write_target::target_value;
+use crate::write_target::{target_text, target_value};
 use serde_json::{Map, Value};
 use std::alloc::Global;
 use std::collections::BTreeMap;
@@ -98,21 +96,6 @@ pub(crate) fn targets_value(alloc: Global, targets: &Targets) -> Result<Value, W
     Ok(Value::Object(members))
 }
 
-// Adds a target under its name. Its JSON is made, written and dropped.
-fn push_target(
-    alloc: Global,
-    object: &mut ObjectText,
-    name: &str,
-    target: &Target,
-) -> Result<(), PieceError>
-    ensures { OnOk result ((d : Data) × (target_json (target_doc target.now) ≡ Some d)
-        × ((form : Kind) (ms : Members) → Stands form ms object.old → AreBelow name.now ms
-        × Stands form (and_last ms name.now d) object.new)) }
-{
-    let value = target_value(alloc, target)?;
-    object.push(alloc, name, &value)
-}
-
 // The text of the listing, written target by target.
 fn listing_text(
     alloc: Global,
@@ -125,7 +108,8 @@ fn listing_text(
 {
     let mut object = ObjectText::new(alloc, form)?;
     for (name, target) in targets.iter() {
-        push_target(alloc, &mut object, name.raw(), target)?;
+        let entry = target_text(alloc, form, target)?;
+        object.push_text(name.raw(), entry.as_slice())?;
     }
     let text = object.finish()?;
     Ok(text)

@@ -1,4 +1,4 @@
-use Rattle.std.proofs.Common.{◌≡◌, List, sym, ap, ◌∙◌, rules}
+use Rattle.std.proofs.Common.{◌≡◌, List, Some, sym, ap, ◌∙◌, rules}
 use Rattle.serde_json.specs.Data.{no_members}
 use Rattle.tough_json.specs.Pieces.{and_last}
 use Rattle.tough_json.specs.Writing.{with}
@@ -21,8 +21,8 @@ loop-name-preserved c =
     let ms = c.loop-name.invariant.0 in
     let left = listing_doc c.next.new.self in
     let raw = c.raw.result.now in
-    let pushed = c.in_ok-push_target.ensures in
-    let told = pushed.2 c.args.form ms c.loop-name.invariant.1 in
+    let pushed = c.in_ok-entry.ensures in
+    let told = c.in_ok-push_text.ensures c.args.form ms pushed.0 c.loop-name.invariant.1 (pushed.2 ∙ ap Some (sym c.as_slice.ensures.value)) in
     let all = c.loop-name.invariant.2 ∙ ap (λ (es : List (Named × Target)). listing_json (listing_doc es) ms) c.in-Some.ensures.steps in (
       and_last ms raw pushed.0,
       told.1,
