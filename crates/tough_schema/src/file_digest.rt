@@ -3,7 +3,7 @@
 ghost use Rattle.std.specs.Prelude.{◌≡◌, ◌≤◌, List, ℕ, Some, true, IfOk};
 ghost use Rattle.tough_files.specs.Contents.{file, Same};
 ghost use Rattle.tough_schema.specs.Measuring.{LooksBy, FeedsBy, ReadsAll, MeasuresBy};
-ghost use Rattle.tough_schema.specs.FileDigest.{file_error, there, Stands, HasRead, Feeds, Measures, MeasuresFile};
+ghost use Rattle.tough_schema.specs.FileDigest.{file_error, there, Begins, Finishes, TakesIn, Stands, HasRead, Feeds, Measures, MeasuresFile};
 
 use sha2::{Digest, Sha256, Sha512};
 use std::alloc::AllocError;
@@ -11,12 +11,21 @@ use thiserror::Error;
 use tough_files::{FileKind, Files, FilesError};
 use tough_roles as schema;
 
-/// The length of a file, and the SHA-256 and the SHA-512 of its bytes.
+/// Which digests of a file are computed.
+#[derive(Clone, Copy, Drop)]
+pub enum Digests {
+    /// SHA-256 alone.
+    Sha256,
+    /// SHA-256 and SHA-512.
+    Both,
+}
+
+/// The length of a file, the SHA-256 of its bytes, and their SHA-512 where it is asked for.
 #[derive(Drop)]
 pub struct Measured {
     pub length: u64,
     pub sha256: [u8; 32],
-    pub sha512: [u8; 64],
+    pub sha512: Option<[u8; 64]>,
 }
 
 /// Why a file can't be a target.
@@ -54,8 +63,44 @@ impl FileError {
 #[derive(Drop)]
 struct Reading {
     hasher: Sha256,
-    second: Sha512,
+    second: Option<Sha512>,
     length: u64,
+}
+
+impl Reading {
+    // Nothing was read yet.
+    fn new(digests: Digests) -> Reading
+        ensures { Begins digests result }
+    {
+        let second = match digests {
+            Digests::Sha256 => None,
+            Digests::Both => Some(Sha512::new()),
+        };
+        Reading {
+            hasher: Sha256::new(),
+            second,
+            length: 0,
+        }
+    }
+}
+
+// The bytes are taken in, where there is a hasher.
+fn take_in(hasher: &mut Option<Sha512>, bytes: &[u8])
+    ensures { TakesIn hasher.old bytes.now hasher.new }
+{
+    if let Some(hasher) = hasher {
+        hasher.update(bytes);
+    }
+}
+
+// The SHA-512 of what was taken in, where there is a hasher.
+fn finish(hasher: Option<Sha512>) -> Option<[u8; 64]>
+    ensures { Finishes hasher result }
+{
+    match hasher {
+        None => None,
+        Some(hasher) => Some(hasher.finalize()),
+    }
 }
 
 // Whether a file stands at the path, links followed.
@@ -75,9 +120,10 @@ fn look<F: Files>(files: &mut F, path: &str) -> Result<(), FileError>
 
 // Reads the next bytes, and returns how many; 0 at the end.
 fn feed<F: Files>(files: &mut F, path: &str, reading: &mut Reading) -> Result<usize, FilesError>
-    ensures feeds { (bytes : List ℕ) → F.tells ≡ true
-        → there path.now (F.contents files.old) ≡ Some (file bytes) → HasRead bytes reading.old
-        → Feeds bytes reading.old result reading.new }
+    ensures feeds { (digests : _) (bytes : List ℕ) → F.tells ≡ true
+        → there path.now (F.contents files.old) ≡ Some (file bytes)
+        → HasRead digests bytes reading.old
+        → Feeds digests bytes reading.old result reading.new }
     ensures calls { F.tells ≡ true
         → FeedsBy path.now reading.old result reading.new (F.calls files.old) (F.calls files.new) }
     ensures kept { F.tells ≡ true → Same (F.contents files.old) (F.contents files.new) }
@@ -88,30 +134,31 @@ fn feed<F: Files>(files: &mut F, path: &str, reading: &mut Reading) -> Result<us
         return Err(FilesError::Failed);
     };
     reading.hasher.update(&buf[..n]);
-    reading.second.update(&buf[..n]);
+    take_in(&mut reading.second, &buf[..n]);
     reading.length = length;
     Ok(n)
 }
 
 /// The length and the digests of the file at the path, by reads alone. `Failed` also if the file has more bytes than a `u64` counts.
-pub fn read_all<F: Files>(files: &mut F, path: &str) -> Result<Measured, FilesError>
+pub fn read_all<F: Files>(
+    files: &mut F,
+    path: &str,
+    digests: Digests,
+) -> Result<Measured, FilesError>
     ensures measured { (bytes : List ℕ) → F.tells ≡ true
-        → there path.now (F.contents files.old) ≡ Some (file bytes) → MeasuresFile bytes result }
+        → there path.now (F.contents files.old) ≡ Some (file bytes)
+        → MeasuresFile digests bytes result }
     ensures calls { F.tells ≡ true
-        → ReadsAll path.now result (F.calls files.old) (F.calls files.new) }
+        → ReadsAll digests path.now result (F.calls files.old) (F.calls files.new) }
     ensures kept { F.tells ≡ true → Same (F.contents files.old) (F.contents files.new) }
 {
-    let mut reading = Reading {
-        hasher: Sha256::new(),
-        second: Sha512::new(),
-        length: 0,
-    };
+    let mut reading = Reading::new(digests);
     for _ in 0..u64::MAX {
         if feed(files, path, &mut reading)? == 0 {
             return Ok(Measured {
                 length: reading.length,
                 sha256: reading.hasher.finalize(),
-                sha512: reading.second.finalize(),
+                sha512: finish(reading.second),
             });
         }
     }
@@ -119,16 +166,21 @@ pub fn read_all<F: Files>(files: &mut F, path: &str) -> Result<Measured, FilesEr
 }
 
 /// The length and the digests of the file at the path, links followed. The errors, in this order: `FileOpen`, `TargetNotAFile`, `FileRead`.
-pub fn measure<F: Files>(files: &mut F, path: &str) -> Result<Measured, FileError>
-    ensures measured { F.tells ≡ true → Measures (there path.now (F.contents files.old)) result }
+pub fn measure<F: Files>(
+    files: &mut F,
+    path: &str,
+    digests: Digests,
+) -> Result<Measured, FileError>
+    ensures measured { F.tells ≡ true
+        → Measures digests (there path.now (F.contents files.old)) result }
     ensures calls { F.tells ≡ true
-        → MeasuresBy path.now result (F.calls files.old) (F.calls files.new) }
+        → MeasuresBy digests path.now result (F.calls files.old) (F.calls files.new) }
     ensures kept { F.tells ≡ true → Same (F.contents files.old) (F.contents files.new) }
 {
     if let Err(error) = look(files, path) {
         return Err(error);
     }
-    match read_all(files, path) {
+    match read_all(files, path, digests) {
         Ok(measured) => Ok(measured),
         Err(FilesError::Memory) => Err(FileError::Memory),
         Err(_) => Err(FileError::FileRead),

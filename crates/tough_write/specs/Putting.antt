@@ -1,5 +1,5 @@
 -- The calls by which the file of a target is copied or linked into a folder.
-use Rattle.std.specs.Prelude.{◌≡◌, ◌≢◌, ◌⊎◌, ℕ, Bool, true, false, List, Option, Some, None, IfSome, IsSomeAnd, option_map, Result, Ok, Err, codes, String, string_bytes}
+use Rattle.std.specs.Prelude.{◌≡◌, ◌≢◌, ◌⊎◌, ℕ, Bool, true, false, List, [], Option, Some, None, IfSome, IsSomeAnd, option_map, Result, Ok, Err, codes, String, string_bytes}
 use Rattle.std.specs.Borrow.{Bor}
 use Rattle.std.specs.declared.alloc.Global.{Global}
 use Rattle.std.specs.Path.{path_file_name, path_join, path_parent, PathStartsWith}
@@ -14,6 +14,8 @@ use Rattle.tough_save.specs.Places.{path_of, parent_of, IsPlace}
 use Rattle.tough_save.specs.declared.place.Place.{Place}
 use Rattle.tough_save.specs.Scripts.{Script, Asks, Stops}
 use Rattle.tough_save.specs.Targets.{file_name}
+use Rattle.tough_schema.specs.declared.file_digest.Digests.{Digests}
+use Rattle.tough_schema.specs.declared.file_digest.Digests.TheVariants as asked
 use Rattle.tough_schema.specs.declared.file_digest.FileError.{FileError}
 use Rattle.tough_schema.specs.declared.file_digest.FileError.TheVariants as why
 use Rattle.tough_schema.specs.declared.file_digest.Measured.{Measured}
@@ -93,18 +95,35 @@ abbrev pub is_measured : List ℕ → Outcome Measured → Result Measured FileE
 is_measured input (Ok m) r = r ≡ Ok m
 is_measured input (Err e) r = (fault : FileError) × (r ≡ Err fault) × TellsUnmeasured input fault e
 
+abbrev pub if_second : {X : Type 0} → Option X → Digests
+if_second None = asked.Sha256
+if_second (Some x) = asked.Both
+
+-- SHA-512 is computed where one is listed
+abbrev pub listed_digests : Option HashesDoc → Digests
+listed_digests None = asked.Sha256
+listed_digests (Some h) = if_second h.sha512
+
 -- the input is read to its end
-abbrev pub Measures : List ℕ → Outcome Measured → Script
-Measures input result old new = (r : Result Measured FileError) × MeasuresBy input r old new × is_measured input result r
+abbrev pub Measures : Digests → List ℕ → Outcome Measured → Script
+Measures digests input result old new = (r : Result Measured FileError) × MeasuresBy digests input r old new × is_measured input result r
+
+abbrev pub bytes_in : Option (List ℕ) → List ℕ
+bytes_in None = []
+bytes_in (Some bytes) = bytes
+
+-- the SHA-512 that was computed; of no bytes where none was
+abbrev pub second_of : Measured → List ℕ
+second_of m = bytes_in m.sha512
 
 -- what was measured has the digests that are listed
 abbrev pub HasHashes : Measured → HashesDoc → Type 0
-HasHashes m h = (h.sha256.bytes ≡ m.sha256) × IfSome h.sha512 (λ s. s.bytes ≡ m.sha512)
+HasHashes m h = (h.sha256.bytes ≡ m.sha256) × IfSome h.sha512 (λ s. s.bytes ≡ second_of m)
 
 -- it hasn't, and the error says so of the first
 abbrev pub LacksHashes : Measured → HashesDoc → OutputError → Type 0
 LacksHashes m h e = ((h.sha256.bytes ≢ m.sha256) × TellsMismatch (codes "target") m.sha256 h.sha256.bytes e)
-    ⊎ ((h.sha256.bytes ≡ m.sha256) × IsSomeAnd h.sha512 (λ s. (s.bytes ≢ m.sha512) × TellsMismatch (codes "target") m.sha512 s.bytes e))
+    ⊎ ((h.sha256.bytes ≡ m.sha256) × IsSomeAnd h.sha512 (λ s. (s.bytes ≢ second_of m) × TellsMismatch (codes "target") (second_of m) s.bytes e))
 
 -- the digests must be those that are listed
 abbrev pub AreListed : Measured → HashesDoc → Done → Type 0
@@ -120,19 +139,13 @@ IsListed input m None (Err e) = Tells error.PathIsNotTarget input e
 abbrev pub IsTarget : Manner → List ℕ → Named → Measured → Done → Script
 IsTarget m input name measured result = Stops (IsListed input measured (listed_hashes m.listing name) result)
 
--- the SHA-512, where one is listed
-abbrev pub second_of : Option HashesDoc → Measured → Option (List ℕ)
-second_of None m = None
-second_of (Some h) m = option_map (λ s. m.sha512) h.sha512
-
-abbrev pub IsChosen : Manner → Named → Measured → Outcome Chosen → Script
-IsChosen m name measured result =
-    Stops (result ≡ Ok (record { name = name; sha256 = measured.sha256; sha512 = second_of (listed_hashes m.listing name) measured }))
+abbrev pub IsChosen : Named → Measured → Outcome Chosen → Script
+IsChosen name measured result = Stops (result ≡ Ok (record { name = name; sha256 = measured.sha256; sha512 = measured.sha512 }))
 
 -- The input is a file with the digests that are listed under its name.
 abbrev pub Chooses : Manner → List ℕ → Option Named → Outcome Chosen → Script
-Chooses m input name = Then (FindsFile input) (λ u. Then (Names input name) (λ n. Then (Measures input) (λ measured.
-    Then (IsTarget m input n measured) (λ v. IsChosen m n measured))))
+Chooses m input name = Then (FindsFile input) (λ u. Then (Names input name) (λ n. Then (Measures (listed_digests (listed_hashes m.listing n)) input) (λ measured.
+    Then (IsTarget m input n measured) (λ v. IsChosen n measured))))
 
 -- ---- where its file is to stand
 
@@ -177,15 +190,19 @@ abbrev pub LooksFor : List ℕ → Outcome Bool → Script
 LooksFor path result = Asks (kind_of path true) (λ answered. Stops (is_there result answered))
 
 abbrev pub has_digests : List ℕ → Chosen → Done → Result Measured FilesError → Type 0
-has_digests path c (Ok u) (Ok m) = (m.sha256 ≡ c.sha256) × IfSome c.sha512 (λ x. m.sha512 ≡ x)
+has_digests path c (Ok u) (Ok m) = (m.sha256 ≡ c.sha256) × IfSome c.sha512 (λ x. second_of m ≡ x)
 has_digests path c (Err e) (Ok m) = ((m.sha256 ≢ c.sha256) × TellsMismatch path m.sha256 c.sha256 e)
-    ⊎ ((m.sha256 ≡ c.sha256) × IsSomeAnd c.sha512 (λ x. (m.sha512 ≢ x) × TellsMismatch path m.sha512 x e))
+    ⊎ ((m.sha256 ≡ c.sha256) × IsSomeAnd c.sha512 (λ x. (second_of m ≢ x) × TellsMismatch path (second_of m) x e))
 has_digests path c (Err e) (Err why) = TellsRefusal error.FileRead path why e
 has_digests path c _ _ = ⊥
 
+-- the digests that the target has
+abbrev pub chosen_digests : Chosen → Digests
+chosen_digests c = if_second c.sha512
+
 -- what stands there is read to its end, and must have the digests
 abbrev pub HasContent : List ℕ → Chosen → Done → Script
-HasContent path c result old new = (r : Result Measured FilesError) × ReadsAll path r old new × has_digests path c result r
+HasContent path c result old new = (r : Result Measured FilesError) × ReadsAll (chosen_digests c) path r old new × has_digests path c result r
 
 -- the name of a file has its digest under consistent snapshots; else what stands there is read
 abbrev pub Agrees : Bool → List ℕ → Chosen → Done → Script

@@ -7,7 +7,7 @@ ghost use Rattle.tough_files.specs.Calls as call;
 ghost use Rattle.tough_write.specs.declared.error.OutputError.TheVariants as error;
 ghost use Rattle.tough_write.specs.declared.path_exists.PathExists.TheVariants as exist;
 ghost use Rattle.tough_write.specs.Errors.{Tells, TellsKind, TellsMismatch, TellsUnsafe};
-ghost use Rattle.tough_write.specs.Putting.{manner_of, given, is_kind, has_digests, second_of, AreListed, HasContent, TellsUnmeasured, Agrees, Chooses, FindsFile, IsKind, IsListed, IsNamed, IsPlaced, IsWithin, Lays, LooksFor, Makes, MakesOver, Measures, Puts, PutsChosen, PutsIn, Replaces, Settles};
+ghost use Rattle.tough_write.specs.Putting.{manner_of, given, is_kind, has_digests, chosen_digests, listed_digests, second_of, AreListed, HasContent, TellsUnmeasured, Agrees, Chooses, FindsFile, IsKind, IsListed, IsNamed, IsPlaced, IsWithin, Lays, LooksFor, Makes, MakesOver, Measures, Puts, PutsChosen, PutsIn, Replaces, Settles};
 
 use crate::error::{OutputError, Step, refusal};
 use crate::path_exists::PathExists;
@@ -20,7 +20,7 @@ use tough_names::{NameError, TargetName};
 use tough_roles::Hashes;
 use tough_save::{Place, SaveError, file_name};
 use tough_schema::FileError;
-use tough_schema::file_digest::{Measured, measure, read_all};
+use tough_schema::file_digest::{Digests, Measured, measure, read_all};
 
 // What is made of a file.
 #[derive(Clone, Copy, Drop)]
@@ -45,6 +45,18 @@ struct Chosen {
     name: TargetName,
     sha256: [u8; 32],
     sha512: Option<[u8; 64]>,
+}
+
+impl Chosen {
+    // The digests that it has.
+    fn digests(&self) -> Digests
+        ensures { result ≡ chosen_digests self.now }
+    {
+        match &self.sha512 {
+            None => Digests::Sha256,
+            Some(_) => Digests::Both,
+        }
+    }
 }
 
 // ---- errors
@@ -203,12 +215,41 @@ fn name_of(alloc: Global, input: &str, name: Option<&TargetName>) -> Result<Targ
 }
 
 // Reads the input to its end.
-fn measured<F: Files>(alloc: Global, files: &mut F, input: &str) -> Result<Measured, OutputError>
-    ensures { F.tells ≡ true → Measures input.now result (F.calls files.old) (F.calls files.new) }
+fn measured<F: Files>(
+    alloc: Global,
+    files: &mut F,
+    input: &str,
+    digests: Digests,
+) -> Result<Measured, OutputError>
+    ensures { F.tells ≡ true
+        → Measures digests input.now result (F.calls files.old) (F.calls files.new) }
 {
-    match measure(files, input) {
+    match measure(files, input, digests) {
         Ok(measured) => Ok(measured),
         Err(error) => Err(unmeasured(alloc, input, error)),
+    }
+}
+
+// SHA-512 is computed where one is listed.
+fn listed_digests(listed: Option<&Hashes>) -> Digests
+    ensures { result ≡ listed_digests (option_map (λ h. hashes_doc h.now) listed.entry) }
+{
+    match listed {
+        None => Digests::Sha256,
+        Some(hashes) => match &hashes.sha512 {
+            None => Digests::Sha256,
+            Some(_) => Digests::Both,
+        },
+    }
+}
+
+// The SHA-512 that was computed; of no bytes where none was.
+fn second_of(measured: &Measured) -> &[u8]
+    ensures { result.now ≡ second_of measured.now }
+{
+    match &measured.sha512 {
+        None => b"",
+        Some(sha512) => sha512.as_slice(),
     }
 }
 
@@ -221,7 +262,7 @@ fn check_hashes(alloc: Global, measured: &Measured, hashes: &Hashes) -> Result<(
         return Err(mismatch(alloc, "target", found, expected));
     }
     if let Some(sha512) = &hashes.sha512 {
-        let (expected, found) = (sha512.as_slice(), measured.sha512.as_slice());
+        let (expected, found) = (sha512.as_slice(), second_of(measured));
         if expected != found {
             return Err(mismatch(alloc, "target", found, expected));
         }
@@ -242,19 +283,6 @@ fn check_listed(
     match listed {
         None => Err(no_target(alloc, input)),
         Some(hashes) => check_hashes(alloc, measured, hashes),
-    }
-}
-
-// The SHA-512, where one is listed.
-fn second_of(listed: Option<&Hashes>, measured: &Measured) -> Option<[u8; 64]>
-    ensures { result ≡ second_of (option_map (λ h. hashes_doc h.now) listed.entry) measured.now }
-{
-    match listed {
-        None => None,
-        Some(hashes) => match &hashes.sha512 {
-            None => None,
-            Some(_) => Some(measured.sha512),
-        },
     }
 }
 
@@ -285,7 +313,7 @@ fn check_measured(
         return Err(mismatch(alloc, path, found, expected));
     }
     if let Some(sha512) = &chosen.sha512 {
-        let (found, expected) = (measured.sha512.as_slice(), sha512.as_slice());
+        let (found, expected) = (second_of(measured), sha512.as_slice());
         if found != expected {
             return Err(mismatch(alloc, path, found, expected));
         }
@@ -303,7 +331,7 @@ fn check_content<F: Files>(
     ensures { F.tells ≡ true
         → HasContent path.now chosen.now result (F.calls files.old) (F.calls files.new) }
 {
-    match read_all(files, path) {
+    match read_all(files, path, chosen.digests()) {
         Ok(measured) => check_measured(alloc, path, &measured, chosen),
         Err(error) => Err(refusal(alloc, Step::Read, path, error)),
     }
@@ -416,11 +444,13 @@ impl<'b, 'a> Putting<'b, 'a> {
     {
         find_file(self.alloc, files, input)?;
         let name = name_of(self.alloc, input, name)?;
-        let measured = measured(self.alloc, files, input)?;
-        check_listed(self.alloc, input, &measured, self.targets.hashes(&name))?;
+        let listed = self.targets.hashes(&name);
+        let digests = listed_digests(listed);
+        let measured = measured(self.alloc, files, input, digests)?;
+        check_listed(self.alloc, input, &measured, listed)?;
         Ok(Chosen {
-            sha512: second_of(self.targets.hashes(&name), &measured),
             sha256: measured.sha256,
+            sha512: measured.sha512,
             name,
         })
     }

@@ -1,5 +1,6 @@
 use Rattle.std.proofs.Common.{◌≢◌, inl, inr}
 use Rattle.tough_write.specs.Errors.{TellsMismatch}
+use Rattle.tough_write.specs.Putting.{second_of}
 use Rattle.tough_write.proofs.Differing.{differ, agree, tells, some}
 use Rattle.tough_write.proofs.put.check_measured.Goals as goal
 
@@ -17,14 +18,14 @@ returns-then-ne c =
 pub returns-then-ne-2 : goal.returns-then-ne-2
 returns-then-ne-2 c =
     let e = c.mismatch-then-ne-2.result in
-    let found = c.args.measured.now.sha512 in
-    let a = c.as_slice-found-in-Some.result.now in
+    let found = second_of c.args.measured.now in
+    let a = c.second_of.result.now in
     let b = c.as_slice-expected-in-Some.result.now in
     inr (
       agree c.args.measured.now.sha256 c.args.chosen.now.sha256 c.as_slice-found.result.now c.as_slice-expected.result.now
           c.as_slice-found.ensures c.as_slice-expected.ensures c.if-ne.ensures,
       some c.args.chosen.now.sha512 c.in-Some.sha512 (λ x. (found ≢ x) × TellsMismatch c.args.path.now found x e) c.in-Some.is (
-        differ found c.in-Some.sha512 a b c.as_slice-found-in-Some.ensures c.as_slice-expected-in-Some.ensures c.if-ne-2.ensures,
-        tells found c.in-Some.sha512 a b c.as_slice-found-in-Some.ensures c.as_slice-expected-in-Some.ensures c.args.path.now e c.mismatch-then-ne-2.ensures,
+        differ found c.in-Some.sha512 a b c.second_of.ensures c.as_slice-expected-in-Some.ensures c.if-ne-2.ensures,
+        tells found c.in-Some.sha512 a b c.second_of.ensures c.as_slice-expected-in-Some.ensures c.args.path.now e c.mismatch-then-ne-2.ensures,
       ),
     )
