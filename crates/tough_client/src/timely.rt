@@ -40,7 +40,12 @@ fn expiring(role: RoleType, expires: Instant) -> Expiry
 
 /// The role whose document expires first, by the expiries of the four: of two that expire at once, the first of root, timestamp, snapshot
 /// and targets.
-pub(crate) fn earliest(root: Instant, timestamp: Instant, snapshot: Instant, targets: Instant) -> Expiry
+pub(crate) fn earliest(
+    root: Instant,
+    timestamp: Instant,
+    snapshot: Instant,
+    targets: Instant,
+) -> Expiry
     ensures { expiry_doc result ≡ spec.earliest root.nanosecond timestamp.nanosecond
         snapshot.nanosecond targets.nanosecond }
 {

@@ -94,11 +94,7 @@ fn put_root(
 }
 
 // Looks at the stored root, and tells its version where it is newer.
-fn read_root(
-    alloc: Global,
-    vault: &mut Vault<Shelf>,
-    step: &Value,
-) -> Result<String, AllocError> {
+fn read_root(alloc: Global, vault: &mut Vault<Shelf>, step: &Value) -> Result<String, AllocError> {
     let first = number(step, "first").unwrap_or(0);
     match vault.read_root(first, &DemoVerify) {
         Ok(Some(root)) => format!(in alloc; "stored root {}", root.signed.version),
