@@ -166,11 +166,7 @@ pub fn read_all<F: Files>(
 }
 
 /// The length and the digests of the file at the path, links followed. The errors, in this order: `FileOpen`, `TargetNotAFile`, `FileRead`.
-pub fn measure<F: Files>(
-    files: &mut F,
-    path: &str,
-    digests: Digests,
-) -> Result<Measured, FileError>
+pub fn measure<F: Files>(files: &mut F, path: &str, digests: Digests) -> Result<Measured, FileError>
     ensures measured { F.tells ≡ true
         → Measures digests (there path.now (F.contents files.old)) result }
     ensures calls { F.tells ≡ true
