@@ -19,13 +19,13 @@ pub returns-then-ne-2 : goal.returns-then-ne-2
 returns-then-ne-2 c =
     let e = c.mismatch-then-ne-2.result in
     let found = second_of c.args.measured.now in
-    let a = c.second_of.result.now in
+    let a = c.second_of-found.result.now in
     let b = c.as_slice-expected-in-Some.result.now in
     inr (
       agree c.args.measured.now.sha256 c.args.chosen.now.sha256 c.as_slice-found.result.now c.as_slice-expected.result.now
           c.as_slice-found.ensures c.as_slice-expected.ensures c.if-ne.ensures,
       some c.args.chosen.now.sha512 c.in-Some.sha512 (λ x. (found ≢ x) × TellsMismatch c.args.path.now found x e) c.in-Some.is (
-        differ found c.in-Some.sha512 a b c.second_of.ensures c.as_slice-expected-in-Some.ensures c.if-ne-2.ensures,
-        tells found c.in-Some.sha512 a b c.second_of.ensures c.as_slice-expected-in-Some.ensures c.args.path.now e c.mismatch-then-ne-2.ensures,
+        differ found c.in-Some.sha512 a b c.second_of-found.ensures c.as_slice-expected-in-Some.ensures c.if-ne-2.ensures,
+        tells found c.in-Some.sha512 a b c.second_of-found.ensures c.as_slice-expected-in-Some.ensures c.args.path.now e c.mismatch-then-ne-2.ensures,
       ),
     )

@@ -22,7 +22,7 @@ returns-in_err-measured g c = λ tells. inr (
     inl (
       c.in_err-measured.field-0.0,
       subst (λ d. Measures d c.args.input.now (Err c.in_err-measured.field-0.0) (g.F.Files.calls c.find_file.new.files) (g.F.Files.calls c.measured.new.files))
-          (c.listed_digests.ensures ∙ ap listed_digests c.hashes.ensures) (c.in_err-measured.ensures tells),
+          (c.listed_digests-digests.ensures ∙ ap listed_digests c.hashes-listed.ensures) (c.in_err-measured.ensures tells),
       search rules,
     ),
   ),
@@ -41,8 +41,8 @@ returns-in_err-check_listed g c = λ tells. inr (
       c.in_ok-measured.measured,
       g.F.Files.calls c.measured.new.files,
       subst (λ d. Measures d c.args.input.now (Ok c.in_ok-measured.measured) (g.F.Files.calls c.find_file.new.files) (g.F.Files.calls c.measured.new.files))
-          (c.listed_digests.ensures ∙ ap listed_digests c.hashes.ensures) (c.in_ok-measured.ensures tells),
-      inl (c.in_err-check_listed.field-0.0, (refl, rw c.hashes.ensures at c.in_err-check_listed.ensures), search rules),
+          (c.listed_digests-digests.ensures ∙ ap listed_digests c.hashes-listed.ensures) (c.in_ok-measured.ensures tells),
+      inl (c.in_err-check_listed.field-0.0, (refl, rw c.hashes-listed.ensures at c.in_err-check_listed.ensures), search rules),
     ),
   ),
 )
@@ -60,8 +60,8 @@ returns g c = λ tells. inr (
       c.in_ok-measured.measured,
       g.F.Files.calls c.measured.new.files,
       subst (λ d. Measures d c.args.input.now (Ok c.in_ok-measured.measured) (g.F.Files.calls c.find_file.new.files) (g.F.Files.calls c.measured.new.files))
-          (c.listed_digests.ensures ∙ ap listed_digests c.hashes.ensures) (c.in_ok-measured.ensures tells),
-      inr (c.in_ok-check_listed.field-0, g.F.Files.calls c.measured.new.files, (refl, rw c.hashes.ensures at c.in_ok-check_listed.ensures), (refl, search rules)),
+          (c.listed_digests-digests.ensures ∙ ap listed_digests c.hashes-listed.ensures) (c.in_ok-measured.ensures tells),
+      inr (c.in_ok-check_listed.field-0, g.F.Files.calls c.measured.new.files, (refl, rw c.hashes-listed.ensures at c.in_ok-check_listed.ensures), (refl, search rules)),
     ),
   ),
 )
