@@ -7,7 +7,7 @@ mod find;
 
 use crate::begin::{Begun, begin, in_a_year};
 use crate::find::{Found, find};
-use anyhow::Result;
+use anyhow::{Result, anyhow};
 use std::alloc::{AllocGlobal, Global};
 use std::num::NonZeroU64;
 use std::process::ExitCode;
@@ -119,6 +119,17 @@ fn sign(
     Ok(editor.sign(signers)?)
 }
 
+// Makes a folder, or tells which one can't be made, and what the system said.
+fn make_folder(disk: &mut Disk, folder: &str) -> Result<()> {
+    match disk.make_folders(folder) {
+        Ok(()) => Ok(()),
+        Err(error) => match disk.last_fault() {
+            Some(fault) => Err(anyhow!("{folder} can't be made: {fault}")),
+            None => Err(anyhow::Error::from(error)),
+        },
+    }
+}
+
 // Makes the repository, and writes it: first the files of the targets, then the metadata.
 fn publish(rt: &HostRuntime, words: &Words<'_>) -> Result<()> {
     let alloc = rt.alloc();
@@ -127,7 +138,7 @@ fn publish(rt: &HostRuntime, words: &Words<'_>) -> Result<()> {
     let signed = sign(rt, &mut disk, words, found.as_slice())?;
     let listed = TargetFiles::of_repository(alloc, &signed)?;
     let folder = format!(in alloc; "{}/targets", words.outdir)?;
-    disk.make_folders(folder.as_str())?;
+    make_folder(&mut disk, folder.as_str())?;
     for file in &found {
         let (path, skip) = (file.path.as_str(), PathExists::Skip);
         listed.copy_target(
