@@ -53,8 +53,8 @@ may-begin-more v c h a r (inr w) = inr (stored-more v c h a r w)
 
 -- a chain that may begin with more roots
 pub chain-more : (v : Verifies) (P Q : SignedDoc RootDoc → Type 0) → ((r : SignedDoc RootDoc) → P r → Q r) → (r : SignedDoc RootDoc) → Chain v P r → Chain v Q r
-chain-more v P Q more r (starts r p) = starts r (more r p)
-chain-more v P Q more s (followed r s c n) = followed r s (chain-more v P Q more r c) n
+chain-more v P Q more s (starts r p) = starts r (more r p)
+chain-more v P Q more t (followed r s c n) = followed r s (chain-more v P Q more r c) n
 
 module _ (v : Verifies) (c : CoreDoc) where
   abbrev Walks : List AnswerDoc → WalkDoc → Type 0
