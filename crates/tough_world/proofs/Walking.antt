@@ -15,6 +15,7 @@ use Rattle.tough_vault.specs.Puts.{Puts}
 use Rattle.tough_vault.specs.Step.{Step, Parts, EndsRemoval, Clears, Takes as StepTakes}
 use Rattle.tough_vault.specs.Steps.{time_step, root_step, timestamp_step, snapshot_step, document_step}
 use Rattle.tough_vault.specs.Stored.{Files}
+use Rattle.tough_update.specs.declared.machine.Core.{Core}
 use Rattle.tough_update.specs.Answered.{AnswerDoc}
 use Rattle.tough_update.specs.Machine.{act_at, question_at, question}
 use Rattle.tough_update.specs.Questions.{Question}
