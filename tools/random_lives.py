@@ -12,7 +12,7 @@ from demo_repository import EXPIRES, file_of, key_of, keyid_of, signed
 FAULTS = ("fails after", "lacks memory after", "ends after", "spoils after")
 ROLES = ("root", "timestamp", "snapshot", "targets")
 CHANGES = (("root",), ("root",), ("timestamp",), ("snapshot",), ("timestamp", "snapshot"), ("targets",), ())
-SERVED = {"new": 60, "served before": 10, "other versions": 14, "far versions": 3, "mixed": 4, "expired": 4, "of another root": 5}
+SERVED = {"new": 58, "served before": 10, "older timestamp": 6, "other versions": 12, "far versions": 3, "mixed": 4, "expired": 3, "of another root": 4}
 HANDED_IN = {"the first": 45, "any": 43, "a rival's": 6, "forged": 4, "cut": 2}
 
 
@@ -82,7 +82,8 @@ class Life:
     def __init__(self, seed):
         self.chance = random.Random(seed)
         self.today, self.newest, self.served = 5, 1, []
-        self.consistent, self.keeps = self.likely(0.3), self.chance.choice((0, 0.1, 0.5))
+        self.consistent, self.is_stuck = self.likely(0.3), self.likely(0.08)
+        self.keeps = 0.5 if self.is_stuck else self.chance.choice((0, 0.1, 0.4))
         self.versions = dict.fromkeys(("timestamp", "snapshot", "targets", "extra"), 3)
         self.roots, self.rival = Roots(self, [], []), None
         self.roots.grow({it: ([it], 1) for it in ROLES})
@@ -128,6 +129,8 @@ class Life:
         roles, versions = roots.roles[last - 1], dict(self.versions)
         if what == "of another root":
             roles = self.chance.choice(roots.roles)
+        if what == "older timestamp":
+            versions["timestamp"] = max(1, versions["timestamp"] - self.chance.randint(1, 3))
         if what == "other versions":
             versions = {it: max(1, at + self.chance.randint(-2, 1)) for it, at in versions.items()}
             versions["extra"] *= self.likely(0.8)
@@ -195,7 +198,7 @@ class Life:
 
     def made(self):
         """The case."""
-        if self.likely(0.06):
+        if self.is_stuck:
             self.case["stuck"] = made("timestamp", ["timestamp"], version=2, meta={"snapshot.json": {"version": 2}})
         if self.likely(0.06):
             junk = {"root.json": self.roots.text(9, self.roots.roles[0], ["forged"]), "timestamp.json": "{", "snapshot.json": "{"}
