@@ -12,7 +12,9 @@ from demo_repository import EXPIRES, file_of, key_of, keyid_of, signed
 FAULTS = ("fails after", "lacks memory after", "ends after", "spoils after")
 ROLES = ("root", "timestamp", "snapshot", "targets")
 CHANGES = (("root",), ("root",), ("timestamp",), ("snapshot",), ("timestamp", "snapshot"), ("targets",), ())
-SERVED = {"new": 58, "served before": 10, "older timestamp": 6, "other versions": 12, "far versions": 3, "mixed": 4, "expired": 3, "of another root": 4}
+SERVED = {
+    "new": 58, "served before": 10, "older timestamp": 6, "other versions": 12, "far versions": 3, "mixed": 4, "expired": 3, "of another root": 4
+}
 HANDED_IN = {"the first": 45, "any": 43, "a rival's": 6, "forged": 4, "cut": 2}
 
 
@@ -109,7 +111,10 @@ class Life:
         """Targets, snapshot and timestamp of these versions, signed by the keys of these roles. One of them may be expired, and seldom one has
         another version than is listed for it."""
         listed = {it: versions[it] + self.likely(0.01) for it in versions}
-        members = {it: {"version": versions[it], "expires": day(1) if it == expired else self.expiry(), "note": self.chance.randrange(1000)} for it in ROLES[1:]}
+        members = {}
+        for it in ROLES[1:]:
+            expires = day(1) if it == expired else self.expiry()
+            members[it] = {"version": versions[it], "expires": expires, "note": self.chance.randrange(1000)}
         targets = made("targets", roles["targets"][0], targets={}, **members["targets"])
         meta = {"targets.json": {"version": listed["targets"], **file_of(targets.encode())}}
         if versions["extra"]:
