@@ -1,10 +1,10 @@
-"""A small repository by the scheme for demonstrations, with targets of any bytes: what tools/kills, tools/race and tools/refusals serve and load."""
+"""Documents by the scheme for demonstrations, and a small repository with targets of any bytes: what tools/kills, tools/race, tools/refusals and
+tools/lives serve and load."""
 import hashlib
 import json
 
 EXPIRES = "2999-12-31T23:59:59Z"
 PUBLIC = hashlib.sha256(b"the key of the repository").digest()
-KEY = {"keytype": "ed25519", "keyval": {"public": PUBLIC.hex()}, "scheme": "ed25519"}
 
 
 def canonical(value):
@@ -16,14 +16,23 @@ def digest(data):
     return hashlib.sha256(data).hexdigest()
 
 
-KEYID = digest(canonical(KEY))
+def key_of(public):
+    """A key, by its public bytes."""
+    return {"keytype": "ed25519", "keyval": {"public": public.hex()}, "scheme": "ed25519"}
 
 
-def signed(kind, **members):
-    """The bytes of a document, of version 1 if the members say nothing else."""
+def keyid_of(public):
+    return digest(canonical(key_of(public)))
+
+
+KEY, KEYID = key_of(PUBLIC), keyid_of(PUBLIC)
+
+
+def signed(kind, by=(PUBLIC,), **members):
+    """The bytes of a document, of version 1 if the members say nothing else, signed by the keys of these public bytes."""
     body = {"_type": kind, "spec_version": "1.0.0", "version": 1, "expires": EXPIRES, **members}
-    sig = digest(PUBLIC + canonical(body))
-    return json.dumps({"signed": body, "signatures": [{"keyid": KEYID, "sig": sig}]}, indent=1).encode()
+    signatures = [{"keyid": keyid_of(it), "sig": digest(it + canonical(body))} for it in by]
+    return json.dumps({"signed": body, "signatures": signatures}, indent=1).encode()
 
 
 def file_of(data):
