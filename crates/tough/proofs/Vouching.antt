@@ -14,4 +14,4 @@ come {P = P} {a = a} is h law = law a (subst (λ x. IfOk x P) is h)
 
 -- documents that an update ends with are vouched for, where what has expired is refused
 pub vouched : (s : SettingsDoc) (d : LoadedDoc) (answers : List AnswerDoc) → s.enforced ≡ true → runs.Loaded demo_verifies (first_core s) answers d → IsVouchedFor d
-vouched s d answers on loaded = record { root = s.root; trusted = loaded.trusted; unexpired = loaded.unexpired on }
+vouched s d answers on loaded = record { update = first_core s; answers = answers; trusted = loaded.trusted; unexpired = loaded.unexpired on }

@@ -3,14 +3,18 @@ use Rattle.std.specs.Prelude.{◌≡◌, ℕ, List, [], ◌∷◌, ◌++◌, Ok,
 use Rattle.tough_names.specs.Named.{clean}
 use Rattle.tough_keys.specs.Demo.{demo_verifies}
 use Rattle.tough_schema.specs.Whole.{top_doc}
-use Rattle.tough_update.specs.Stages.{LoadedDoc}
+use Rattle.tough_update.specs.Answered.{AnswerDoc}
+use Rattle.tough_update.specs.Runs.{WasStored}
+use Rattle.tough_update.specs.Stages.{LoadedDoc, CoreDoc}
 use Rattle.tough_update.specs.Trusted.{Trusted, Unexpired}
 
--- Documents that are trusted from these bytes for the scheme of demonstrations, none of which had expired when the load began.
+-- Documents that are trusted for the scheme of demonstrations, from the root that was handed in or from one that the store gave, and none of
+-- which had expired when the load began.
 pub record IsVouchedFor (l : LoadedDoc) : Type 0 where
-  -- the root that was handed in
-  pub root : List ℕ
-  pub trusted : Trusted demo_verifies root l.known l.targets
+  -- the update, and what it was answered
+  pub update : CoreDoc
+  pub answers : List AnswerDoc
+  pub trusted : Trusted demo_verifies update.setting.trusted (WasStored demo_verifies update answers) l.known l.targets
   pub unexpired : Unexpired l.known l.targets
 
 -- a role and its version
