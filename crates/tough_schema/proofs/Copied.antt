@@ -1,6 +1,6 @@
 -- A copy of a document with those of its roles, level by level.
 use Rattle.std.proofs.Common.{◌≡◌, ℕ, ◌+◌, ◌<◌, ◌≤◌, arith, List, [], ◌∷◌, ◌++◌, map, take, drop, length, reverse, Bor, Option, Some, None, option_map, refl, ap, sym, ◌∙◌, append_assoc, append-nil, length-append}
-use Rattle.std.proofs.lemmas.List.{map-append, length-map, reverse-append, reverse-reverse, take_at, drop_at, take_all, drop_all}
+use Rattle.std.proofs.lemmas.List.{map-append, length-map, reverse-append, take_at, drop_at, take_all, drop_all}
 use Rattle.tough_roles.specs.Root.{keys_doc}
 use Rattle.tough_roles.specs.Signature.{signatures_doc}
 use Rattle.tough_roles.specs.declared.signed.Signed.{Signed}
@@ -13,7 +13,7 @@ use Rattle.tough_schema.specs.declared.delegations.DelegatedRole.{DelegatedRole,
 use Rattle.tough_schema.specs.declared.delegations.Delegations.{Delegations, out-Delegations, roll-Delegations}
 use Rattle.tough_schema.specs.declared.targets.DelegatedTargets.{DelegatedTargets, out-DelegatedTargets}
 use Rattle.tough_schema.specs.declared.targets.Targets.{Targets, out-Targets}
-use Rattle.tough_schema.proofs.Belows.{count-put, put-last}
+use Rattle.tough_schema.proofs.Belows.{put-last}
 use Rattle.tough_schema.proofs.lemmas.Wholes.{DelegationsFields, delegations-roll, delegations-out, tree-leaf, tree-inner, role-held, held-below}
 
 -- delegations of the same keys and roles

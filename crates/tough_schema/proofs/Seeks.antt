@@ -1,5 +1,5 @@
 -- Delegated roles by name, a step at a time.
-use Rattle.std.proofs.Common.{◌≡◌, ℕ, zero, suc, ◌+◌, ◌<◌, ◌≤◌, arith, List, [], ◌∷◌, ◌++◌, drop, length, get_or, Bor, Bool, true, false, Option, Some, None, option_map, cond, if◌then◌else◌, string_bytes, refl, sym, ap, subst, ◌∙◌, append-nil, append_assoc}
+use Rattle.std.proofs.Common.{◌≡◌, ℕ, ◌+◌, ◌<◌, arith, List, [], ◌∷◌, ◌++◌, drop, length, get_or, Bor, Bool, true, false, Option, Some, None, option_map, cond, if◌then◌else◌, string_bytes, refl, sym, ap, subst, ◌∙◌, append-nil, append_assoc}
 use Rattle.std.specs.Option.{option_or}
 use Rattle.std.specs.Str.{bytes_eq}
 use Rattle.tough_json.proofs.lemmas.Write.{some-inj}
@@ -230,21 +230,6 @@ below-fewer ls one two others below roles r s f g h t b =
     let last : list_work two ≡ list_work one + work below.now = ap list_work g ∙ list_work-push one below in
     let first : list_work one ≡ list_work ls + work others.now = ap list_work f ∙ list_work-push ls others in
     omega (arith, all, last, first, ap count b)
-
--- ---- further down
-
-count-drop : (rs : List DelegatedRole) (i : ℕ) → count (role_branches (drop i rs)) ≤ count (role_branches rs)
-count-drop rs zero = omega arith
-count-drop [] (suc i) = omega arith
-count-drop (x ∷ rs) (suc i) = omega (arith, count-drop rs i, count-put (role_tree x) (role_branches rs))
-
--- below one of the roles there are fewer
-pub count-below : (rs : List DelegatedRole) (i : ℕ) (r : DelegatedRole) (s : Signed DelegatedTargets) → i < length rs → r ≡ get_or rs i r → (out-DelegatedRole r).targets ≡ Some s
-    → count (branches_in (tree_doc (out-DelegatedTargets s.signed).targets)) < count (role_branches rs)
-count-below rs i r s h e t =
-    let here : count (role_branches (drop i rs)) ≡ 1 + (count (branches_under (role_tree r).1) + count (role_branches (drop (i + 1) rs))) =
-    ap count (branches-drop rs i r h e) ∙ count-put (role_tree r) (role_branches (drop (i + 1) rs)) in
-    omega (arith, here, ap count (under-some r s t), count-drop rs i)
 
 -- ---- levels
 

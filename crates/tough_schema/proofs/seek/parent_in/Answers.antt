@@ -1,4 +1,4 @@
-use Rattle.std.proofs.Common.{◌≡◌, Option, option_map, Bor, sym, ap, ◌∙◌, arith}
+use Rattle.std.proofs.Common.{Option, option_map, Bor, sym, ap, ◌∙◌, arith}
 use Rattle.std.specs.Option.{option_or}
 use Rattle.tough_schema.specs.Whole.{delegations_tree}
 use Rattle.tough_schema.specs.declared.delegations.Delegations.{Delegations}

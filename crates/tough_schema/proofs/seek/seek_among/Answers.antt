@@ -1,4 +1,4 @@
-use Rattle.std.proofs.Common.{◌≡◌, Option, sym, ap, ◌∙◌, arith}
+use Rattle.std.proofs.Common.{Option, sym, ap, ◌∙◌, arith}
 use Rattle.tough_schema.specs.declared.seek.Seen.{Seen}
 use Rattle.tough_schema.specs.Seek.{missing}
 use Rattle.tough_schema.specs.Seeking.{seen_or, sought_through, list_work}
