@@ -1,24 +1,29 @@
 -- The strays of a document, of roles one after another, and of a role.
-use Rattle.std.proofs.Common.{◌≡◌, ℕ, ◌+◌, ◌-◌, ◌<◌, arith, List, [], ◌∷◌, ◌++◌, length, drop, get_or, Bool, true, false, ◌&&◌, not, Bor, Some, None, option_map, String, Global, string_bytes, refl, sym, ap, ◌∙◌, append-nil}
-use Rattle.std.proofs.lemmas.List.Folds.{list_all-append, list_all_at}
+use Rattle.std.proofs.Common.{◌≡◌, ◌+◌, ◌-◌, ◌<◌, arith, List, [], ◌∷◌, ◌++◌, length, get_or, Bool, true, false, ◌&&◌, not, Bor, Some, None, option_map, String, Global, string_bytes, refl, sym, ap, ◌∙◌, append-nil, append_assoc, length-append}
+use Rattle.std.proofs.lemmas.List.{take_at}
+use Rattle.std.proofs.lemmas.List.Folds.{list_all_at}
 use Rattle.std.specs.List.{list_all}
 use Rattle.std.specs.BTreeSet.{BTreeSet, Updates}
 use Rattle.std.specs.String.{string_cmp}
 use Rattle.tough_names.specs.Named.{Named}
 use Rattle.tough_roles.specs.declared.signed.Signed.{Signed}
 use Rattle.tough_schema.specs.declared.delegations.DelegatedRole.{DelegatedRole, out-DelegatedRole}
-use Rattle.tough_schema.specs.declared.delegations.Delegations.{Delegations, out-Delegations}
+use Rattle.tough_schema.specs.declared.strays.Step.{Step}
 use Rattle.tough_schema.specs.declared.targets.DelegatedTargets.{DelegatedTargets, out-DelegatedTargets}
-use Rattle.tough_schema.specs.declared.targets.Targets.{Targets, out-Targets}
+use Rattle.tough_schema.specs.declared.targets.Targets.{out-Targets}
 use Rattle.tough_schema.specs.Targets.{listing_doc}
+use Rattle.tough_schema.specs.Tree.{Listing}
 use Rattle.tough_schema.specs.Paths.{paths_doc}
+use Rattle.tough_schema.specs.Passing.{Pass, pass, passed, passed_at, but_last, stepped, all_stepped, weight, weights}
 use Rattle.tough_schema.specs.Matching.{paths_match}
-use Rattle.tough_schema.specs.Whole.{Branches, RoleTree, HeldDoc, put_branch, tree_doc, role_tree, role_branches, held_doc}
+use Rattle.tough_schema.specs.Below.{branches_in}
+use Rattle.tough_schema.specs.Whole.{TreeDoc, tree, Branches, RoleTree, HeldDoc, put_branch, listing_of, tree_doc, role_tree, role_branches, held_doc}
 use Rattle.tough_schema.specs.Search.{Names, add, matches}
 use Rattle.tough_schema.specs.Visited.{names_in}
-use Rattle.tough_schema.specs.Strays.{Test, narrowed, strays_of, names_past, names_below, strays, strays_below, names_at, strays_at, all_match, way}
+use Rattle.tough_schema.specs.Strays.{Test, narrowed, strays_of, names_past, names_below, strays, strays_below, names_at, strays_at, all_match, way, names_of}
+use Rattle.tough_schema.proofs.Listings.{listing-tree}
 use Rattle.tough_schema.proofs.lemmas.Walks.{names_in-insert}
-use Rattle.tough_schema.proofs.lemmas.Wholes.{tree-leaf, tree-inner, role-named, role-out, role-held, held-below, branches-drop}
+use Rattle.tough_schema.proofs.lemmas.Wholes.{role-named, role-out, role-held, held-below}
 
 -- ---- roles one after another
 
@@ -31,28 +36,13 @@ strays-put seen test (e, None) bs = refl
 strays-put seen test (e, Some h) bs =
     ap (λ l. l ++ strays (names_below (add e.name seen) h.below) test bs) (sym (append-nil (strays_below (add e.name seen) (narrowed seen e test) h.below)))
 
-pub past-next : (seen : Names) (rs : List DelegatedRole) (i : ℕ) (r : DelegatedRole) → i < length rs → r ≡ get_or rs i r
-    → names_past seen (role_branches (drop i rs)) ≡ names_past (names_at seen (role_tree r)) (role_branches (drop (i + 1) rs))
-past-next seen rs i r h e = ap (names_past seen) (branches-drop rs i r h e) ∙ past-put seen (role_tree r) (role_branches (drop (i + 1) rs))
-
-pub strays-next : (seen : Names) (test : Test) (rs : List DelegatedRole) (i : ℕ) (r : DelegatedRole) → i < length rs → r ≡ get_or rs i r
-    → strays seen test (role_branches (drop i rs)) ≡ strays_at seen test (role_tree r) ++ strays (names_at seen (role_tree r)) test (role_branches (drop (i + 1) rs))
-strays-next seen test rs i r h e = ap (strays seen test) (branches-drop rs i r h e) ∙ strays-put seen test (role_tree r) (role_branches (drop (i + 1) rs))
-
 -- ---- a document
 
-pub below-leaf : (seen : Names) (t : Targets) → (out-Targets t).delegations ≡ None → names_below seen (tree_doc t) ≡ seen
-below-leaf seen t h = ap (names_below seen) (tree-leaf t h)
+below-in : (seen : Names) (t : TreeDoc) → names_below seen t ≡ names_past seen (branches_in t)
+below-in seen (tree o bs) = refl
 
-pub below-inner : (seen : Names) (t : Targets) (g : Delegations) → (out-Targets t).delegations ≡ Some g → names_below seen (tree_doc t) ≡ names_past seen (role_branches (out-Delegations g).roles.items)
-below-inner seen t g h = ap (names_below seen) (tree-inner t g h)
-
-pub strays-leaf : (seen : Names) (test : Test) (t : Targets) → (out-Targets t).delegations ≡ None → strays_below seen test (tree_doc t) ≡ strays_of test (listing_doc (out-Targets t).targets.entries)
-strays-leaf seen test t h = ap (strays_below seen test) (tree-leaf t h) ∙ append-nil (strays_of test (listing_doc (out-Targets t).targets.entries))
-
-pub strays-inner : (seen : Names) (test : Test) (t : Targets) (g : Delegations) → (out-Targets t).delegations ≡ Some g
-    → strays_below seen test (tree_doc t) ≡ strays_of test (listing_doc (out-Targets t).targets.entries) ++ strays seen test (role_branches (out-Delegations g).roles.items)
-strays-inner seen test t g h = ap (strays_below seen test) (tree-inner t g h)
+strays-in : (seen : Names) (test : Test) (t : TreeDoc) → strays_below seen test t ≡ strays_of test (listing_of t) ++ strays seen test (branches_in t)
+strays-in seen test (tree o bs) = refl
 
 -- ---- a role
 
@@ -98,43 +88,87 @@ strays_at-inner set new test inner r s e h i =
 
 -- ---- the way to its document
 
-with-one : (f m o l : Bool) → (f && (m && (o && l))) ≡ ((o && f) && (l && (m && true)))
-with-one true true true true = refl
-with-one true true true false = refl
-with-one true true false l = refl
-with-one true false true true = refl
-with-one true false true false = refl
-with-one true false false l = refl
-with-one false m true l = refl
-with-one false m false l = refl
+pub left-last : (r : Bor DelegatedRole) (above with_it : List (Bor DelegatedRole)) → with_it ≡ above ++ r ∷ [] → but_last with_it ≡ above
+left-last r above with_it w =
+    let size : length above ≡ length (above ++ r ∷ []) - 1 = omega (arith, length-append above (r ∷ [])) in
+    ap but_last w ∙ take_at above (r ∷ []) (length (above ++ r ∷ []) - 1) size
 
-without-one : (f m o l : Bool) → (l ≡ true → m ≡ true) → (f && (m && (o && l))) ≡ ((o && f) && l)
-without-one true true true true h = refl
-without-one true true true false h = refl
-without-one true true false l h = refl
-without-one true false true true h = h refl
-without-one true false true false h = refl
-without-one true false false l h = refl
-without-one false m true l h = refl
-without-one false m false l h = refl
+first-one : (f m o l : Bool) → (f && (m && (o && l))) ≡ (m && ((o && f) && l))
+first-one true true true l = refl
+first-one true true false l = refl
+first-one true false o l = refl
+first-one false true true l = refl
+first-one false true false l = refl
+first-one false false o l = refl
 
-pub way-pushed : (seen : Names) (r : Bor DelegatedRole) (is_open first : Bool) (above with_it : List (Bor DelegatedRole)) → first ≡ not (seen (role_tree r.now).0.name) → with_it ≡ above ++ r ∷ []
-    → narrowed seen (role_tree r.now).0 (way is_open above) ≡ way (is_open && first) with_it
-way-pushed seen r is_open first above with_it f w =
-    let at : (name : Named) → narrowed seen (role_tree r.now).0 (way is_open above) name ≡ way (is_open && first) with_it name = λ name.
-    ap (λ (b : Bool). b && (matches name (role_tree r.now).0 && (is_open && all_match above name))) (sym f)
-    ∙ with-one first (matches name (role_tree r.now).0) is_open (all_match above name)
-    ∙ ap (λ (b : Bool). (is_open && first) && b) (sym (list_all-append (λ (x : Bor DelegatedRole). matches name (role_tree x.now).0) above (r ∷ [])))
-    ∙ ap (λ (rs : List (Bor DelegatedRole)). (is_open && first) && all_match rs name) (sym w) in
+way-narrowed : (seen : Names) (r : RoleTree) (is_open first : Bool) (above with_it : List (Bor DelegatedRole)) → first ≡ not (seen r.0.name)
+    → ((name : Named) (wide : Bool) → way wide with_it name ≡ (matches name r.0 && way wide above name)) → narrowed seen r.0 (way is_open above) ≡ way (is_open && first) with_it
+way-narrowed seen r is_open first above with_it f h =
+    let at : (name : Named) → narrowed seen r.0 (way is_open above) name ≡ way (is_open && first) with_it name = λ name.
+    ap (λ (b : Bool). b && (matches name r.0 && (is_open && all_match above name))) (sym f)
+    ∙ first-one first (matches name r.0) is_open (all_match above name) ∙ sym (h name (is_open && first)) in
     λ i name. at name i
 
-pub way-same : (seen : Names) (r : DelegatedRole) (is_open first : Bool) (above : List (Bor DelegatedRole)) → first ≡ not (seen (role_tree r).0.name) → ((name : Named) → all_match above name ≡ true → matches name (role_tree r).0 ≡ true)
-    → narrowed seen (role_tree r).0 (way is_open above) ≡ way (is_open && first) above
-way-same seen r is_open first above f h =
-    let at : (name : Named) → narrowed seen (role_tree r).0 (way is_open above) name ≡ way (is_open && first) above name = λ name.
-    ap (λ (b : Bool). b && (matches name (role_tree r).0 && (is_open && all_match above name))) (sym f)
-    ∙ without-one first (matches name (role_tree r).0) is_open (all_match above name) (h name) in
-    λ i name. at name i
+-- ---- steps
+
+pub step-push : (steps : List Step) (s : Step) (p : Pass) → all_stepped (steps ++ s ∷ []) p ≡ all_stepped steps (stepped s p)
+step-push [] s p = refl
+step-push (x ∷ steps) s p = ap (stepped x) (step-push steps s p)
+
+-- the step that is taken next
+pub step-taken : (steps all : List Step) (s : Step) (p : Pass) → all ≡ steps ++ s ∷ [] → all_stepped steps (stepped s p) ≡ all_stepped all p
+step-taken steps all s p h = sym (ap (λ (l : List Step). all_stepped l p) h ∙ step-push steps s p)
+
+pub weights-push : (steps : List Step) (s : Step) → weights (steps ++ s ∷ []) ≡ weights steps + weight s
+weights-push [] s = omega arith
+weights-push (x ∷ steps) s = omega (arith, weights-push steps s)
+
+same-pass : (above : List (Bor DelegatedRole)) (seen past : Names) (found more : List Named) → seen ≡ past → found ≡ more
+    → (let x : Pass = record { above = above; seen = seen; found = found } in x) ≡ record { above = above; seen = past; found = more }
+same-pass above seen past found more s f =
+    ap (λ (n : Names). let x : Pass = record { above = above; seen = n; found = found } in x) s ∙ ap (λ (l : List Named). let x : Pass = record { above = above; seen = past; found = l } in x) f
+
+pub passed-none : (is_open : Bool) (p : Pass) → passed [] is_open p ≡ p
+passed-none is_open p = same-pass p.above p.seen p.seen (p.found ++ []) p.found refl (append-nil p.found)
+
+pub passed-next : (r : DelegatedRole) (rs : List DelegatedRole) (is_open : Bool) (p : Pass) → passed rs is_open (passed_at (role_tree r) is_open p) ≡ passed (r ∷ rs) is_open p
+passed-next r rs is_open p =
+    let test = way is_open p.above in
+    let bs = role_branches rs in
+    same-pass p.above (names_past (names_at p.seen (role_tree r)) bs) (names_past p.seen (role_branches (r ∷ rs)))
+    ((p.found ++ strays_at p.seen test (role_tree r)) ++ strays (names_at p.seen (role_tree r)) test bs) (p.found ++ strays p.seen test (role_branches (r ∷ rs)))
+    (sym (past-put p.seen (role_tree r) bs))
+    (append_assoc p.found (strays_at p.seen test (role_tree r)) (strays (names_at p.seen (role_tree r)) test bs) ∙ ap (λ (l : List Named). p.found ++ l) (sym (strays-put p.seen test (role_tree r) bs)))
+
+-- past a role without a document
+pub bare-passed : (above : List (Bor DelegatedRole)) (set new : BTreeSet (String Global)) (found : List (Bor Named)) (r : DelegatedRole) (is_open : Bool) → add (role_tree r).0.name (names_in set) ≡ names_in new → (out-DelegatedRole r).targets ≡ None
+    → pass above new found ≡ passed_at (role_tree r) is_open (pass above set found)
+bare-passed above set new found r is_open e h =
+    let test = way is_open above in
+    same-pass above (names_in new) (names_at (names_in set) (role_tree r)) (names_of found) (names_of found ++ strays_at (names_in set) test (role_tree r))
+    (at-leaf set new r e h) (sym (ap (λ (l : List Named). names_of found ++ l) (strays_at-leaf (names_in set) test r h) ∙ append-nil (names_of found)))
+
+-- past a role with one
+pub document-passed : (above with_it : List (Bor DelegatedRole)) (set new : BTreeSet (String Global)) (found more : List (Bor Named)) (r : DelegatedRole) (s : Signed DelegatedTargets) (is_open first : Bool) (below : List DelegatedRole)
+    → add (role_tree r).0.name (names_in set) ≡ names_in new → (out-DelegatedRole r).targets ≡ Some s → first ≡ not (names_in set (role_tree r).0.name)
+    → ((name : Named) (wide : Bool) → way wide with_it name ≡ (matches name (role_tree r).0 && way wide above name))
+    → role_branches below ≡ branches_in (tree_doc (out-DelegatedTargets s.signed).targets)
+    → names_of more ≡ names_of found ++ strays_of (way (is_open && first) with_it) (listing_doc (out-Targets (out-DelegatedTargets s.signed).targets).targets.entries)
+    → (let x : Pass = record { above = above; seen = names_past (names_in new) (role_branches below); found = names_of more ++ strays (names_in new) (way (is_open && first) with_it) (role_branches below) } in x)
+    ≡ passed_at (role_tree r) is_open (pass above set found)
+document-passed above with_it set new found more r s is_open first below e h f w b m =
+    let doc = (out-DelegatedTargets s.signed).targets in
+    let t = tree_doc doc in
+    let n = names_in new in
+    let inner = way (is_open && first) with_it in
+    let own = strays_of inner (listing_doc (out-Targets doc).targets.entries) in
+    let rest = strays n inner (branches_in t) in
+    let narrow = way-narrowed (names_in set) (role_tree r) is_open first above with_it f w in
+    same-pass above (names_past n (role_branches below)) (names_at (names_in set) (role_tree r)) (names_of more ++ strays n inner (role_branches below)) (names_of found ++ strays_at (names_in set) (way is_open above) (role_tree r))
+    (ap (names_past n) b ∙ sym (below-in n t) ∙ sym (at-inner set new r s e h))
+    (ap (λ (bs : Branches). names_of more ++ strays n inner bs) b ∙ ap (λ (l : List Named). l ++ rest) m ∙ append_assoc (names_of found) own rest
+    ∙ ap (λ (l : Listing). names_of found ++ (strays_of inner l ++ rest)) (sym (listing-tree doc)) ∙ ap (λ (l : List Named). names_of found ++ l) (sym (strays-in n inner t))
+    ∙ ap (λ (l : List Named). names_of found ++ l) (sym (strays_at-inner set new (way is_open above) inner r s e h narrow)))
 
 -- ---- one path set
 

@@ -11,7 +11,8 @@ use Rattle.tough_schema.specs.declared.targets.Targets.{Targets, out-Targets, ro
 use Rattle.tough_schema.specs.Tree.{Entry}
 use Rattle.tough_schema.specs.Whole.{TreeDoc, tree, Branches, no_branches, HeldDoc, RoleTree, DelegationsTree, put_branch, branches_from, branches_of, tree_doc, delegations_tree, role_tree, held_doc, entries_in}
 use Rattle.tough_schema.specs.Seek.{found, seek_in, document_of}
-use Rattle.tough_schema.specs.Update.{document_sought, given, updated_in, updated, listed_roles, needed, needed_at, documents_for, all_given, roles_at, roles_within, all_with, with_documents}
+use Rattle.tough_schema.specs.Update.{document_sought, given, updated_in, updated, listed_roles, needed, needed_at, documents_for, all_given, all_with, with_documents}
+use Rattle.tough_schema.specs.Below.{roles_at, roles_within}
 use Rattle.tough_schema.proofs.lemmas.Wholes.{own, tree-roll, tree-out, tree-under, delegations-roll, delegations-out, role-held, entries-put}
 
 -- ---- the document of the role of a name

@@ -12,8 +12,11 @@ pub mod Visited
 pub mod Verify
 pub mod Entries
 pub mod Strays
+pub mod Passing
 pub mod Gather
+pub mod Below
 pub mod Numbered
+pub mod Adding
 pub mod Nodes
 pub mod Found
 pub mod Rest

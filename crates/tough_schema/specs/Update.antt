@@ -3,9 +3,6 @@ use Rattle.std.specs.Prelude.{ℕ, List, [], ◌∷◌, ◌++◌, map, Option, S
 use Rattle.tough_schema.specs.Tree.{Entry}
 use Rattle.tough_schema.specs.Whole.{TreeDoc, tree, Branches, no_branches, unloaded, loaded, HeldDoc, RoleTree, put_branch, entries_in}
 use Rattle.tough_schema.specs.Seek.{seek_in, document_of}
-use Rattle.tough_schema.specs.declared.delegations.DelegatedRole.{DelegatedRole}
-use Rattle.tough_schema.specs.declared.delegations.Delegations.{Delegations, out-Delegations}
-use Rattle.tough_schema.specs.declared.targets.Targets.{Targets, out-Targets}
 
 -- the document of the role that is sought by the name, if it has one
 abbrev pub document_sought : List ℕ → TreeDoc → Option HeldDoc
@@ -47,13 +44,6 @@ abbrev pub all_given : List RoleTree → List (Option HeldDoc) → List RoleTree
 all_given [] hs = []
 all_given (r ∷ rs) [] = r ∷ all_given rs []
 all_given (r ∷ rs) (h ∷ hs) = given r h ∷ all_given rs hs
-
-abbrev pub roles_at : Option Delegations → List DelegatedRole
-roles_at None = []
-roles_at (Some g) = (out-Delegations g).roles.items
-
-abbrev pub roles_within : Targets → List DelegatedRole
-roles_within t = roles_at (out-Targets t).delegations
 
 -- each role of a list with the document at its place, if there is one
 abbrev pub all_with : List (Option HeldDoc) → Branches → Branches

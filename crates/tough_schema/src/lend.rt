@@ -8,52 +8,62 @@ ghost use Rattle.tough_schema.specs.Seeking.{step_at, role_at, IsPlace};
 use crate::delegations::DelegatedRole;
 use crate::seek::{Seen, seek_at};
 use crate::targets::{DelegatedTargets, Targets};
-use std::alloc::Global;
+use std::alloc::{AllocError, Global};
 use tough_roles::{Error, Signed};
 
 // The place of the role of the list that has the name, or below which one has it.
-fn place_of(roles: &[DelegatedRole], name: &str) -> Option<usize>
-    ensures there { IfSome result (λ i. IsPlace name.now roles.now i) }
-    ensures none { IfNone result (role_of (seek name.now (role_branches roles.now)) ≡ None) }
+fn place_of(alloc: Global, roles: &[DelegatedRole], name: &str) -> Result<Option<usize>, AllocError>
+    ensures there { IfOk result (λ o. IfSome o (λ i. IsPlace name.now roles.now i)) }
+    ensures none { IfOk result
+        (λ o. IfNone o (role_of (seek name.now (role_branches roles.now)) ≡ None)) }
 {
     for (i, role) in roles.iter().enumerate() {
-        match seek_at(role, name) {
-            Some(Seen::Found(_)) => return Some(i),
-            Some(_) => return None,
+        match seek_at(alloc, role, name)? {
+            Some(Seen::Found(_)) => return Ok(Some(i)),
+            Some(_) => return Ok(None),
             None => {}
         }
     }
-    None
+    Ok(None)
 }
 
+// The role of the name, for writing.
 #[cycle(lend)]
-fn lend_in<'a>(document: &'a mut Targets, name: &str) -> Option<&'a mut DelegatedRole>
-    ensures { option_map (λ r. role_tree r.now) result
-        ≡ role_of (seek_in name.now (tree_doc document.old)) }
+fn lend_in<'a>(
+    alloc: Global,
+    document: &'a mut Targets,
+    name: &str,
+) -> Result<Option<&'a mut DelegatedRole>, AllocError>
+    ensures { IfOk result (λ o. option_map (λ r. role_tree r.now) o
+        ≡ role_of (seek_in name.now (tree_doc document.old))) }
 {
     let Some(delegations) = &mut document.delegations else {
-        return None;
+        return Ok(None);
     };
-    let Some(i) = place_of(&delegations.roles, name) else {
-        return None;
+    let Some(i) = place_of(alloc, &delegations.roles, name)? else {
+        return Ok(None);
     };
     match delegations.roles.get_mut(i) {
-        Some(role) => lend_at(role, name),
-        None => None,
+        Some(role) => lend_at(alloc, role, name),
+        None => Ok(None),
     }
 }
 
 #[cycle(lend)]
-fn lend_at<'a>(role: &'a mut DelegatedRole, name: &str) -> Option<&'a mut DelegatedRole>
-    ensures { option_map (λ r. role_tree r.now) result
-        ≡ role_at (step_at name.now (role_tree role.old)) }
+fn lend_at<'a>(
+    alloc: Global,
+    role: &'a mut DelegatedRole,
+    name: &str,
+) -> Result<Option<&'a mut DelegatedRole>, AllocError>
+    ensures { IfOk result (λ o. option_map (λ r. role_tree r.now) o
+        ≡ role_at (step_at name.now (role_tree role.old))) }
 {
     if role.name.as_str() == name {
-        return Some(role);
+        return Ok(Some(role));
     }
     match &mut role.targets {
-        Some(document) => lend_in(&mut document.signed.targets, name),
-        None => None,
+        Some(document) => lend_in(alloc, &mut document.signed.targets, name),
+        None => Ok(None),
     }
 }
 
@@ -72,7 +82,7 @@ impl Targets {
         if let Err(error) = self.delegated_role(alloc, name) {
             return Err(error);
         }
-        match lend_in(self, name) {
+        match lend_in(alloc, self, name)? {
             Some(role) => Ok(role),
             None => Err(Error::NoTargets),
         }

@@ -1,6 +1,7 @@
 //! Signed documents, targets and delegations among them, their verification, and queries of a tree of targets.
 #![tactic(auto)]
 
+mod below;
 mod copy;
 mod delegations;
 mod edit;

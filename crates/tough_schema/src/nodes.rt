@@ -1,14 +1,19 @@
 //! A tree as numbered nodes: a document, and its delegated roles in preorder.
 
-ghost use Rattle.std.specs.Prelude.{◌≡◌, ◌++◌, ◌<◌, length, slice_set, is_some, option_map, IfOk, OnOk};
-ghost use Rattle.tough_schema.specs.Whole.{tree_doc, role_tree, role_branches, listing_of};
-ghost use Rattle.tough_schema.specs.Preorder.{preorder, preorder_below};
+ghost use Rattle.std.specs.Prelude.{◌≡◌, ◌+◌, ◌++◌, ◌<◌, length, slice_set, is_some, option_map, IfOk, OnOk};
+ghost use Rattle.tough_schema.specs.Whole.{tree_doc, role_tree, listing_of};
+ghost use Rattle.tough_schema.specs.Entries.{entries};
+ghost use Rattle.tough_schema.specs.Gather.{shown};
+ghost use Rattle.tough_schema.specs.Preorder.{preorder_below};
 ghost use Rattle.tough_schema.specs.Search.{listed};
 ghost use Rattle.tough_schema.specs.Visited.{names_in};
-ghost use Rattle.tough_schema.specs.Numbered.{spans, node_spans, inside, preorder_at};
+ghost use Rattle.tough_schema.specs.Numbered.{spans, node_spans};
+ghost use Rattle.tough_schema.specs.Below.{work};
+ghost use Rattle.tough_schema.specs.Adding.{added, all_stepped, weights};
 ghost use Rattle.tough_schema.specs.Found.{lists, document_of};
 ghost use Rattle.tough_schema.specs.Rest.{sight, names_then, end_then, past_to, into_from, course_then, IsOn};
 
+use crate::below::{roles_of, roles_under};
 use crate::delegations::DelegatedRole;
 use crate::target::Target;
 use crate::targets::Targets;
@@ -41,67 +46,82 @@ pub struct Found {
     pub tests: u64,
 }
 
-// Adds the roles below a document.
-#[cycle(number)]
-fn add_below<'a>(document: &'a Targets, found: &mut Vec<Node<'a>>) -> Result<(), AllocError>
+// What is still to do until all roles of a tree are nodes.
+#[derive(Drop)]
+enum Step<'a> {
+    // To add these roles, each with what is below it before the next.
+    Add(&'a [DelegatedRole]),
+    // To close the role at this place, below which all is added.
+    Close(&'a DelegatedRole, usize),
+}
+
+// Adds the first of these roles. What is below it is to be added then, and the others.
+fn add_first<'a>(
+    roles: &'a [DelegatedRole],
+    steps: &mut Vec<Step<'a>>,
+    found: &mut Vec<Node<'a>>,
+) -> Result<(), AllocError>
+    ensures nodes { OnOk result (all_stepped steps.new.items (node_spans found.new.items)
+        ≡ all_stepped steps.old.items (added roles.now (node_spans found.old.items))) }
+    ensures fewer { OnOk result
+        (weights steps.new.items < weights steps.old.items + work roles.now) }
+{
+    let Some((role, others)) = roles.split_first() else {
+        return Ok(());
+    };
+    steps.push(Step::Add(others))?;
+    steps.push(Step::Close(role, found.len()))?;
+    steps.push(Step::Add(roles_under(role)))?;
+    found.push(Node { role, end: 0 })?;
+    Ok(())
+}
+
+// Adds the roles below a document, without recursion.
+fn add_below<'a>(
+    alloc: Global,
+    document: &'a Targets,
+    found: &mut Vec<Node<'a>>,
+) -> Result<(), AllocError>
     ensures { OnOk result (node_spans found.new.items
         ≡ node_spans found.old.items
         ++ spans (preorder_below (length found.old.items) (tree_doc document.now))) }
 {
-    if let Some(delegations) = &document.delegations {
-        add_roles(&delegations.roles, found)?;
-    }
-    Ok(())
-}
-
-// Adds the roles, each with what is below it before the next.
-#[cycle(number)]
-fn add_roles<'a>(roles: &'a [DelegatedRole], found: &mut Vec<Node<'a>>) -> Result<(), AllocError>
-    ensures { OnOk result (node_spans found.new.items
-        ≡ node_spans found.old.items
-        ++ spans (preorder (length found.old.items) (role_branches roles.now))) }
-{
-    for role in roles {
-        add_role(role, found)?;
-    }
-    Ok(())
-}
-
-// Adds a role, and what is below it. Its end is known then.
-#[cycle(number)]
-fn add_role<'a>(role: &'a DelegatedRole, found: &mut Vec<Node<'a>>) -> Result<(), AllocError>
-    ensures { OnOk result (node_spans found.new.items
-        ≡ node_spans found.old.items
-        ++ spans (preorder_at (length found.old.items) (role_tree role.now))) }
-{
-    let at = found.len();
-    found.push(Node { role, end: 0 })?;
-    add_document(role, found)?;
-    close(role, at, found);
-    Ok(())
-}
-
-// Adds the roles below the document of a role, if it has one.
-#[cycle(number)]
-fn add_document<'a>(role: &'a DelegatedRole, found: &mut Vec<Node<'a>>) -> Result<(), AllocError>
-    ensures { OnOk result (node_spans found.new.items
-        ≡ node_spans found.old.items
-        ++ spans (inside (length found.old.items) (role_tree role.now).1)) }
-{
-    if let Some(signed) = &role.targets {
-        add_below(&signed.signed.targets, found)?;
+    let mut steps = Vec::new(alloc);
+    steps.push(Step::Add(roles_of(document)))?;
+    while let Some(step) = steps.pop() {
+        match step {
+            Step::Add(roles) => add_first(roles, &mut steps, found)?,
+            Step::Close(role, at) => close(role, at, found),
+        }
     }
     Ok(())
 }
 
 // The subtree of the role at this place ends with the last role that was added.
 fn close<'a>(role: &'a DelegatedRole, at: usize, found: &mut Vec<Node<'a>>)
-    requires { at < length found.old.items }
     ensures { node_spans found.new.items
         ≡ slice_set (node_spans found.old.items) at (role_tree role.now, length found.old.items) }
 {
     let end = found.len();
-    found[at] = Node { role, end };
+    if at < end {
+        found[at] = Node { role, end };
+    }
+}
+
+/// The roles of the tree below a document, in preorder.
+pub(crate) fn entries_below<'a>(
+    alloc: Global,
+    document: &'a Targets,
+) -> Result<Vec<&'a DelegatedRole>, AllocError>
+    ensures { IfOk result (λ v. shown v.items ≡ entries (tree_doc document.now)) }
+{
+    let mut nodes = Vec::new(alloc);
+    add_below(alloc, document, &mut nodes)?;
+    let mut found = Vec::new(alloc);
+    for node in &nodes {
+        found.push(node.role)?;
+    }
+    Ok(found)
 }
 
 // What a role is to a search.
@@ -243,7 +263,7 @@ impl<'a> Nodes<'a> {
         ensures refused { IfErr result (λ e. e ≡ errors.Memory) }
     {
         let mut entries = Vec::new(alloc);
-        add_below(targets, &mut entries)?;
+        add_below(alloc, targets, &mut entries)?;
         Ok(Nodes {
             top: targets,
             entries,

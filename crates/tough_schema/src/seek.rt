@@ -1,13 +1,16 @@
 //! Delegated roles by name.
 
-ghost use Rattle.std.specs.Prelude.{◌≡◌, Some, IfOk, IfErr, option_map};
-ghost use Rattle.tough_schema.specs.Whole.{DelegationsTree, tree_doc, delegations_tree, role_tree, role_branches, held_doc};
-ghost use Rattle.tough_schema.specs.Seek.{found, if_found, seek, seek_in, sought, document_of, IsUnsought, IsUnheld, standing, standing_in, first_named, parent, IsOrphan};
-ghost use Rattle.tough_schema.specs.Seeking.{seen_of, step_at, place_of, standing_at};
+ghost use Rattle.std.specs.Prelude.{◌≡◌, ◌<◌, ◌≤◌, ◌+◌, ◌*◌, ℕ, List, Some, IfOk, IfErr, OnOk, option_map};
+ghost use Rattle.std.specs.Option.{option_or};
+ghost use Rattle.tough_schema.specs.Below.{branches_in, count, work};
+ghost use Rattle.tough_schema.specs.Whole.{tree_doc, delegations_tree, role_tree, role_branches, held_doc};
+ghost use Rattle.tough_schema.specs.Seek.{found, missing, if_found, seek, seek_in, sought, document_of, IsUnsought, IsUnheld, standing_in, first_named, parent, IsOrphan};
+ghost use Rattle.tough_schema.specs.Seeking.{seen_of, seen_or, step_at, sought_through, list_work, level_standing, all_standing, level_work};
 
+use crate::below::roles_of;
 use crate::delegations::{DelegatedRole, Delegations};
 use crate::targets::{DelegatedTargets, Targets};
-use std::alloc::Global;
+use std::alloc::{AllocError, Global};
 use tough_roles::{Error, Signed};
 
 /// The result of a search for a role.
@@ -21,13 +24,6 @@ pub enum Seen<'a> {
     Undocumented,
 }
 
-// Where the first entry of a name stands: in this list, or in delegations below it.
-#[derive(Drop)]
-enum Place<'a> {
-    Here,
-    Under(&'a Delegations),
-}
-
 // A role that was found below.
 fn if_found<'a>(seen: Seen<'a>) -> Option<Seen<'a>>
     ensures { option_map seen_of result ≡ if_found (seen_of seen.entry) }
@@ -39,90 +35,155 @@ fn if_found<'a>(seen: Seen<'a>) -> Option<Seen<'a>>
     }
 }
 
-/// Searches a document for the role.
-#[cycle(seek)]
-pub fn seek_in<'a>(document: &'a Targets, name: &str) -> Seen<'a>
-    ensures { seen_of result ≡ seek_in name.now (tree_doc document.now) }
+// Looks at the first of these roles. None if the search goes on with the lists, the last one first: with that of the roles
+// below it, and with the others.
+fn seek_first<'a>(
+    roles: &'a [DelegatedRole],
+    name: &str,
+    lists: &mut Vec<&'a [DelegatedRole]>,
+) -> Result<Option<Seen<'a>>, AllocError>
+    ensures seen { IfOk result (λ o. seen_or o (sought_through name.now lists.new.items missing)
+        ≡ sought_through name.now lists.old.items
+        (seek name.now (role_branches roles.now))) }
+    ensures fewer { OnOk result
+        (list_work lists.new.items < list_work lists.old.items + work roles.now) }
 {
-    match &document.delegations {
-        None => Seen::Missing,
-        Some(delegations) => seek_among(&delegations.roles, name),
+    let Some((role, others)) = roles.split_first() else {
+        return Ok(None);
+    };
+    if role.name.as_str() == name {
+        return Ok(Some(Seen::Found(role)));
     }
+    let Some(signed) = &role.targets else {
+        if lists.is_empty() {
+            return Ok(Some(Seen::Undocumented));
+        }
+        return Ok(None);
+    };
+    lists.push(others)?;
+    lists.push(roles_of(&signed.signed.targets))?;
+    Ok(None)
 }
 
-#[cycle(seek)]
-fn seek_among<'a>(roles: &'a [DelegatedRole], name: &str) -> Seen<'a>
-    ensures { seen_of result ≡ seek name.now (role_branches roles.now) }
+// Searches the roles, and those below them, without recursion.
+fn seek_among<'a>(
+    alloc: Global,
+    roles: &'a [DelegatedRole],
+    name: &str,
+) -> Result<Seen<'a>, AllocError>
+    ensures { IfOk result (λ s. seen_of s ≡ seek name.now (role_branches roles.now)) }
 {
-    for role in roles {
-        match seek_at(role, name) {
-            Some(seen) => return seen,
-            None => {}
+    let mut lists = Vec::new(alloc);
+    lists.push(roles)?;
+    while let Some(list) = lists.pop() {
+        if let Some(seen) = seek_first(list, name, &mut lists)? {
+            return Ok(seen);
         }
     }
-    Seen::Missing
+    Ok(Seen::Missing)
+}
+
+/// Searches a document for the role.
+pub fn seek_in<'a>(alloc: Global, document: &'a Targets, name: &str) -> Result<Seen<'a>, AllocError>
+    ensures { IfOk result (λ s. seen_of s ≡ seek_in name.now (tree_doc document.now)) }
+{
+    let seen = seek_among(alloc, roles_of(document), name)?;
+    Ok(seen)
 }
 
 /// Searches a role and the roles below it. None if the search continues with the next role.
-#[cycle(seek)]
-pub fn seek_at<'a>(role: &'a DelegatedRole, name: &str) -> Option<Seen<'a>>
-    ensures { option_map seen_of result ≡ step_at name.now (role_tree role.now) }
+pub fn seek_at<'a>(
+    alloc: Global,
+    role: &'a DelegatedRole,
+    name: &str,
+) -> Result<Option<Seen<'a>>, AllocError>
+    ensures { IfOk result (λ o. option_map seen_of o ≡ step_at name.now (role_tree role.now)) }
 {
     if role.name.as_str() == name {
-        return Some(Seen::Found(role));
+        return Ok(Some(Seen::Found(role)));
     }
     match &role.targets {
-        None => Some(Seen::Undocumented),
-        Some(signed) => if_found(seek_in(&signed.signed.targets, name)),
-    }
-}
-
-#[cycle(parent)]
-fn parent_in<'a>(document: &'a Targets, name: &str) -> Option<&'a Delegations>
-    ensures { option_map (λ g. delegations_tree g.now) result
-        ≡ first_named name.now (standing_in (tree_doc document.now)) }
-{
-    let Some(delegations) = &document.delegations else {
-        return None;
-    };
-    match parent_among(&delegations.roles, name) {
-        None => None,
-        Some(Place::Here) => Some(delegations),
-        Some(Place::Under(found)) => Some(found),
-    }
-}
-
-#[cycle(parent)]
-fn parent_among<'a>(roles: &'a [DelegatedRole], name: &str) -> Option<Place<'a>>
-    ensures { (all : DelegationsTree)
-        → option_map (place_of all) result
-        ≡ first_named name.now (standing all (role_branches roles.now)) }
-{
-    for role in roles {
-        match parent_at(role, name) {
-            Some(place) => return Some(place),
-            None => {}
+        None => Ok(Some(Seen::Undocumented)),
+        Some(signed) => {
+            let seen = seek_in(alloc, &signed.signed.targets, name)?;
+            Ok(if_found(seen))
         }
     }
-    None
 }
 
-#[cycle(parent)]
-fn parent_at<'a>(role: &'a DelegatedRole, name: &str) -> Option<Place<'a>>
-    ensures { (all : DelegationsTree)
-        → option_map (place_of all) result
-        ≡ first_named name.now (standing_at all (role_tree role.now)) }
+// Roles, and the delegations that list them.
+#[derive(Clone, Copy)]
+struct Level<'a> {
+    all: &'a Delegations,
+    roles: &'a [DelegatedRole],
+}
+
+// Looks at the first role of this level: the delegations that list it, if it has the name. Else the search goes on with
+// the levels, the last one first: with that of the roles below it, and with the others.
+fn parent_first<'a>(
+    level: Level<'a>,
+    name: &str,
+    levels: &mut Vec<Level<'a>>,
+) -> Result<Option<&'a Delegations>, AllocError>
+    ensures parent { IfOk result (λ o. option_or (option_map (λ g. delegations_tree g.now) o)
+        (first_named name.now (all_standing levels.new.items))
+        ≡ option_or (first_named name.now (level_standing level.entry))
+        (first_named name.now (all_standing levels.old.items))) }
+    ensures fewer { OnOk result (level_work levels.new.items
+        < level_work levels.old.items + work level.entry.roles.now) }
 {
+    let Some((role, others)) = level.roles.split_first() else {
+        return Ok(None);
+    };
     if role.name.as_str() == name {
-        return Some(Place::Here);
+        return Ok(Some(level.all));
     }
-    match &role.targets {
-        None => None,
-        Some(signed) => match parent_in(&signed.signed.targets, name) {
-            None => None,
-            Some(found) => Some(Place::Under(found)),
-        },
+    levels.push(Level {
+        all: level.all,
+        roles: others,
+    })?;
+    let Some(signed) = &role.targets else {
+        return Ok(None);
+    };
+    add_level(&signed.signed.targets, levels)?;
+    Ok(None)
+}
+
+// Adds the level of the roles that a document lists, if it has delegations.
+fn add_level<'a>(document: &'a Targets, levels: &mut Vec<Level<'a>>) -> Result<(), AllocError>
+    ensures standing { OnOk result ((name : List ℕ)
+        → first_named name (all_standing levels.new.items)
+        ≡ option_or (first_named name (standing_in (tree_doc document.now)))
+        (first_named name (all_standing levels.old.items))) }
+    ensures few { OnOk result (level_work levels.new.items
+        ≤ level_work levels.old.items + (1 + 3 * count (branches_in (tree_doc document.now)))) }
+{
+    if let Some(all) = &document.delegations {
+        levels.push(Level {
+            all,
+            roles: &all.roles,
+        })?;
     }
+    Ok(())
+}
+
+// The delegations that list the first entry of the name, below a document.
+fn parent_in<'a>(
+    alloc: Global,
+    document: &'a Targets,
+    name: &str,
+) -> Result<Option<&'a Delegations>, AllocError>
+    ensures { IfOk result (λ o. option_map (λ g. delegations_tree g.now) o
+        ≡ first_named name.now (standing_in (tree_doc document.now))) }
+{
+    let mut levels = Vec::new(alloc);
+    add_level(document, &mut levels)?;
+    while let Some(level) = levels.pop() {
+        if let Some(found) = parent_first(level, name, &mut levels)? {
+            return Ok(Some(found));
+        }
+    }
+    Ok(None)
 }
 
 impl Targets {
@@ -138,7 +199,7 @@ impl Targets {
         let Some(delegations) = &self.delegations else {
             return Err(Error::NoDelegations);
         };
-        match seek_among(&delegations.roles, name) {
+        match seek_among(alloc, &delegations.roles, name)? {
             Seen::Found(role) => Ok(role),
             Seen::Undocumented => Err(Error::NoTargets),
             Seen::Missing => Err(Error::RoleNotFound {
@@ -174,7 +235,7 @@ impl Targets {
         ensures refused { IfErr result
             (λ e. IsOrphan name.now (parent name.now (tree_doc self.now)) e) }
     {
-        match parent_in(self, name) {
+        match parent_in(alloc, self, name)? {
             Some(delegations) => Ok(delegations),
             None => Err(Error::RoleNotFound {
                 name: String::from_str(alloc, name)?,

@@ -1,14 +1,16 @@
 //! The listed names that a search may not find: the roles above their document don't all match them.
 
-ghost use Rattle.std.specs.Prelude.{◌≡◌, ◌++◌, true, false, IfOk, OnOk};
+ghost use Rattle.std.specs.Prelude.{◌≡◌, ◌<◌, ◌≤◌, ◌+◌, ◌*◌, ◌++◌, ◌&&◌, Bool, List, true, false, IfOk, OnOk};
 ghost use Rattle.tough_names.specs.Named.{Named};
+ghost use Rattle.tough_schema.specs.Below.{branches_under, count, work};
 ghost use Rattle.tough_schema.specs.Paths.{paths_doc};
+ghost use Rattle.tough_schema.specs.Passing.{pass, passed, passed_at, all_stepped, weights};
 ghost use Rattle.tough_schema.specs.Targets.{listing_doc};
-ghost use Rattle.tough_schema.specs.Search.{matches, no_names};
-ghost use Rattle.tough_schema.specs.Visited.{names_in};
-ghost use Rattle.tough_schema.specs.Whole.{tree_doc, role_tree, role_branches};
-ghost use Rattle.tough_schema.specs.Strays.{any_name, strays_of, names_past, names_below, strays, strays_below, names_at, strays_at, all_match, way, names_of};
+ghost use Rattle.tough_schema.specs.Search.{Names, matches, no_names};
+ghost use Rattle.tough_schema.specs.Whole.{tree_doc, role_tree};
+ghost use Rattle.tough_schema.specs.Strays.{any_name, strays_of, strays_below, all_match, way, names_of};
 
+use crate::below::roles_of;
 use crate::delegations::{DelegatedRole, PathSet};
 use crate::target::Target;
 use crate::targets::Targets;
@@ -64,86 +66,88 @@ fn add_strays<'a>(
     Ok(())
 }
 
-// Adds those of a document, and of the documents below it. The way is open if each role above is the first with its
-// name.
-#[cycle(stray)]
-fn strays_in<'a>(
-    document: &'a Targets,
-    is_open: bool,
-    above: &mut Vec<&'a DelegatedRole>,
-    seen: &mut BTreeSet<String>,
-    found: &mut Vec<&'a TargetName>,
-) -> Result<(), AllocError>
-    ensures above { OnOk result (above.new.items ≡ above.old.items) }
-    ensures seen { OnOk result
-        (names_in seen.new ≡ names_below (names_in seen.old) (tree_doc document.now)) }
-    ensures found { OnOk result
-        (names_of found.new.items
-        ≡ names_of found.old.items ++ strays_below (names_in seen.old) (way is_open above.old.items)
-        (tree_doc document.now)) }
-{
-    add_strays(&document.targets, is_open, above.as_slice(), found)?;
-    match &document.delegations {
-        None => Ok(()),
-        Some(delegations) => {
-            strays_among(&delegations.roles, is_open, above, seen, found)?;
-            Ok(())
-        }
-    }
+// What is still to do until the strays of a tree are found.
+#[derive(Drop)]
+enum Step<'a> {
+    // To go through these roles, each with what is below it before the next. The way to them is open if each role above is
+    // the first with its name.
+    Visit(&'a [DelegatedRole], bool),
+    // To leave the last role of the way.
+    Leave,
 }
 
-// Adds those below the roles.
-#[cycle(stray)]
-fn strays_among<'a>(
-    roles: &'a [DelegatedRole],
-    is_open: bool,
+// Goes on below a role, which is the last of the way then, unless its path set is that of the last one.
+fn enter<'a>(
+    role: &'a DelegatedRole,
     above: &mut Vec<&'a DelegatedRole>,
-    seen: &mut BTreeSet<String>,
-    found: &mut Vec<&'a TargetName>,
+    steps: &mut Vec<Step<'a>>,
 ) -> Result<(), AllocError>
-    ensures above { OnOk result (above.new.items ≡ above.old.items) }
-    ensures seen { OnOk result
-        (names_in seen.new ≡ names_past (names_in seen.old) (role_branches roles.now)) }
-    ensures found { OnOk result
-        (names_of found.new.items
-        ≡ names_of found.old.items ++ strays (names_in seen.old) (way is_open above.old.items)
-        (role_branches roles.now)) }
+    ensures way { OnOk result ((name : Named) → (is_open : Bool)
+        → way is_open above.new.items name
+        ≡ (matches name (role_tree role.now).0 && way is_open above.old.items name)) }
+    ensures back { OnOk result ((seen : Names) → (found : List Named)
+        → all_stepped steps.new.items
+        (record { above = above.new.items; seen = seen; found = found })
+        ≡ all_stepped steps.old.items
+        (record { above = above.old.items; seen = seen; found = found })) }
+    ensures few { OnOk result (weights steps.new.items ≤ weights steps.old.items + 1) }
 {
-    for role in roles {
-        strays_at(role, is_open, above, seen, found)?;
+    if narrows(above.as_slice(), role) {
+        above.push(role)?;
+        steps.push(Step::Leave)?;
     }
     Ok(())
 }
 
-// Adds those below a role.
-#[cycle(stray)]
+// Adds the strays of a role's document, if it has one. Those below it are to be added then.
 fn strays_at<'a>(
     role: &'a DelegatedRole,
     is_open: bool,
     above: &mut Vec<&'a DelegatedRole>,
     seen: &mut BTreeSet<String>,
     found: &mut Vec<&'a TargetName>,
+    steps: &mut Vec<Step<'a>>,
 ) -> Result<(), AllocError>
-    ensures above { OnOk result (above.new.items ≡ above.old.items) }
-    ensures seen { OnOk result
-        (names_in seen.new ≡ names_at (names_in seen.old) (role_tree role.now)) }
-    ensures found { OnOk result
-        (names_of found.new.items
-        ≡ names_of found.old.items ++ strays_at (names_in seen.old)
-        (way is_open above.old.items) (role_tree role.now)) }
+    ensures passed { OnOk result
+        (all_stepped steps.new.items (pass above.new.items seen.new found.new.items)
+        ≡ all_stepped steps.old.items
+        (passed_at (role_tree role.now) is_open (pass above.old.items seen.old found.old.items))) }
+    ensures few { OnOk result (weights steps.new.items
+        ≤ weights steps.old.items + (2 + 3 * count (branches_under (role_tree role.now).1))) }
 {
     let is_open = is_open & !seen.contains(role.name.as_str());
     seen.insert(role.name.clone()?)?;
     let Some(signed) = &role.targets else {
         return Ok(());
     };
-    if narrows(above.as_slice(), role) {
-        above.push(role)?;
-        strays_in(&signed.signed.targets, is_open, above, seen, found)?;
-        above.pop();
-    } else {
-        strays_in(&signed.signed.targets, is_open, above, seen, found)?;
-    }
+    let document = &signed.signed.targets;
+    enter(role, above, steps)?;
+    add_strays(&document.targets, is_open, above.as_slice(), found)?;
+    steps.push(Step::Visit(roles_of(document), is_open))?;
+    Ok(())
+}
+
+// Adds the strays of the first of these roles. Those below it are to be added then, and those of the others.
+fn strays_first<'a>(
+    roles: &'a [DelegatedRole],
+    is_open: bool,
+    above: &mut Vec<&'a DelegatedRole>,
+    seen: &mut BTreeSet<String>,
+    found: &mut Vec<&'a TargetName>,
+    steps: &mut Vec<Step<'a>>,
+) -> Result<(), AllocError>
+    ensures passed { OnOk result
+        (all_stepped steps.new.items (pass above.new.items seen.new found.new.items)
+        ≡ all_stepped steps.old.items
+        (passed roles.now is_open (pass above.old.items seen.old found.old.items))) }
+    ensures fewer { OnOk result
+        (weights steps.new.items < weights steps.old.items + work roles.now) }
+{
+    let Some((role, others)) = roles.split_first() else {
+        return Ok(());
+    };
+    steps.push(Step::Visit(others, is_open))?;
+    strays_at(role, is_open, above, seen, found, steps)?;
     Ok(())
 }
 
@@ -157,7 +161,19 @@ impl Targets {
         let mut above = Vec::new(alloc);
         let mut seen = BTreeSet::new(alloc);
         let mut found = Vec::new(alloc);
-        strays_in(self, true, &mut above, &mut seen, &mut found)?;
+        let mut steps = Vec::new(alloc);
+        add_strays(&self.targets, true, above.as_slice(), &mut found)?;
+        steps.push(Step::Visit(roles_of(self), true))?;
+        while let Some(step) = steps.pop() {
+            match step {
+                Step::Leave => drop(above.pop()),
+                Step::Visit(roles, is_open) => {
+                    strays_first(
+                        roles, is_open, &mut above, &mut seen, &mut found, &mut steps,
+                    )?
+                }
+            }
+        }
         Ok(found)
     }
 }

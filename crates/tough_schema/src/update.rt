@@ -2,8 +2,9 @@
 
 ghost use Rattle.std.specs.Prelude.{◌≡◌, ◌++◌, IfOk, OnOk, OnErr, map, option_map, string_bytes};
 ghost use Rattle.tough_schema.specs.Whole.{tree_doc, role_tree, held_doc};
-ghost use Rattle.tough_schema.specs.Update.{document_sought, documents_for, given, all_given, updated, listed_roles, needed, needed_at, roles_within, with_documents};
+ghost use Rattle.tough_schema.specs.Update.{document_sought, documents_for, given, all_given, updated, listed_roles, needed, needed_at, with_documents};
 
+use crate::below::roles_of;
 use crate::copy::copy_held;
 use crate::delegations::DelegatedRole;
 use crate::seek::{Seen, seek_in};
@@ -12,25 +13,33 @@ use std::alloc::{AllocError, Global};
 use tough_roles::Signed;
 
 // The document of the role that `delegated_role` returns, if it has one.
-fn document_of<'a>(targets: &'a Targets, name: &str) -> Option<&'a Signed<DelegatedTargets>>
-    ensures { option_map (λ s. held_doc s.now) result
-        ≡ document_sought name.now (tree_doc targets.now) }
+fn document_of<'a>(
+    alloc: Global,
+    targets: &'a Targets,
+    name: &str,
+) -> Result<Option<&'a Signed<DelegatedTargets>>, AllocError>
+    ensures { IfOk result (λ o. option_map (λ s. held_doc s.now) o
+        ≡ document_sought name.now (tree_doc targets.now)) }
 {
-    let Seen::Found(role) = seek_in(targets, name) else {
-        return None;
+    let Seen::Found(role) = seek_in(alloc, targets, name)? else {
+        return Ok(None);
     };
     match &role.targets {
-        Some(document) => Some(document),
-        None => None,
+        Some(document) => Ok(Some(document)),
+        None => Ok(None),
     }
 }
 
 // A copy of that document.
-fn copy_of(old: &Targets, name: &str) -> Result<Option<Signed<DelegatedTargets>>, AllocError>
+fn copy_of(
+    alloc: Global,
+    old: &Targets,
+    name: &str,
+) -> Result<Option<Signed<DelegatedTargets>>, AllocError>
     ensures { IfOk result (λ o. option_map held_doc o
         ≡ document_sought name.now (tree_doc old.now)) }
 {
-    match document_of(old, name) {
+    match document_of(alloc, old, name)? {
         Some(document) => Ok(Some(copy_held(document)?)),
         None => Ok(None),
     }
@@ -47,7 +56,7 @@ fn copies_for(
 {
     let mut copies = Vec::new(alloc);
     for role in roles {
-        let copy = copy_of(old, role.name.as_str())?;
+        let copy = copy_of(alloc, old, role.name.as_str())?;
         copies.push(copy)?;
     }
     Ok(copies)
@@ -55,6 +64,7 @@ fn copies_for(
 
 // Adds the role's name, if there is none.
 fn add_needed(
+    alloc: Global,
     old: &Targets,
     role: &DelegatedRole,
     names: &mut Vec<String>,
@@ -62,7 +72,7 @@ fn add_needed(
     ensures { OnOk result (map string_bytes names.new.items
         ≡ map string_bytes names.old.items ++ needed_at (tree_doc old.now) (role_tree role.now).0) }
 {
-    if document_of(old, role.name.as_str()).is_none() {
+    if document_of(alloc, old, role.name.as_str())?.is_none() {
         names.push(role.name.clone()?)?;
     }
     Ok(())
@@ -79,7 +89,7 @@ fn names_without(
 {
     let mut names = Vec::new(alloc);
     for role in roles {
-        add_needed(old, role, &mut names)?;
+        add_needed(alloc, old, role, &mut names)?;
     }
     Ok(names)
 }
@@ -103,16 +113,6 @@ fn give(roles: &mut [DelegatedRole], documents: Vec<Option<Signed<DelegatedTarge
         if let Some(document) = left.next() {
             give_to(role, document);
         }
-    }
-}
-
-// The roles that a document lists.
-fn roles_of(document: &Targets) -> &[DelegatedRole]
-    ensures { result.now ≡ roles_within document.now }
-{
-    match &document.delegations {
-        Some(delegations) => &delegations.roles,
-        None => &[],
     }
 }
 
