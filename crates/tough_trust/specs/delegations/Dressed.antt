@@ -5,7 +5,8 @@ use Rattle.tough_schema.specs.declared.targets.DelegatedTargets.{DelegatedTarget
 use Rattle.tough_schema.specs.declared.delegations.DelegatedRole.{DelegatedRole}
 use Rattle.tough_schema.specs.Tree.{Entry}
 use Rattle.tough_schema.specs.Whole.{TreeDoc, tree, Branches, no_branches, unloaded, loaded, HeldDoc, put_branch, role_tree}
-use Rattle.tough_schema.specs.Update.{given, roles_within}
+use Rattle.tough_schema.specs.Below.{roles_within}
+use Rattle.tough_schema.specs.Update.{given}
 
 -- the roles that a document lists
 abbrev pub listed_in : Signed DelegatedTargets → List DelegatedRole

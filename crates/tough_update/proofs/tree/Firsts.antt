@@ -8,7 +8,7 @@ use Rattle.std.specs.Str.{bytes_eq}
 use Rattle.tough_roles.specs.declared.signed.Signed.{Signed}
 use Rattle.tough_schema.specs.Delegations.{DelegatedRoleDoc, DelegationsDoc, delegated_role_doc, delegations_doc}
 use Rattle.tough_schema.specs.Tree.{Entry}
-use Rattle.tough_schema.specs.Update.{roles_at}
+use Rattle.tough_schema.specs.Below.{roles_at}
 use Rattle.tough_schema.specs.Verify.{role_named}
 use Rattle.tough_schema.specs.Whole.{role_tree, held_doc, top_doc}
 use Rattle.tough_schema.specs.declared.delegations.DelegatedRole.{DelegatedRole, out-DelegatedRole}

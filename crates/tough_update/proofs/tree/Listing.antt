@@ -19,7 +19,8 @@ use Rattle.tough_schema.specs.declared.delegations.Delegations.{Delegations}
 use Rattle.tough_schema.specs.declared.targets.DelegatedTargets.{DelegatedTargets, out-DelegatedTargets}
 use Rattle.tough_schema.specs.declared.targets.Targets.{Targets, out-Targets}
 use Rattle.tough_schema.specs.Tree.{Entry}
-use Rattle.tough_schema.specs.Update.{listed_roles, roles_at, roles_within}
+use Rattle.tough_schema.specs.Below.{roles_at, roles_within}
+use Rattle.tough_schema.specs.Update.{listed_roles}
 use Rattle.tough_schema.specs.Search.{Names}
 use Rattle.tough_schema.specs.Whole.{RoleTree, NamedTree, DelegationsTree, branches_from, branches_of, tree_doc, delegations_tree, role_tree, held_doc, entries_in, top_doc}
 use Rattle.tough_schema.proofs.lemmas.Wholes.{tree-out, delegations-out, role-out, named-out, top-tells}

@@ -7,7 +7,8 @@ use Rattle.tough_schema.specs.declared.delegations.Delegations.{Delegations, out
 use Rattle.tough_schema.specs.declared.targets.DelegatedTargets.{DelegatedTargets, out-DelegatedTargets}
 use Rattle.tough_schema.specs.declared.targets.Targets.{out-Targets}
 use Rattle.tough_schema.specs.Tree.{Entry}
-use Rattle.tough_schema.specs.Update.{listed_roles, roles_at as roles_under}
+use Rattle.tough_schema.specs.Below.{roles_at as roles_under}
+use Rattle.tough_schema.specs.Update.{listed_roles}
 use Rattle.tough_schema.specs.Whole.{role_tree, held_doc}
 use Rattle.tough_update.specs.declared.delegations.nodes.Node.{Node}
 use Rattle.tough_update.specs.declared.delegations.nodes.Nodes as real
