@@ -28,6 +28,7 @@ mod target;
 mod targets;
 mod update;
 mod verify;
+mod way;
 mod write_delegations;
 mod write_target;
 mod write_targets;

@@ -1,87 +1,120 @@
 //! Replacing the document of a role.
 
-ghost use Rattle.std.specs.Prelude.{◌≡◌, map, OnOk, OnErr, IfErr, IsTrue};
+ghost use Rattle.std.specs.Prelude.{◌≡◌, List, reverse, Some, OnOk, OnErr, IfErr, IsTrue, option_map};
 ghost use Rattle.tough_schema.specs.Put.{with_document, is_role};
 ghost use Rattle.tough_schema.specs.Seek.{sought, IsUnsought};
-ghost use Rattle.tough_schema.specs.Whole.{tree_doc, role_tree, held_doc};
-ghost use Rattle.tough_schema.specs.Putting.{left_doc, holds, put_in, put_at, put_next, all_put};
+ghost use Rattle.tough_schema.specs.Whole.{HeldDoc, tree_doc, role_tree, held_doc};
+ghost use Rattle.tough_schema.specs.Putting.{slot_in, filled_in, held_filled, held_along, along, IsOpen, IsOpenIn, turned_back};
 
 use crate::delegations::DelegatedRole;
 use crate::targets::{DelegatedTargets, Targets};
+use crate::way::way_to;
 use std::alloc::Global;
+use std::mem;
 use tough_roles::{Error, Signed};
 
-// A document on its way to its role.
-#[derive(Drop)]
-enum Left {
-    // It has no role yet.
-    Holds(Signed<DelegatedTargets>),
-    // A role before its own has no document to search.
-    Stopped(Signed<DelegatedTargets>),
-    // It has its role.
-    Placed,
+// Gives the role this document, and returns its own.
+fn exchange_at(
+    role: &mut DelegatedRole,
+    new: Option<Signed<DelegatedTargets>>,
+) -> Option<Signed<DelegatedTargets>>
+    ensures role { role_tree role.new ≡ ((role_tree role.old).0, option_map held_doc new) }
+    ensures old { option_map held_doc result ≡ (role_tree role.old).1 }
+{
+    mem::replace(&mut role.targets, new)
 }
 
-// Gives the document to the role that `delegated_role` returns.
-#[cycle(put)]
-fn put_in(document: &mut Targets, name: &str, new: Signed<DelegatedTargets>) -> Left
+// The same of the role at a place of the list of a document, counted from the end.
+fn exchange_in(
+    document: &mut Targets,
+    place: usize,
+    new: Option<Signed<DelegatedTargets>>,
+) -> Option<Signed<DelegatedTargets>>
     ensures tree { tree_doc document.new
-        ≡ (put_in name.now (held_doc new) (tree_doc document.old)).0 }
-    ensures left { left_doc result
-        ≡ (put_in name.now (held_doc new) (tree_doc document.old)).1 }
+        ≡ filled_in place (option_map held_doc new) (tree_doc document.old) }
+    ensures old { option_map held_doc result ≡ slot_in place (tree_doc document.old) }
 {
-    match &mut document.delegations {
-        None => Left::Holds(new),
-        Some(delegations) => put_among(&mut delegations.roles, name, new),
+    let mut old = None;
+    if let Some(delegations) = &mut document.delegations {
+        if let Some(at) = delegations.roles.len().checked_sub(place) {
+            if let Some(role) = delegations.roles.get_mut(at) {
+                old = exchange_at(role, new);
+            }
+        }
     }
+    old
 }
 
-#[cycle(put)]
-fn put_among(roles: &mut [DelegatedRole], name: &str, new: Signed<DelegatedTargets>) -> Left
-    ensures roles { map role_tree roles.new
-        ≡ (all_put name.now (holds (held_doc new)) (map role_tree roles.old)).0 }
-    ensures left { left_doc result
-        ≡ (all_put name.now (holds (held_doc new)) (map role_tree roles.old)).1 }
+// The same of the list of a role's document.
+fn exchange_below(
+    document: &mut Signed<DelegatedTargets>,
+    place: usize,
+    new: Option<Signed<DelegatedTargets>>,
+) -> Option<Signed<DelegatedTargets>>
+    ensures document { held_doc document.new
+        ≡ held_filled place (option_map held_doc new) (held_doc document.old) }
+    ensures old { option_map held_doc result ≡ slot_in place (held_doc document.old).below }
 {
-    let mut left = Left::Holds(new);
-    for role in roles.iter_mut() {
-        left = put_next(role, name, left);
-    }
-    left
+    exchange_in(&mut document.signed.targets, place, new)
 }
 
-#[cycle(put)]
-fn put_next(role: &mut DelegatedRole, name: &str, left: Left) -> Left
-    ensures role { role_tree role.new
-        ≡ (put_next name.now (left_doc left) (role_tree role.old)).0 }
-    ensures left { left_doc result
-        ≡ (put_next name.now (left_doc left) (role_tree role.old)).1 }
+// Turns the documents on the way around: each gets, at the place of the one below it, the one above it. Returns the last
+// one above the end of the way, and drops the document there.
+fn turn(
+    old: Option<Signed<DelegatedTargets>>,
+    way: &[usize],
+) -> Option<Signed<DelegatedTargets>>
+    ensures { IsOpen way.now (option_map held_doc old) → (h : HeldDoc)
+        → turned_back (reverse way.now) (option_map held_doc result) (Some h)
+        ≡ held_along way.now h (option_map held_doc old) }
 {
-    match left {
-        Left::Holds(new) => put_at(role, name, new),
-        Left::Stopped(new) => Left::Stopped(new),
-        Left::Placed => Left::Placed,
+    let mut above = None;
+    let mut here = old;
+    for place in way {
+        let Some(mut document) = here else {
+            return above;
+        };
+        here = exchange_below(&mut document, *place, above);
+        above = Some(document);
     }
+    above
 }
 
-#[cycle(put)]
-fn put_at(role: &mut DelegatedRole, name: &str, new: Signed<DelegatedTargets>) -> Left
-    ensures role { role_tree role.new
-        ≡ (put_at name.now (held_doc new) (role_tree role.old)).0 }
-    ensures left { left_doc result ≡ (put_at name.now (held_doc new) (role_tree role.old)).1 }
+// Turns them back, with this document at the end of the way.
+fn turn_back(
+    last: Option<Signed<DelegatedTargets>>,
+    way: &[usize],
+    new: Signed<DelegatedTargets>,
+) -> Option<Signed<DelegatedTargets>>
+    ensures { option_map held_doc result
+        ≡ turned_back (reverse way.now) (option_map held_doc last) (Some (held_doc new)) }
 {
-    if role.name.as_str() == name {
-        role.targets = Some(new);
-        return Left::Placed;
+    let mut above = last;
+    let mut here = Some(new);
+    let mut left = way;
+    while let Some((place, others)) = left.split_last() {
+        let Some(mut document) = above else {
+            return None;
+        };
+        above = exchange_below(&mut document, *place, here);
+        here = Some(document);
+        left = others;
     }
-    match &mut role.targets {
-        None => Left::Stopped(new),
-        Some(document) => match put_in(&mut document.signed.targets, name, new) {
-            Left::Holds(new) => Left::Holds(new),
-            Left::Stopped(new) => Left::Holds(new),
-            Left::Placed => Left::Placed,
-        },
-    }
+    here
+}
+
+// Puts the document at the end of the way.
+fn put_along(document: &mut Targets, way: &[usize], new: Signed<DelegatedTargets>)
+    ensures { IsOpenIn way.now (tree_doc document.old)
+        → tree_doc document.new ≡ along way.now (held_doc new) (tree_doc document.old) }
+{
+    let Some((first, others)) = way.split_first() else {
+        return;
+    };
+    let old = exchange_in(document, *first, None);
+    let last = turn(old, others);
+    let whole = turn_back(last, others, new);
+    exchange_in(document, *first, whole);
 }
 
 impl Targets {
@@ -102,7 +135,9 @@ impl Targets {
         if let Err(error) = self.delegated_role(alloc, name) {
             return Err(error);
         }
-        put_in(self, name, document);
+        if let Some(way) = way_to(alloc, self, name)? {
+            put_along(self, &way, document);
+        }
         Ok(())
     }
 }
