@@ -1,5 +1,5 @@
 -- A role at a place of its list, and another document for it.
-use Rattle.std.proofs.Common.{◌≡◌, ℕ, zero, suc, ◌+◌, ◌-◌, ◌<◌, ◌≤◌, List, [], ◌∷◌, length, get_or, slice_set, Bool, true, false, cond, Option, Some, None, option_map, string_bytes, refl, sym, ap, ◌∙◌, arith, eq-eqb}
+use Rattle.std.proofs.Common.{◌≡◌, ℕ, zero, suc, ◌+◌, ◌<◌, ◌≤◌, List, [], ◌∷◌, length, get_or, slice_set, Bool, true, false, cond, Option, Some, None, option_map, string_bytes, refl, sym, ap, ◌∙◌, arith, eq-eqb}
 use Rattle.std.proofs.lemmas.Bool.{eqb-true, ne_eqb}
 use Rattle.std.specs.Prelude.{eqb}
 use Rattle.std.specs.Vec.{with_item}
@@ -11,11 +11,11 @@ use Rattle.tough_schema.specs.declared.delegations.Delegations.{Delegations, out
 use Rattle.tough_schema.specs.declared.targets.DelegatedTargets.{DelegatedTargets, out-DelegatedTargets, roll-DelegatedTargets}
 use Rattle.tough_schema.specs.declared.targets.Targets.{Targets, out-Targets, roll-Targets}
 use Rattle.tough_schema.specs.Whole.{TreeDoc, tree, Branches, no_branches, unloaded, loaded, HeldDoc, RoleTree, NamedTree, DelegationsTree, put_branch, role_level, delegations_level, delegated_level, targets_level, tree_doc, role_tree, role_branches, delegations_tree, held_doc}
-use Rattle.tough_schema.proofs.lemmas.Wholes.{own, DelegationsFields, delegations_shown, tree-roll, tree-inner, delegations-roll, delegations-out, role-out, named-out, named-roll}
+use Rattle.tough_schema.proofs.lemmas.Wholes.{own, DelegationsFields, delegations_shown, tree-roll, tree-leaf, tree-inner, delegations-roll, delegations-out, role-out, role-held, held-below, named-out, named-roll}
 use Rattle.tough_schema.specs.Below.{branches_in}
-use Rattle.tough_schema.specs.Putting.{wide, has, slot, filled, slot_in, filled_in, held_filled}
+use Rattle.tough_schema.specs.Putting.{wide, has, slot, role_on, filled, slot_in, filled_in, held_filled, role_along, role_below}
 
-wide-put : (r : RoleTree) (bs : Branches) → wide (put_branch r bs) ≡ suc (wide bs)
+pub wide-put : (r : RoleTree) (bs : Branches) → wide (put_branch r bs) ≡ suc (wide bs)
 wide-put (e, None) bs = refl
 wide-put (e, Some h) bs = refl
 
@@ -36,6 +36,13 @@ slot-put p (e, Some h) bs = refl
 filled-put : (p : ℕ) (o : Option HeldDoc) (r : RoleTree) (bs : Branches) → filled p o (put_branch r bs) ≡ cond (eqb p (suc (wide bs))) (put_branch (r.0, o) bs) (put_branch r (filled p o bs))
 filled-put p o (e, None) bs = refl
 filled-put p o (e, Some h) bs = refl
+
+on-put : (p : ℕ) (r : RoleTree) (bs : Branches) → role_on p (put_branch r bs) ≡ cond (eqb p (suc (wide bs))) (Some r) (role_on p bs)
+on-put p (e, None) bs = refl
+on-put p (e, Some h) bs = refl
+
+pub on-here : (r : RoleTree) (bs : Branches) → role_on (suc (wide bs)) (put_branch r bs) ≡ Some r
+on-here r bs = on-put (suc (wide bs)) r bs ∙ ap (λ b. cond b (Some r) (role_on (suc (wide bs)) bs)) (eq-eqb (suc (wide bs)) (suc (wide bs)) refl)
 
 pub has-here : (r : RoleTree) (bs : Branches) → has (suc (wide bs)) (put_branch r bs) ≡ true
 has-here r bs = has-put (suc (wide bs)) r bs ∙ ap (λ b. cond b true (has (suc (wide bs)) bs)) (eq-eqb (suc (wide bs)) (suc (wide bs)) refl)
@@ -63,6 +70,9 @@ has-behind p r bs h = has-put p r bs ∙ ap (λ b. cond b true (has p bs)) (apar
 
 pub slot-behind : (p : ℕ) (r : RoleTree) (bs : Branches) → p ≤ wide bs → slot p (put_branch r bs) ≡ slot p bs
 slot-behind p r bs h = slot-put p r bs ∙ ap (λ b. cond b r.1 (slot p bs)) (apart p bs h)
+
+pub on-behind : (p : ℕ) (r : RoleTree) (bs : Branches) → p ≤ wide bs → role_on p (put_branch r bs) ≡ role_on p bs
+on-behind p r bs h = on-put p r bs ∙ ap (λ b. cond b (Some r) (role_on p bs)) (apart p bs h)
 
 pub filled-behind : (p : ℕ) (o : Option HeldDoc) (r : RoleTree) (bs : Branches) → p ≤ wide bs → filled p o (put_branch r bs) ≡ put_branch r (filled p o bs)
 filled-behind p o r bs h = filled-put p o r bs ∙ ap (λ b. cond b (put_branch (r.0, o) bs) (put_branch r (filled p o bs))) (apart p bs h)
@@ -150,6 +160,57 @@ pub slot-none : (p : ℕ) (bs : Branches) → (p ≤ wide bs → p ≡ 0) → sl
 slot-none p no_branches h = refl
 slot-none p (unloaded e bs) h = slot_none p (e, None) bs h (slot-none p bs (fewer p (wide bs) h))
 slot-none p (loaded e n ss t bs) h = slot_none p (e, Some (record { name = n; signatures = ss; below = t })) bs h (slot-none p bs (fewer p (wide bs) h))
+
+-- ---- a role at a place of a list
+
+pub on-list : (rs : List DelegatedRole) (at p : ℕ) (r : DelegatedRole) → at + p ≡ length rs → at < length rs → r ≡ get_or rs at r → Some (role_tree r) ≡ role_on p (role_branches rs)
+on-list [] at p r h k is = absurd (omega (arith, k))
+on-list (x ∷ rs) zero p r h k is =
+    ap (λ (y : DelegatedRole). Some (role_tree y)) is ∙ sym (on-here (role_tree x) (role_branches rs)) ∙ ap (λ n. role_on n (role_branches (x ∷ rs))) (omega (arith, h, wide-roles rs))
+on-list (x ∷ rs) (suc at) p r h k is = on-list rs at p r (omega (arith, h)) (omega (arith, k)) is ∙ sym (on-behind p (role_tree x) (role_branches rs) (omega (arith, h, k, wide-roles rs)))
+
+on_none : (p : ℕ) (r : RoleTree) (bs : Branches) → (p ≤ suc (wide bs) → p ≡ 0) → role_on p bs ≡ None → role_on p (put_branch r bs) ≡ None
+on_none p r bs h rest = on-put p r bs ∙ ap (λ b. cond b (Some r) (role_on p bs)) (other p (wide bs) h) ∙ rest
+
+on-none : (p : ℕ) (bs : Branches) → (p ≤ wide bs → p ≡ 0) → role_on p bs ≡ None
+on-none p no_branches h = refl
+on-none p (unloaded e bs) h = on_none p (e, None) bs h (on-none p bs (fewer p (wide bs) h))
+on-none p (loaded e n ss t bs) h = on_none p (e, Some (record { name = n; signatures = ss; below = t })) bs h (on-none p bs (fewer p (wide bs) h))
+
+below-none : (ps : List ℕ) → role_below ps None ≡ None
+below-none [] = refl
+below-none (q ∷ ps) = refl
+
+pub along-leaf : (way ps : List ℕ) (p : ℕ) (t : Targets) → way ≡ p ∷ ps → (out-Targets t).delegations ≡ None → None ≡ role_along way (tree_doc t)
+along-leaf way ps p t w h = sym (ap (λ (x : List ℕ). role_along x (tree_doc t)) w ∙ ap (λ (x : TreeDoc). role_along (p ∷ ps) x) (tree-leaf t h) ∙ below-none ps)
+
+pub along-inner : (way ps : List ℕ) (p at : ℕ) (t : Targets) (g : Delegations) (r : DelegatedRole) → way ≡ p ∷ ps → (out-Targets t).delegations ≡ Some g → at + p ≡ length (out-Delegations g).roles.items → at < length (out-Delegations g).roles.items
+    → r ≡ get_or (out-Delegations g).roles.items at r → role_below ps (Some (role_tree r)) ≡ role_along way (tree_doc t)
+along-inner way ps p at t g r w h sum lt is =
+    ap (role_below ps) (on-list (out-Delegations g).roles.items at p r sum lt is) ∙ sym (ap (λ (x : List ℕ). role_along x (tree_doc t)) w ∙ ap (λ (x : TreeDoc). role_along (p ∷ ps) x) (tree-inner t g h))
+
+pub along-past : (way ps : List ℕ) (p : ℕ) (t : Targets) (g : Delegations) → way ≡ p ∷ ps → (out-Targets t).delegations ≡ Some g → (p ≤ length (out-Delegations g).roles.items → p ≡ 0) → None ≡ role_along way (tree_doc t)
+along-past way ps p t g w h none =
+    let rs = (out-Delegations g).roles.items in
+    sym (ap (λ (x : List ℕ). role_along x (tree_doc t)) w ∙ ap (λ (x : TreeDoc). role_along (p ∷ ps) x) (tree-inner t g h)
+    ∙ ap (role_below ps) (on-none p (role_branches rs) (λ k. none (omega (arith, k, wide-roles rs)))) ∙ below-none ps)
+
+abbrev from_held : ℕ → List ℕ → Option HeldDoc → Option RoleTree
+from_held q ps None = None
+from_held q ps (Some d) = role_along (q ∷ ps) d.below
+
+below_from : (q : ℕ) (ps : List ℕ) (x : RoleTree) → role_below (q ∷ ps) (Some x) ≡ from_held q ps x.1
+below_from q ps (e, None) = refl
+below_from q ps (e, Some d) = refl
+
+pub below-bare : (way : List ℕ) (r : DelegatedRole) → 0 < length way → (out-DelegatedRole r).targets ≡ None → None ≡ role_below way (Some (role_tree r))
+below-bare [] r lt h = absurd (omega (arith, lt))
+below-bare (q ∷ ps) r lt h = sym (below_from q ps (role_tree r) ∙ ap (from_held q ps) (role-held r ∙ ap (option_map held_doc) h))
+
+pub below-held : (way : List ℕ) (r : DelegatedRole) (s : Signed DelegatedTargets) → 0 < length way → (out-DelegatedRole r).targets ≡ Some s
+    → role_along way (tree_doc (out-DelegatedTargets s.signed).targets) ≡ role_below way (Some (role_tree r))
+below-held [] r s lt h = absurd (omega (arith, lt))
+below-held (q ∷ ps) r s lt h = sym (below_from q ps (role_tree r) ∙ ap (from_held q ps) (role-held r ∙ ap (option_map held_doc) h) ∙ ap (role_along (q ∷ ps)) (held-below s))
 
 -- ---- in documents
 

@@ -1,5 +1,5 @@
 -- Delegated roles by name, a step at a time.
-use Rattle.std.proofs.Common.{◌≡◌, ℕ, ◌+◌, ◌<◌, arith, List, [], ◌∷◌, ◌++◌, drop, length, get_or, Bor, Bool, true, false, Option, Some, None, option_map, cond, if◌then◌else◌, string_bytes, refl, sym, ap, subst, ◌∙◌, append-nil, append_assoc}
+use Rattle.std.proofs.Common.{◌≡◌, ℕ, ◌+◌, ◌<◌, arith, List, [], ◌∷◌, ◌++◌, length, Bor, Bool, true, false, Option, Some, None, option_map, cond, if◌then◌else◌, string_bytes, refl, sym, ap, subst, ◌∙◌, append-nil, append_assoc}
 use Rattle.std.specs.Option.{option_or}
 use Rattle.std.specs.Str.{bytes_eq}
 use Rattle.tough_json.proofs.lemmas.Write.{some-inj}
@@ -15,9 +15,9 @@ use Rattle.tough_schema.specs.declared.targets.Targets.{Targets, out-Targets}
 use Rattle.tough_schema.specs.Below.{branches_in, branches_under, count, work}
 use Rattle.tough_schema.specs.Whole.{TreeDoc, tree, Branches, HeldDoc, RoleTree, DelegationsTree, put_branch, tree_doc, delegations_tree, role_tree, role_branches, held_doc}
 use Rattle.tough_schema.specs.Seek.{Sought, found, missing, undocumented, undelegated, if_found, or_next, if_delegated, seek, seek_in, sought, role_of, document_of, HasNone, IsUnheld, IsUnsought, standing, standing_in, first_named}
-use Rattle.tough_schema.specs.Seeking.{below_at, step_at, standing_below, standing_at, role_at, seen_or, sought_through, list_work, level_standing, all_standing, level_work}
+use Rattle.tough_schema.specs.Seeking.{below_at, step_at, standing_below, standing_at, seen_or, sought_through, list_work, level_standing, all_standing, level_work}
 use Rattle.tough_schema.proofs.Belows.{under-some, count-put}
-use Rattle.tough_schema.proofs.lemmas.Wholes.{tree-leaf, tree-inner, delegations-out, role-named, role-held, held-below, branches-drop}
+use Rattle.tough_schema.proofs.lemmas.Wholes.{tree-leaf, tree-inner, delegations-out, role-named, role-held, held-below}
 
 -- ---- the role of a name
 
@@ -33,10 +33,6 @@ seek-put : (name : List ℕ) (r : RoleTree) (bs : Branches) → seek name (put_b
 seek-put name (e, None) bs = next_bare (bytes_eq e.name name) (found (e, None)) undocumented (seek name bs)
 seek-put name (e, Some h) bs = next_below (bytes_eq e.name name) (found (e, Some h)) (if_found (seek_in name h.below)) (seek name bs)
 
-pub seek-next : (name : List ℕ) (rs : List DelegatedRole) (i : ℕ) (r : DelegatedRole) (o : Option Sought) → i < length rs → r ≡ get_or rs i r → o ≡ step_at name (role_tree r)
-    → seek name (role_branches (drop i rs)) ≡ or_next o (seek name (role_branches (drop (i + 1) rs)))
-seek-next name rs i r o h e s = ap (seek name) (branches-drop rs i r h e) ∙ seek-put name (role_tree r) (role_branches (drop (i + 1) rs)) ∙ ap (λ x. or_next x (seek name (role_branches (drop (i + 1) rs)))) (sym s)
-
 pub step-here : (name : List ℕ) (r : DelegatedRole) → bytes_eq (string_bytes (out-DelegatedRole r).name) name ≡ true → step_at name (role_tree r) ≡ Some (found (role_tree r))
 step-here name r h = ap (λ b. if b then Some (found (role_tree r)) else below_at name (role_tree r).1) (ap (λ n. bytes_eq n name) (role-named r) ∙ h)
 
@@ -49,12 +45,6 @@ step-bare name r h t = step-other name r h ∙ ap (λ o. below_at name (option_m
 pub step-below : (name : List ℕ) (r : DelegatedRole) (s : Signed DelegatedTargets) → bytes_eq (string_bytes (out-DelegatedRole r).name) name ≡ false → (out-DelegatedRole r).targets ≡ Some s
     → step_at name (role_tree r) ≡ if_found (seek_in name (tree_doc (out-DelegatedTargets s.signed).targets))
 step-below name r s h t = step-other name r h ∙ ap (λ o. below_at name (option_map held_doc o)) t ∙ ap (λ (t : TreeDoc). if_found (seek_in name t)) (held-below s)
-
-pub seek-leaf : (name : List ℕ) (t : Targets) → (out-Targets t).delegations ≡ None → seek_in name (tree_doc t) ≡ missing
-seek-leaf name t h = ap (seek_in name) (tree-leaf t h)
-
-pub seek-inner : (name : List ℕ) (t : Targets) (g : Delegations) → (out-Targets t).delegations ≡ Some g → seek_in name (tree_doc t) ≡ seek name (role_branches (out-Delegations g).roles.items)
-seek-inner name t g h = ap (seek_in name) (tree-inner t g h)
 
 pub sought-none : (name : List ℕ) (t : Targets) → (out-Targets t).delegations ≡ None → sought name (tree_doc t) ≡ undelegated
 sought-none name t h = ap (sought name) (tree-leaf t h)
@@ -90,32 +80,6 @@ sought-nowhere name t r h e = let same : None ≡ Some r = e ∙ ap role_of (see
 
 pub no-document : (s : Sought) (r : DelegatedRole) (h : HeldDoc) → document_of s ≡ Some h → s ≡ found (role_tree r) → (out-DelegatedRole r).targets ≡ None → ⊥
 no-document s r h has is none = let same : None ≡ Some h = sym (ap document_of is ∙ role-held r ∙ ap (option_map held_doc) none) ∙ has in cc
-
--- ---- the place of a role
-
-pub place-is : (name : List ℕ) (rs : List DelegatedRole) (i : ℕ) (r : DelegatedRole) (s : Sought) → i < length rs → r ≡ get_or rs i r → Some s ≡ step_at name (role_tree r)
-    → seek name (role_branches (drop i rs)) ≡ seek name (role_branches rs) → role_of (seek name (role_branches rs)) ≡ role_of s
-place-is name rs i r s h e is here = ap role_of (sym here ∙ seek-next name rs i r (Some s) h e is)
-
--- what is found in a document, through its roles
-pub role-inner : (name : List ℕ) (t : Targets) (g : Delegations) → (out-Targets t).delegations ≡ Some g → role_of (seek name (role_branches (out-Delegations g).roles.items)) ≡ role_of (seek_in name (tree_doc t))
-role-inner name t g h = ap role_of (sym (seek-inner name t g h))
-
-pub role-here : (name : List ℕ) (r : DelegatedRole) → bytes_eq (string_bytes (out-DelegatedRole r).name) name ≡ true → Some (role_tree r) ≡ role_at (step_at name (role_tree r))
-role-here name r h = ap role_at (sym (step-here name r h))
-
-pub role-bare : (name : List ℕ) (r : DelegatedRole) → bytes_eq (string_bytes (out-DelegatedRole r).name) name ≡ false → (out-DelegatedRole r).targets ≡ None → None ≡ role_at (step_at name (role_tree r))
-role-bare name r h t = ap role_at (sym (step-bare name r h t))
-
-role-found : (s : Sought) → role_at (if_found s) ≡ role_of s
-role-found (found r) = refl
-role-found missing = refl
-role-found undocumented = refl
-role-found undelegated = refl
-
-pub role-below : (name : List ℕ) (r : DelegatedRole) (s : Signed DelegatedTargets) → bytes_eq (string_bytes (out-DelegatedRole r).name) name ≡ false → (out-DelegatedRole r).targets ≡ Some s
-    → role_of (seek_in name (tree_doc (out-DelegatedTargets s.signed).targets)) ≡ role_at (step_at name (role_tree r))
-role-below name r s h t = sym (ap role_at (step-below name r s h t) ∙ role-found (seek_in name (tree_doc (out-DelegatedTargets s.signed).targets)))
 
 -- ---- where an entry stands
 

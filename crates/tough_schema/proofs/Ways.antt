@@ -4,19 +4,18 @@ use Rattle.std.proofs.lemmas.List.{reverse-append, take_more, drop_more}
 use Rattle.std.specs.Option.{option_or}
 use Rattle.std.specs.Str.{bytes_eq}
 use Rattle.tough_json.proofs.lemmas.Write.{some-inj}
-use Rattle.tough_roles.specs.Signature.{SignatureDoc}
 use Rattle.tough_schema.specs.Tree.{Entry}
 use Rattle.tough_roles.specs.declared.signed.Signed.{Signed}
 use Rattle.tough_schema.specs.declared.delegations.DelegatedRole.{DelegatedRole, out-DelegatedRole}
 use Rattle.tough_schema.specs.declared.targets.DelegatedTargets.{DelegatedTargets}
 use Rattle.tough_schema.specs.Below.{branches_in, branches_under, count, work}
-use Rattle.tough_schema.specs.Seek.{Sought, found, missing, undocumented, undelegated, if_found, or_next, if_delegated, sought, seek, seek_in}
+use Rattle.tough_schema.specs.Seek.{Sought, found, missing, undocumented, undelegated, if_found, or_next, if_delegated, sought, seek, seek_in, role_of}
 use Rattle.tough_schema.specs.Whole.{TreeDoc, tree, Branches, no_branches, unloaded, loaded, HeldDoc, RoleTree, put_branch, role_tree, role_branches, held_doc}
 use Rattle.tough_schema.specs.Put.{is_role, with_document, with_document_in}
-use Rattle.tough_schema.specs.Putting.{wide, has, slot, filled, slot_in, filled_in, held_filled, way, way_in, way_through, rest_of, rest_work, is_first, places, held_along, along, IsOpen, IsOpenIn, turned_back}
+use Rattle.tough_schema.specs.Putting.{wide, has, slot, role_on, role_along, role_below, filled, slot_in, filled_in, held_filled, way, way_in, way_through, rest_of, rest_work, is_first, places, held_along, along, IsOpen, IsOpenIn, turned_back}
 use Rattle.tough_schema.proofs.lemmas.Wholes.{role-held}
 use Rattle.tough_schema.proofs.Seeks.{count-roles}
-use Rattle.tough_schema.proofs.Exchanges.{wide-roles, has-here, slot-here, filled-here, has-most, has-behind, slot-behind, filled-behind, slot-filled-in, filled-filled-in}
+use Rattle.tough_schema.proofs.Exchanges.{wide-put, wide-roles, on-here, on-behind, has-here, slot-here, filled-here, has-most, has-behind, slot-behind, filled-behind, slot-filled-in, filled-filled-in}
 
 -- ---- there is a way where there is a role
 
@@ -154,6 +153,70 @@ sought-in name (tree o bs) r h = found-in o.keys (seek name bs) r h
 -- where a role was found there is a way
 pub some-way : (name : List ℕ) (t : TreeDoc) (r : RoleTree) → sought name t ≡ found r → way_in name t ≡ None → ⊥
 some-way name t r h w = let none : false ≡ true = sym (ap is_some w) ∙ way-role-in name t ∙ sought-in name t r h in cc
+
+-- ---- the role at its end is the one that is sought
+
+abbrev Shows : List ℕ → Branches → Option RoleTree → Type 0
+Shows [] bs o = ⊥
+Shows (p ∷ ps) bs o = (p ≤ wide bs) × (role_below ps (role_on p bs) ≡ o)
+
+shows_here : (ps : List ℕ) (r : RoleTree) (bs : Branches) (o : Option RoleTree) → role_below ps (Some r) ≡ o → Shows (suc (wide bs) ∷ ps) (put_branch r bs) o
+shows_here ps r bs o h = (omega (arith, wide-put r bs), ap (role_below ps) (on-here r bs) ∙ h)
+
+shows_behind : (ps : List ℕ) (r : RoleTree) (bs : Branches) (o : Option RoleTree) → Shows ps bs o → Shows ps (put_branch r bs) o
+shows_behind [] r bs o s = absurd s
+shows_behind (p ∷ ps) r bs o s = (omega (arith, s.0, wide-put r bs), ap (role_below ps) (on-behind p r bs s.0) ∙ s.1)
+
+shows_below : (ps : List ℕ) (e : Entry) (d : HeldDoc) (o : Option RoleTree) → Shows ps (branches_in d.below) o → role_below ps (Some (e, Some d)) ≡ o
+shows_below [] e d o s = absurd s
+shows_below (p ∷ ps) e d o s = s.1
+
+shows_along : (ps : List ℕ) (t : TreeDoc) (o : Option RoleTree) → Shows ps (branches_in t) o → role_along ps t ≡ o
+shows_along [] t o s = absurd s
+shows_along (p ∷ ps) t o s = s.1
+
+found_of : (s next : Sought) → is_role s ≡ true → role_of (or_next (if_found s) next) ≡ role_of s
+found_of (found r) next h = refl
+found_of missing next h = cc
+found_of undocumented next h = cc
+found_of undelegated next h = cc
+
+none_of : (s : Sought) → is_role s ≡ false → role_of s ≡ None
+none_of (found r) h = cc
+none_of missing h = refl
+none_of undocumented h = refl
+none_of undelegated h = refl
+
+bare_shows : (b : Bool) (e : Entry) (bs : Branches) (ps : List ℕ) → cond b (Some (suc (wide bs) ∷ [])) None ≡ Some ps → Shows ps (put_branch (e, None) bs) (role_of (cond b (found (e, None)) undocumented))
+bare_shows true e bs ps w = subst (λ (qs : List ℕ). Shows qs (put_branch (e, None) bs) (Some (e, None))) (some-inj w) (shows_here [] (e, None) bs (Some (e, None)) refl)
+bare_shows false e bs ps w = cc
+
+loaded_shows : (b : Bool) (e : Entry) (d : HeldDoc) (bs : Branches) (w v : Option (List ℕ)) (s next : Sought) (ps : List ℕ) → is_some w ≡ is_role s
+    → ((qs : List ℕ) → w ≡ Some qs → Shows qs (branches_in d.below) (role_of s)) → ((qs : List ℕ) → v ≡ Some qs → Shows qs bs (role_of next))
+    → cond b (Some (suc (wide bs) ∷ [])) (option_or (option_map (λ qs. suc (wide bs) ∷ qs) w) v) ≡ Some ps
+    → Shows ps (put_branch (e, Some d) bs) (role_of (cond b (found (e, Some d)) (or_next (if_found s) next)))
+loaded_shows true e d bs w v s next ps is below rest h = subst (λ (qs : List ℕ). Shows qs (put_branch (e, Some d) bs) (Some (e, Some d))) (some-inj h) (shows_here [] (e, Some d) bs (Some (e, Some d)) refl)
+loaded_shows false e d bs (Some qs) v s next ps is below rest h =
+    let o = role_of (or_next (if_found s) next) in
+    subst (λ (x : List ℕ). Shows x (put_branch (e, Some d) bs) o) (some-inj h) (shows_here qs (e, Some d) bs o (shows_below qs e d (role_of s) (below qs refl) ∙ sym (found_of s next (sym is))))
+loaded_shows false e d bs None v s next ps is below rest h =
+    subst (λ (x : Sought). Shows ps (put_branch (e, Some d) bs) (role_of x)) (sym (gone_by s next (sym is))) (shows_behind ps (e, Some d) bs (role_of next) (rest ps h))
+
+mutual
+  shows : (name : List ℕ) (bs : Branches) (ps : List ℕ) → way name bs ≡ Some ps → Shows ps bs (role_of (seek name bs))
+  shows name no_branches ps w = cc
+  shows name (unloaded e bs) ps w = bare_shows (bytes_eq e.name name) e bs ps w
+  shows name (loaded e n ss t bs) ps w =
+      loaded_shows (bytes_eq e.name name) e (record { name = n; signatures = ss; below = t }) bs (way_in name t) (way name bs) (seek_in name t) (seek name bs) ps (way-role-in name t) (shows-in name t) (shows name bs) w
+
+  shows-in : (name : List ℕ) (t : TreeDoc) (ps : List ℕ) → way_in name t ≡ Some ps → Shows ps (branches_in t) (role_of (seek_in name t))
+  shows-in name (tree o bs) ps w = shows name bs ps w
+
+pub way-lends : (name : List ℕ) (t : TreeDoc) (ps : List ℕ) → way_in name t ≡ Some ps → role_along ps t ≡ role_of (seek_in name t)
+way-lends name t ps w = shows_along ps t (role_of (seek_in name t)) (shows-in name t ps w)
+
+pub no-way : (name : List ℕ) (t : TreeDoc) → way_in name t ≡ None → role_of (seek_in name t) ≡ None
+no-way name t w = none_of (seek_in name t) (sym (way-role-in name t) ∙ ap is_some w)
 
 -- ---- documents are turned around, one by one
 

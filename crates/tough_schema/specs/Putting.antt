@@ -1,10 +1,9 @@
 -- The way to a role, and another document at its end: words of private clauses.
-use Rattle.std.specs.Prelude.{◌≡◌, ⊤, ℕ, suc, ◌+◌, eqb, List, [], ◌∷◌, ◌++◌, map, length, Bool, true, false, Option, Some, None, option_map, if◌then◌else◌}
+use Rattle.std.specs.Prelude.{◌≡◌, ⊤, ℕ, suc, ◌+◌, eqb, List, [], ◌∷◌, map, length, Bool, true, false, Option, Some, None, option_map, if◌then◌else◌}
 use Rattle.std.specs.Borrow.{Bor}
 use Rattle.std.specs.Option.{option_or}
 use Rattle.std.specs.Str.{bytes_eq}
-use Rattle.tough_schema.specs.Tree.{Entry}
-use Rattle.tough_schema.specs.Whole.{TreeDoc, tree, Branches, no_branches, unloaded, loaded, HeldDoc, put_branch, role_tree, role_branches}
+use Rattle.tough_schema.specs.Whole.{TreeDoc, tree, Branches, no_branches, unloaded, loaded, HeldDoc, RoleTree, put_branch, role_tree, role_branches}
 use Rattle.tough_schema.specs.Below.{branches_in, work}
 use Rattle.tough_schema.specs.declared.delegations.DelegatedRole.{DelegatedRole}
 
@@ -32,6 +31,12 @@ filled p o no_branches = no_branches
 filled p o (unloaded e bs) = if eqb p (suc (wide bs)) then put_branch (e, o) bs else unloaded e (filled p o bs)
 filled p o (loaded e n signatures t bs) = if eqb p (suc (wide bs)) then put_branch (e, o) bs else loaded e n signatures t (filled p o bs)
 
+-- the role at a place
+abbrev pub role_on : ℕ → Branches → Option RoleTree
+role_on p no_branches = None
+role_on p (unloaded e bs) = if eqb p (suc (wide bs)) then Some (e, None) else role_on p bs
+role_on p (loaded e n signatures t bs) = if eqb p (suc (wide bs)) then Some (e, Some (record { name = n; signatures = signatures; below = t })) else role_on p bs
+
 abbrev pub slot_in : ℕ → TreeDoc → Option HeldDoc
 slot_in p t = slot p (branches_in t)
 
@@ -53,6 +58,20 @@ abbrev mutual
 
   pub way_in : List ℕ → TreeDoc → Option (List ℕ)
   way_in name (tree o bs) = way name bs
+
+-- the role at the end of a way, from a document, and from a role
+abbrev pub role_after : List ℕ → (TreeDoc → Option RoleTree) → Option RoleTree → Option RoleTree
+role_after [] next o = o
+role_after (p ∷ ps) next None = None
+role_after (p ∷ ps) next (Some (e, None)) = None
+role_after (p ∷ ps) next (Some (e, Some d)) = next d.below
+
+abbrev pub role_along : List ℕ → TreeDoc → Option RoleTree
+role_along [] t = None
+role_along (p ∷ ps) t = role_after ps (λ below. role_along ps below) (role_on p (branches_in t))
+
+abbrev pub role_below : List ℕ → Option RoleTree → Option RoleTree
+role_below ps o = role_after ps (λ below. role_along ps below) o
 
 -- the way that is found in these roles, below the first ones of the lists that it came through, the last of them the nearest
 abbrev pub rest_of : List DelegatedRole → List DelegatedRole

@@ -1,5 +1,5 @@
 -- What the steps of seeking a role answer: words of private clauses.
-use Rattle.std.specs.Prelude.{◌≡◌, ℕ, ◌<◌, ◌+◌, List, [], ◌∷◌, ◌++◌, length, slice_index_or, Option, Some, None, option_and_then, if◌then◌else◌}
+use Rattle.std.specs.Prelude.{ℕ, ◌+◌, List, [], ◌∷◌, ◌++◌, Option, Some, None, if◌then◌else◌}
 use Rattle.std.specs.Borrow.{Bor}
 use Rattle.std.specs.Str.{bytes_eq}
 use Rattle.tough_schema.specs.declared.seek.Seen.{Seen}
@@ -7,7 +7,7 @@ use Rattle.tough_schema.specs.declared.seek.Seen.TheVariants.{Found, Missing, Un
 use Rattle.tough_schema.specs.declared.seek.Level.{Level}
 use Rattle.tough_schema.specs.declared.delegations.DelegatedRole.{DelegatedRole}
 use Rattle.tough_schema.specs.Whole.{HeldDoc, RoleTree, DelegationsTree, role_tree, role_branches, delegations_tree}
-use Rattle.tough_schema.specs.Seek.{Sought, found, missing, undocumented, if_found, or_next, seek, seek_in, role_of, standing, standing_in}
+use Rattle.tough_schema.specs.Seek.{Sought, found, missing, undocumented, if_found, or_next, seek, seek_in, standing, standing_in}
 use Rattle.tough_schema.specs.Below.{work}
 
 abbrev pub seen_of : Seen → Sought
@@ -30,15 +30,6 @@ standing_below (Some h) = standing_in h.below
 -- a role, and what stands below it
 abbrev pub standing_at : DelegationsTree → RoleTree → List (List ℕ × DelegationsTree)
 standing_at all r = (r.0.name, all) ∷ standing_below r.1
-
--- the role that was found
-abbrev pub role_at : Option Sought → Option RoleTree
-role_at o = option_and_then role_of o
-
--- at this place of the list stands the role that is found there, or below which it is
-pub record IsPlace (name : List ℕ) (roles : List DelegatedRole) (i : ℕ) : Type 0 where
-  pub within : i < length roles
-  pub role : (r : DelegatedRole) → r ≡ slice_index_or roles i r → role_of (seek name (role_branches roles)) ≡ role_at (step_at name (role_tree r))
 
 -- ---- without recursion
 

@@ -1,34 +1,53 @@
 //! Delegated roles by name, for writing.
 
-ghost use Rattle.std.specs.Prelude.{◌≡◌, Some, None, IfOk, IfErr, IfSome, IfNone, option_map};
-ghost use Rattle.tough_schema.specs.Whole.{tree_doc, role_tree, role_branches, held_doc};
-ghost use Rattle.tough_schema.specs.Seek.{found, seek, seek_in, sought, role_of, document_of, IsUnsought, IsUnheld};
-ghost use Rattle.tough_schema.specs.Seeking.{step_at, role_at, IsPlace};
+ghost use Rattle.std.specs.Prelude.{◌≡◌, Some, IfOk, IfErr, option_map};
+ghost use Rattle.tough_schema.specs.Whole.{tree_doc, role_tree, held_doc};
+ghost use Rattle.tough_schema.specs.Seek.{found, seek_in, sought, role_of, document_of, IsUnsought, IsUnheld};
+ghost use Rattle.tough_schema.specs.Putting.{role_along, role_below};
 
 use crate::delegations::DelegatedRole;
-use crate::seek::{Seen, seek_at};
 use crate::targets::{DelegatedTargets, Targets};
+use crate::way::way_to;
 use std::alloc::{AllocError, Global};
 use tough_roles::{Error, Signed};
 
-// The place of the role of the list that has the name, or below which one has it.
-fn place_of(alloc: Global, roles: &[DelegatedRole], name: &str) -> Result<Option<usize>, AllocError>
-    ensures there { IfOk result (λ o. IfSome o (λ i. IsPlace name.now roles.now i)) }
-    ensures none { IfOk result
-        (λ o. IfNone o (role_of (seek name.now (role_branches roles.now)) ≡ None)) }
+// The role at the end of the way, for writing.
+#[cycle(lend)]
+fn lend_along<'a>(document: &'a mut Targets, way: &[usize]) -> Option<&'a mut DelegatedRole>
+    ensures { option_map (λ r. role_tree r.now) result
+        ≡ role_along way.now (tree_doc document.old) }
 {
-    for (i, role) in roles.iter().enumerate() {
-        match seek_at(alloc, role, name)? {
-            Some(Seen::Found(_)) => return Ok(Some(i)),
-            Some(_) => return Ok(None),
-            None => {}
-        }
+    let Some((place, others)) = way.split_first() else {
+        return None;
+    };
+    let Some(delegations) = &mut document.delegations else {
+        return None;
+    };
+    let Some(at) = delegations.roles.len().checked_sub(*place) else {
+        return None;
+    };
+    match delegations.roles.get_mut(at) {
+        Some(role) => lend_below(role, others),
+        None => None,
     }
-    Ok(None)
+}
+
+// The role at the end of the way that goes on from this role.
+#[cycle(lend)]
+fn lend_below<'a>(role: &'a mut DelegatedRole, way: &[usize]) -> Option<&'a mut DelegatedRole>
+    ensures { option_map (λ r. role_tree r.now) result
+        ≡ role_below way.now (Some (role_tree role.old)) }
+{
+    if way.is_empty() {
+        return Some(role);
+    }
+    match &mut role.targets {
+        Some(document) => lend_along(&mut document.signed.targets, way),
+        None => None,
+    }
 }
 
 // The role of the name, for writing.
-#[cycle(lend)]
 fn lend_in<'a>(
     alloc: Global,
     document: &'a mut Targets,
@@ -37,32 +56,8 @@ fn lend_in<'a>(
     ensures { IfOk result (λ o. option_map (λ r. role_tree r.now) o
         ≡ role_of (seek_in name.now (tree_doc document.old))) }
 {
-    let Some(delegations) = &mut document.delegations else {
-        return Ok(None);
-    };
-    let Some(i) = place_of(alloc, &delegations.roles, name)? else {
-        return Ok(None);
-    };
-    match delegations.roles.get_mut(i) {
-        Some(role) => lend_at(alloc, role, name),
-        None => Ok(None),
-    }
-}
-
-#[cycle(lend)]
-fn lend_at<'a>(
-    alloc: Global,
-    role: &'a mut DelegatedRole,
-    name: &str,
-) -> Result<Option<&'a mut DelegatedRole>, AllocError>
-    ensures { IfOk result (λ o. option_map (λ r. role_tree r.now) o
-        ≡ role_at (step_at name.now (role_tree role.old))) }
-{
-    if role.name.as_str() == name {
-        return Ok(Some(role));
-    }
-    match &mut role.targets {
-        Some(document) => lend_in(alloc, &mut document.signed.targets, name),
+    match way_to(alloc, document, name)? {
+        Some(way) => Ok(lend_along(document, &way)),
         None => Ok(None),
     }
 }

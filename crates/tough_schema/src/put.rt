@@ -60,10 +60,7 @@ fn exchange_below(
 
 // Turns the documents on the way around: each gets, at the place of the one below it, the one above it. Returns the last
 // one above the end of the way, and drops the document there.
-fn turn(
-    old: Option<Signed<DelegatedTargets>>,
-    way: &[usize],
-) -> Option<Signed<DelegatedTargets>>
+fn turn(old: Option<Signed<DelegatedTargets>>, way: &[usize]) -> Option<Signed<DelegatedTargets>>
     ensures { IsOpen way.now (option_map held_doc old) → (h : HeldDoc)
         → turned_back (reverse way.now) (option_map held_doc result) (Some h)
         ≡ held_along way.now h (option_map held_doc old) }

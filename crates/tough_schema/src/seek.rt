@@ -4,8 +4,8 @@ ghost use Rattle.std.specs.Prelude.{◌≡◌, ◌<◌, ◌≤◌, ◌+◌, ◌*
 ghost use Rattle.std.specs.Option.{option_or};
 ghost use Rattle.tough_schema.specs.Below.{branches_in, count, work};
 ghost use Rattle.tough_schema.specs.Whole.{tree_doc, delegations_tree, role_tree, role_branches, held_doc};
-ghost use Rattle.tough_schema.specs.Seek.{found, missing, if_found, seek, seek_in, sought, document_of, IsUnsought, IsUnheld, standing_in, first_named, parent, IsOrphan};
-ghost use Rattle.tough_schema.specs.Seeking.{seen_of, seen_or, step_at, sought_through, list_work, level_standing, all_standing, level_work};
+ghost use Rattle.tough_schema.specs.Seek.{found, missing, seek, seek_in, sought, document_of, IsUnsought, IsUnheld, standing_in, first_named, parent, IsOrphan};
+ghost use Rattle.tough_schema.specs.Seeking.{seen_of, seen_or, sought_through, list_work, level_standing, all_standing, level_work};
 
 use crate::below::roles_of;
 use crate::delegations::{DelegatedRole, Delegations};
@@ -22,17 +22,6 @@ pub enum Seen<'a> {
     Missing,
     /// A role before it has no document to search.
     Undocumented,
-}
-
-// A role that was found below.
-fn if_found<'a>(seen: Seen<'a>) -> Option<Seen<'a>>
-    ensures { option_map seen_of result ≡ if_found (seen_of seen.entry) }
-{
-    match seen {
-        Seen::Found(role) => Some(Seen::Found(role)),
-        Seen::Missing => None,
-        Seen::Undocumented => None,
-    }
 }
 
 // Looks at the first of these roles. None if the search goes on with the lists, the last one first: with that of the roles
@@ -89,26 +78,6 @@ pub fn seek_in<'a>(alloc: Global, document: &'a Targets, name: &str) -> Result<S
 {
     let seen = seek_among(alloc, roles_of(document), name)?;
     Ok(seen)
-}
-
-/// Searches a role and the roles below it. None if the search continues with the next role.
-pub fn seek_at<'a>(
-    alloc: Global,
-    role: &'a DelegatedRole,
-    name: &str,
-) -> Result<Option<Seen<'a>>, AllocError>
-    ensures { IfOk result (λ o. option_map seen_of o ≡ step_at name.now (role_tree role.now)) }
-{
-    if role.name.as_str() == name {
-        return Ok(Some(Seen::Found(role)));
-    }
-    match &role.targets {
-        None => Ok(Some(Seen::Undocumented)),
-        Some(signed) => {
-            let seen = seek_in(alloc, &signed.signed.targets, name)?;
-            Ok(if_found(seen))
-        }
-    }
 }
 
 // Roles, and the delegations that list them.

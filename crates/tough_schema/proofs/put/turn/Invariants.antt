@@ -1,4 +1,4 @@
-use Rattle.std.proofs.Common.{◌≡◌, take, drop, reverse, Some, option_map}
+use Rattle.std.proofs.Common.{◌≡◌, take, drop, reverse, option_map}
 use Rattle.tough_schema.specs.Whole.{HeldDoc, held_doc}
 use Rattle.tough_schema.specs.Putting.{held_along, turned_back, IsOpen}
 use Rattle.tough_schema.proofs.put.turn.Given as goal
