@@ -145,6 +145,33 @@ pub fn read_targets<V: Verify>(
     Ok(targets)
 }
 
+/// The same of bytes that are given up: they are let go of before the checks, which make a text of the document.
+pub fn targets_from<V: Verify>(
+    checker: &Checker<'_, V>,
+    holder: &Holder<'_>,
+    listed: u64,
+    bytes: Vec<u8>,
+) -> Result<Signed<Targets>, UpdateError>
+    ensures { Gives (signed_doc tree_doc)
+        (judged (V.verifies checker.now.verifier.now) (enforces checker.now.enforcement)
+        checker.now.start.nanosecond (holder_doc holder.now) listed bytes.items) result }
+{
+    let read = Signed::<Targets>::read(checker.alloc, bytes.as_slice());
+    drop(bytes);
+    let targets = match read {
+        Ok(targets) => targets,
+        Err(ReadError::Memory) => return Err(UpdateError::Memory),
+        Err(source) => {
+            return Err(UpdateError::ParseMetadata {
+                role: RoleType::Targets,
+                source,
+            });
+        }
+    };
+    check(checker, holder, listed, &targets)?;
+    Ok(targets)
+}
+
 /// Each name that a document of the tree lists is found by the permissive search for it, or else `InvalidPath` tells the first that isn't.
 pub fn check_tree(alloc: Global, targets: &Targets) -> Result<(), UpdateError>
     ensures { Gives (λ _. tt {0}) (all_found (first_missing (tree_doc targets.now))) result }

@@ -17,7 +17,7 @@ pub use act::Act;
 pub use delegations::{Index, roles_of, set_document};
 pub use error::UpdateError;
 pub use fault::Fault;
-pub use holder::{Holder, RoleHolder, check_tree, holder_of, read_targets};
+pub use holder::{Holder, RoleHolder, check_tree, holder_of, read_targets, targets_from};
 pub use keeper::{Keeper, take_step};
 pub use request::{
     Request, digests_in, role_request, root_request, snapshot_request, targets_request,

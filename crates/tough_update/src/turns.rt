@@ -27,7 +27,7 @@ use std::alloc::Global;
 use tough_roles::{ReadError, RoleType, Root, Signed, Snapshot, Timestamp, Verify};
 use tough_trust::{
     Fault, Limits, Request, UpdateError, first_root, holder_of, next_request, next_root,
-    read_targets, snapshot_request, targets_request, timestamp_request,
+    snapshot_request, targets_from, targets_request, timestamp_request,
 };
 use tough_vault::{Checker, ExpirationEnforcement, Refusal, StepError, check_expiry};
 
@@ -234,12 +234,12 @@ fn take_targets<V: Verify>(
     setting: &Setting<'_>,
     known: Known,
     listed: u64,
-    bytes: &[u8],
+    bytes: Vec<u8>,
     verifier: &V,
 ) -> Result<Stage, UpdateError>
     ensures { Gives stage_doc
         (new_targets (V.verifies verifier.now) (enforces setting.now.enforcement) (known_doc known)
-        listed bytes.now) result }
+        listed bytes.items) result }
 {
     let holder = holder_of(&known.root.signed, None);
     let checker = Checker {
@@ -248,7 +248,7 @@ fn take_targets<V: Verify>(
         start: known.start,
         enforcement: setting.enforcement,
     };
-    match read_targets(&checker, &holder, listed, bytes) {
+    match targets_from(&checker, &holder, listed, bytes) {
         Ok(targets) => Ok(Stage::Step(Pending::PutTargets(known, targets))),
         Err(error) => Err(error),
     }
@@ -323,7 +323,7 @@ pub(crate) fn read_wanted<V: Verify>(
         Wanted::Snapshot(base, timestamp, listed) => {
             take_snapshot(alloc, base, timestamp, listed, held)
         }
-        Wanted::Targets(known, listed) => take_targets(setting, known, listed, held, verifier),
+        Wanted::Targets(known, listed) => take_targets(setting, known, listed, bytes, verifier),
         Wanted::Role(known, roles, listed) => {
             take_role(setting, known, roles, listed, request.name, bytes, verifier)
         }
