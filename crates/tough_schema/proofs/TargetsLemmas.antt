@@ -21,7 +21,7 @@ use Rattle.tough_schema.specs.Targets.{TargetsDoc, if_clean, name_at, entry_at, 
 use Rattle.tough_schema.proofs.TargetLemmas.{target-back}
 use Rattle.tough_schema.proofs.DelegationsLemmas.{delegations-back, delegations-present, delegations-kept}
 
-names_total : IsTotalOrder by_raw_then_resolved
+pub names_total : IsTotalOrder by_raw_then_resolved
 names_total = search (comparing, rules)
 
 -- ---- the listing

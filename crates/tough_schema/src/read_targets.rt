@@ -1,16 +1,15 @@
 //! Targets, read from JSON.
 
 ghost use Rattle.std.specs.Prelude.{◌≡◌, [], Some, IfOk};
-ghost use Rattle.json.specs.Value.{value_view};
-ghost use Rattle.serde_json.specs.Data.{Data, Members};
-ghost use Rattle.serde_json.specs.Read.{of_json};
-ghost use Rattle.serde_json.specs.View.{view, members_view};
-ghost use Rattle.tough_json.specs.Borrowed.{listed};
+ghost use Rattle.json.specs.Value.{value_view, members_view as json_members};
+ghost use Rattle.serde_json.specs.Data.{Data, Members, no_members};
+ghost use Rattle.serde_json.specs.Read.{of_json, of_members};
+ghost use Rattle.serde_json.specs.View.{members_view};
 ghost use Rattle.tough_json.specs.Reading.{required};
 ghost use Rattle.tough_json.specs.Results.{Reads, Takes};
 ghost use Rattle.tough_schema.specs.Fresh.{IsFresh};
-ghost use Rattle.tough_schema.specs.Target.{target_doc};
-ghost use Rattle.tough_schema.specs.Targets.{entry_at, listing_doc, listing_from, listing_at, targets_doc, targets_at, targets_around};
+ghost use Rattle.tough_schema.specs.Target.{target_doc, target_at};
+ghost use Rattle.tough_schema.specs.Targets.{name_at, listing_doc, listing_from, listing_at, targets_doc, targets_at, targets_around};
 
 use crate::read_delegations::delegations;
 use crate::read_target::target_of;
@@ -19,55 +18,59 @@ use crate::targets::Targets;
 use serde_json::{Map, Value};
 use std::alloc::Global;
 use std::collections::BTreeMap;
-use tough_json::borrowed::{Borrowed, in_order, take_member, value_in};
+use tough_json::borrowed::{Borrowed, take_member, value_in};
 use tough_json::error::{ReadError, member_shape, shape, within};
 use tough_json::member::take;
 use tough_names::{NameError, TargetName};
 use tough_roles::head::head_of;
 
-// A member as a target under its name.
-#[tactic(auto, unfolding(crate::specs::Targets::entry_at))]
-fn entry(alloc: Global, raw: &str, value: Value) -> Result<(TargetName, Target), ReadError>
-    ensures { Reads (λ p. (p.0, target_doc p.1)) result (entry_at raw.now (view value)) }
+// The target's name that the text is.
+fn name_of(alloc: Global, raw: &str) -> Result<TargetName, ReadError>
+    ensures { Reads (λ name. name) result (name_at raw.now) }
 {
-    let name = match TargetName::from_str(alloc, raw) {
-        Ok(name) => name,
-        Err(NameError::Memory) => return Err(ReadError::Memory),
-        Err(_) => return Err(member_shape(alloc, raw, "(no target's name)")),
+    match TargetName::from_str(alloc, raw) {
+        Ok(name) => Ok(name),
+        Err(NameError::Memory) => Err(ReadError::Memory),
+        Err(_) => Err(member_shape(alloc, raw, "(no target's name)")),
+    }
+}
+
+// The target that the member of the name is; only for this member a value is made.
+fn target_in(alloc: Global, raw: &str, value: Borrowed<'_>) -> Result<Target, ReadError>
+    ensures { (d : Data) → of_json (value_view value.entry) ≡ Some d
+        → Reads target_doc result (target_at d) }
+{
+    let value = match value_in(alloc, &value) {
+        Ok(value) => value,
+        Err(error) => return Err(error),
     };
     match target_of(alloc, value) {
-        Ok(target) => Ok((name, target)),
+        Ok(target) => Ok(target),
         Err(error) => Err(within(alloc, raw, error)),
     }
 }
 
-// A member as a target under its name; only for this member a value is made.
-fn entry_in(
+// The members as targets, read from the last on: of a name that comes twice the last counts. What one member took is free for
+// the next.
+fn listing_of(
     alloc: Global,
-    raw: &str,
-    value: Borrowed<'_>,
-) -> Result<(TargetName, Target), ReadError>
-    ensures { (d : Data) → of_json (value_view value.entry) ≡ Some d
-        → Reads (λ p. (p.0, target_doc p.1)) result (entry_at raw.now d) }
-{
-    match value_in(alloc, &value) {
-        Ok(value) => entry(alloc, raw, value),
-        Err(error) => Err(error),
-    }
-}
-
-// The members as targets.
-fn listing_in_order(
-    alloc: Global,
-    members: BTreeMap<&str, Borrowed<'_>>,
+    members: Vec<(&str, Borrowed<'_>)>,
 ) -> Result<BTreeMap<TargetName, Target>, ReadError>
-    ensures { (ms : Members) → listed members.entry.entries ≡ Some ms
+    ensures { (ms : Members) → of_members (json_members members.entry.items) no_members ≡ Some ms
         → Reads (λ m. listing_doc m.entries) result (listing_from [] ms) }
 {
+    let mut left = members;
     let mut targets = BTreeMap::new(alloc);
-    for (raw, value) in members {
-        let (name, target) = match entry_in(alloc, raw, value) {
-            Ok(entry) => entry,
+    while let Some((raw, value)) = left.pop() {
+        let name = match name_of(alloc, raw) {
+            Ok(name) => name,
+            Err(error) => return Err(error),
+        };
+        if targets.contains_key(&name) {
+            continue;
+        }
+        let target = match target_in(alloc, raw, value) {
+            Ok(target) => target,
             Err(error) => return Err(error),
         };
         drop(targets.insert(name, target)?);
@@ -83,10 +86,7 @@ fn listing_in(alloc: Global, value: Borrowed<'_>) -> Result<BTreeMap<TargetName,
     let Borrowed::Object(members) = value else {
         return Err(shape(alloc, "(no object)"));
     };
-    match in_order(alloc, members) {
-        Ok(members) => listing_in_order(alloc, members),
-        Err(_) => Err(ReadError::Memory),
-    }
+    listing_of(alloc, members)
 }
 
 // The document with this listing, and with these as the other members.
