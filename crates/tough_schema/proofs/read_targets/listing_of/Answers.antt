@@ -1,10 +1,9 @@
-use Rattle.std.proofs.Common.{◌≡◌, [], ◌∷◌, ◌++◌, true, false, Some, is_some, sym, ap, subst, ◌∙◌, rules}
-use Rattle.std.specs.BTreeMap.{insert_entry, is_at}
+use Rattle.std.proofs.Common.{◌≡◌, [], ◌∷◌, ◌++◌, true, false, is_some, ap, ◌∙◌, rules}
+use Rattle.std.specs.BTreeMap.{is_at}
 use Rattle.std.specs.Map.{lookup}
 use Rattle.json.specs.Value.{members_view as json_members}
 use Rattle.serde_json.specs.Data.{no_members}
 use Rattle.serde_json.specs.Read.{of_members}
-use Rattle.tough_json.specs.Results.{Refuses}
 use Rattle.tough_json.proofs.lemmas.Each.{refuses-map}
 use Rattle.tough_names.specs.Named.{by_raw_then_resolved}
 use Rattle.tough_schema.specs.Target.{target_doc, target_at}
