@@ -1,6 +1,7 @@
 -- Objects that are written member by member: the text of an object is told by the texts of its members, where their names
 -- stand as they are and rise.
-use Rattle.std.specs.Prelude.{◌≡◌, ℕ, nat_lt, ◌==◌, ◌&&◌, not, Bool, true, false, if◌then◌else◌, List, [], ◌∷◌, ◌++◌, Option, Some, None, string_bytes}
+use Rattle.std.specs.declared.alloc.Global.{Global}
+use Rattle.std.specs.Prelude.{◌≡◌, ℕ, nat_lt, ◌==◌, ◌&&◌, not, Bool, true, false, if◌then◌else◌, List, [], ◌∷◌, ◌++◌, Option, Some, None, String, string_bytes}
 use Rattle.std.specs.Cmp.Lexicographic.{slice_cmp}
 use Rattle.std.specs.declared.cmp.Ordering.TheVariants.{Less}
 use Rattle.std.specs.List.{list_all}
@@ -13,6 +14,7 @@ use Rattle.tough_cjson.specs.CanonicalText.{canonical_of}
 use Rattle.tough_json.specs.declared.pieces.Form.{Form}
 use Rattle.tough_json.specs.declared.pieces.Form.TheVariants as forms
 use Rattle.tough_json.specs.declared.pieces.ObjectText.{ObjectText}
+use Rattle.tough_json.specs.declared.pieces.OpenObject.{OpenObject}
 
 -- the text of a value: the canonical one (OLPC canonical JSON), or compact JSON (RFC 8259), which no value with a float has
 abbrev pub text_in : Form → Data → Option (List ℕ)
@@ -65,12 +67,30 @@ abbrev pub is_none_yet : List (List ℕ) → Bool
 is_none_yet [] = true
 is_none_yet (t ∷ ts) = false
 
--- what was written is the object of these members, but for the brace at its end
-pub record Stands (form : Form) (ms : Members) (o : ObjectText) : Type 0 where
+-- the text is the one before with that text behind it, if there is one
+abbrev pub Appends : List ℕ → Option (List ℕ) → List ℕ → Type 0
+Appends before o after = (s : List ℕ) × (o ≡ Some s) × (after ≡ before ++ s)
+
+-- behind the base stands the object of these members, but for the brace at its end
+pub record Stands (base : List ℕ) (form : Form) (ms : Members) (o : ObjectText) : Type 0 where
   pub kind : o.form ≡ form
   pub simple : AreSimple ms
   pub above : (n : List ℕ) → slice_cmp nat_cmp (string_bytes o.last) n ≡ Less → AreBelow n ms
   pub pieces : List (List ℕ)
   pub told : ArePieces form ms pieces
-  pub text : o.text.items ≡ 123 ∷ joined pieces
+  pub text : o.text.items ≡ base ++ 123 ∷ joined pieces
   pub first : o.is_first ≡ is_none_yet pieces
+
+-- behind that stands the name of one more member, which is the last one, and its value is still to come
+pub record IsNamed (base : List ℕ) (form : Form) (ms : Members) (n : List ℕ) (kind : Form) (last : String Global) (text : List ℕ) : Type 0 where
+  pub same : kind ≡ form
+  pub simple : AreSimple ms
+  pub here : IsSimple n
+  pub below : AreBelow n ms
+  pub named : string_bytes last ≡ n
+  pub pieces : List (List ℕ)
+  pub told : ArePieces form ms pieces
+  pub written : text ≡ (base ++ 123 ∷ joined pieces) ++ ((if is_none_yet pieces then [] else 44 ∷ []) ++ piece n [])
+
+abbrev pub IsOpen : List ℕ → Form → Members → List ℕ → OpenObject → List ℕ → Type 0
+IsOpen base form ms n o text = IsNamed base form ms n o.form o.last text

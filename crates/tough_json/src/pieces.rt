@@ -1,16 +1,16 @@
 //! Objects written member by member, so that no value of the whole object is made.
 
-ghost use Rattle.std.specs.Prelude.{◌≡◌, ◌++◌, ℕ, List, [], ◌∷◌, Some, IfOk, OnOk, IsTrue, if◌then◌else◌};
+ghost use Rattle.std.specs.Prelude.{◌≡◌, ◌++◌, ℕ, List, [], ◌∷◌, false, Some, IfOk, OnOk, IsTrue, if◌then◌else◌};
 ghost use Rattle.std.specs.List.{list_all};
-ghost use Rattle.serde_json.specs.Data.{Data, Members, object, no_members};
-ghost use Rattle.serde_json.specs.View.{view, members_view};
+ghost use Rattle.serde_json.specs.Data.{Data, string, Members, object, no_members};
+ghost use Rattle.serde_json.specs.View.{view};
 ghost use Rattle.tough_json.specs.Results.{Writes};
 ghost use Rattle.tough_json.specs.declared.pieces.Form.{Form as Kind};
-ghost use Rattle.tough_json.specs.Pieces.{text_in, is_simple_byte, IsSimple, AreBelow, and_last, replaced, piece, Stands};
+ghost use Rattle.tough_json.specs.Pieces.{text_in, is_simple_byte, IsSimple, AreBelow, and_last, piece, Appends, Stands, IsNamed, IsOpen};
 
 use crate::error::WriteError;
 use crate::text::bytes_of;
-use serde_json::{Map, Value};
+use serde_json::Value;
 use std::alloc::{AllocError, Global};
 use tough_cjson::{CjsonError, canonical, holds_float};
 
@@ -103,23 +103,46 @@ fn is_simple(name: &str) -> bool
     name.is_ascii() && has_simple_bytes(name.as_bytes())
 }
 
-// Appends a member's text, with a comma before it unless it is the first.
-fn append_piece(
-    out: &mut Vec<u8>,
-    is_first: bool,
-    name: &str,
-    text: &[u8],
-) -> Result<(), AllocError>
+/// The text with that of the value behind it. `Refused` where the value has none.
+pub fn append_value(
+    alloc: Global,
+    form: Form,
+    value: &Value,
+    mut out: Vec<u8>,
+) -> Result<Vec<u8>, PieceError>
+    ensures { IfOk result (λ t. Appends out.items (text_in form (view value.now)) t.items) }
+{
+    let text = text_in(alloc, form, value)?;
+    out.extend_from_slice(text.as_slice())?;
+    Ok(out)
+}
+
+/// The text with another in quotes behind it. `Refused` where that one isn't ASCII, or has a control character, a quote
+/// or a backslash.
+pub fn append_quoted(mut out: Vec<u8>, text: &str) -> Result<Vec<u8>, PieceError>
+    ensures { IfOk result (λ t. (form : Kind)
+        → Appends out.items (text_in form (string text.now)) t.items) }
+{
+    if !is_simple(text) {
+        return Err(PieceError::Refused);
+    }
+    out.extend_from_slice(b"\"")?;
+    out.extend_from_slice(text.as_bytes())?;
+    out.extend_from_slice(b"\"")?;
+    Ok(out)
+}
+
+// Appends a member's name in quotes and a colon, with a comma before them unless the member is the first.
+fn append_name(out: &mut Vec<u8>, is_first: bool, name: &str) -> Result<(), AllocError>
     ensures { OnOk result (out.new.items
-        ≡ out.old.items ++ ((if is_first then [] else 44 ∷ []) ++ piece name.now text.now)) }
+        ≡ out.old.items ++ ((if is_first then [] else 44 ∷ []) ++ piece name.now [])) }
 {
     if !is_first {
         out.extend_from_slice(b",")?;
     }
     out.extend_from_slice(b"\"")?;
     out.extend_from_slice(name.as_bytes())?;
-    out.extend_from_slice(b"\":")?;
-    out.extend_from_slice(text)
+    out.extend_from_slice(b"\":")
 }
 
 /// The text of an object that is written member by member. After an error it is of no more use.
@@ -131,12 +154,25 @@ pub struct ObjectText {
     last: String,
 }
 
+/// What an object is without its text, while the value of its last member is written.
+#[derive(Drop)]
+pub struct OpenObject {
+    form: Form,
+    last: String,
+}
+
 impl ObjectText {
     /// An object with no member yet.
     pub fn new(alloc: Global, form: Form) -> Result<ObjectText, AllocError>
-        ensures { IfOk result (Stands form no_members) }
+        ensures { IfOk result (Stands [] form no_members) }
     {
-        let mut text = Vec::new(alloc);
+        ObjectText::behind(alloc, form, Vec::new(alloc))
+    }
+
+    /// The same behind a text.
+    pub fn behind(alloc: Global, form: Form, mut text: Vec<u8>) -> Result<ObjectText, AllocError>
+        ensures { IfOk result (Stands text.items form no_members) }
+    {
         text.extend_from_slice(b"{")?;
         Ok(ObjectText {
             form,
@@ -146,21 +182,12 @@ impl ObjectText {
         })
     }
 
-    /// One more member, behind the others. `Refused` where the value has no text, or the name isn't ASCII, has a control
-    /// character, a quote or a backslash, or isn't above those before it by its bytes.
-    pub fn push(&mut self, alloc: Global, name: &str, value: &Value) -> Result<(), PieceError>
-        ensures { OnOk result ((form : Kind) (ms : Members) → Stands form ms self.old
-            → AreBelow name.now ms × Stands form (and_last ms name.now (view value.now)) self.new) }
-    {
-        let text = text_in(alloc, self.form, value)?;
-        self.push_text(name, text.as_slice())
-    }
-
-    /// The same, where the text of the value is known.
-    pub fn push_text(&mut self, name: &str, text: &[u8]) -> Result<(), PieceError>
-        ensures { OnOk result ((form : Kind) (ms : Members) (d : Data) → Stands form ms self.old
-            → text_in form d ≡ Some text.now → AreBelow name.now ms
-            × Stands form (and_last ms name.now d) self.new) }
+    // Writes the name of one more member, behind the others.
+    fn write_name(&mut self, name: &str) -> Result<(), PieceError>
+        ensures named { OnOk result ((base : List ℕ) (form : Kind) (ms : Members)
+            → Stands base form ms self.old → AreBelow name.now ms
+            × IsNamed base form ms name.now self.new.form self.new.last self.new.text.items) }
+        ensures more { OnOk result (self.new.is_first ≡ false) }
     {
         if !is_simple(name) {
             return Err(PieceError::Refused);
@@ -168,17 +195,55 @@ impl ObjectText {
         if name <= self.last.as_str() {
             return Err(PieceError::Refused);
         }
-        append_piece(&mut self.text, self.is_first, name, text)?;
+        append_name(&mut self.text, self.is_first, name)?;
         self.is_first = false;
         self.last.clear();
         self.last.push_str(name)?;
         Ok(())
     }
 
-    /// The text of the object of these members.
+    /// One more member, behind the others. `Refused` where the value has no text, or the name isn't ASCII, has a control
+    /// character, a quote or a backslash, or isn't above those before it by its bytes.
+    pub fn push(&mut self, alloc: Global, name: &str, value: &Value) -> Result<(), PieceError>
+        ensures { OnOk result ((base : List ℕ) (form : Kind) (ms : Members)
+            → Stands base form ms self.old → AreBelow name.now ms
+            × Stands base form (and_last ms name.now (view value.now)) self.new) }
+    {
+        let text = text_in(alloc, self.form, value)?;
+        self.push_text(name, text.as_slice())
+    }
+
+    /// The same, where the text of the value is known.
+    pub fn push_text(&mut self, name: &str, text: &[u8]) -> Result<(), PieceError>
+        ensures { OnOk result ((base : List ℕ) (form : Kind) (ms : Members) (d : Data)
+            → Stands base form ms self.old → text_in form d ≡ Some text.now
+            → AreBelow name.now ms × Stands base form (and_last ms name.now d) self.new) }
+    {
+        self.write_name(name)?;
+        self.text.extend_from_slice(text)?;
+        Ok(())
+    }
+
+    /// The same, where the text of the value is to be appended to what is written so far, which is given out.
+    pub fn open(mut self, name: &str) -> Result<(OpenObject, Vec<u8>), PieceError>
+        ensures { IfOk result (λ r. (base : List ℕ) (form : Kind) (ms : Members)
+            → Stands base form ms self
+            → AreBelow name.now ms × IsOpen base form ms name.now r.0 r.1.items) }
+    {
+        self.write_name(name)?;
+        let ObjectText {
+            form,
+            text,
+            last,
+            ..
+        } = self;
+        Ok((OpenObject { form, last }, text))
+    }
+
+    /// The text of the object of these members, behind the one that it was begun behind.
     pub fn finish(self) -> Result<Vec<u8>, AllocError>
-        ensures { IfOk result (λ t. (form : Kind) (ms : Members) → Stands form ms self
-            → text_in form (object ms) ≡ Some t.items) }
+        ensures { IfOk result (λ t. (base : List ℕ) (form : Kind) (ms : Members)
+            → Stands base form ms self → Appends base (text_in form (object ms)) t.items) }
     {
         let ObjectText { mut text, .. } = self;
         text.extend_from_slice(b"}")?;
@@ -186,27 +251,20 @@ impl ObjectText {
     }
 }
 
-/// The text of an object, where that of the value under a name is given in place of the value; `Refused` as by
-/// `ObjectText::push`.
-pub fn object_with(
-    alloc: Global,
-    form: Form,
-    members: &Map<String, Value>,
-    name: &str,
-    text: &[u8],
-) -> Result<Vec<u8>, PieceError>
-    ensures { IfOk result (λ t. (d : Data) → text_in form d ≡ Some text.now
-        → text_in form (object (replaced name.now d
-        (members_view members.now.entries))) ≡ Some t.items) }
-{
-    let mut object = ObjectText::new(alloc, form)?;
-    for (key, member) in members.iter() {
-        if key.as_str() == name {
-            object.push_text(name, text)?;
-        } else {
-            object.push(alloc, key.as_str(), member)?;
+impl OpenObject {
+    /// The object again, once the text of the value is appended to what was given out.
+    pub fn close(self, text: Vec<u8>) -> ObjectText
+        ensures { (base : List ℕ) (form : Kind) (ms : Members) (n : List ℕ) (d : Data)
+            (before : List ℕ) → IsOpen base form ms n self before
+            → Appends before (text_in form d) text.items
+            → Stands base form (and_last ms n d) result }
+    {
+        let OpenObject { form, last } = self;
+        ObjectText {
+            form,
+            text,
+            is_first: false,
+            last,
         }
     }
-    let whole = object.finish()?;
-    Ok(whole)
 }

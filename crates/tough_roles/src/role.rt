@@ -5,7 +5,7 @@ ghost use Rattle.serde_json.specs.Data.{Data};
 ghost use Rattle.serde_json.specs.Read.{of_json};
 ghost use Rattle.serde_json.specs.View.{view};
 ghost use Rattle.tough_json.specs.Results.{Writes};
-ghost use Rattle.tough_json.specs.Pieces.{text_in};
+ghost use Rattle.tough_json.specs.Pieces.{text_in, Appends};
 ghost use Rattle.tough_roles.specs.Chain.{text_by};
 ghost use Rattle.tough_roles.specs.Document.{ReadsValue};
 ghost use Rattle.tough_roles.specs.Head.{Head};
@@ -58,10 +58,16 @@ pub trait Role {
         ensures written { Writes view result (json self.now) }
         ensures back { is_kept self.now → IfOk result (λ v. is_read (view v) self.now) };
 
-    /// The text of the role's JSON, written in pieces, so that no value of the whole is made. `Refused` where the role
-    /// isn't written so: the text of `to_value` decides then.
-    fn text_in_pieces(&self, alloc: Global, form: Form) -> Result<Vec<u8>, PieceError>
-        ensures { IfOk result (λ t. option_and_then (text_in form) (json self.now) ≡ Some t.items) }
+    /// The text with that of the role's JSON behind it, written in pieces, so that no value of the whole is made.
+    /// `Refused` where the role isn't written so: the text of `to_value` decides then.
+    fn append_in_pieces(
+        &self,
+        alloc: Global,
+        form: Form,
+        out: Vec<u8>,
+    ) -> Result<Vec<u8>, PieceError>
+        ensures { IfOk result (λ t. Appends out.items
+            (option_and_then (text_in form) (json self.now)) t.items) }
     {
         Err(PieceError::Refused)
     }
@@ -70,7 +76,7 @@ pub trait Role {
     fn canonical_form(&self, alloc: Global) -> Result<Vec<u8>, WriteError>
         ensures { Writes (λ t. t.items) result (text_by json self.now) }
     {
-        match self.text_in_pieces(alloc, Form::Canonical) {
+        match self.append_in_pieces(alloc, Form::Canonical, Vec::new(alloc)) {
             Ok(text) => Ok(text),
             Err(PieceError::Memory) => Err(WriteError::Memory),
             Err(PieceError::Refused) => {

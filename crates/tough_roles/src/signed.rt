@@ -11,7 +11,7 @@ ghost use Rattle.tough_roles.specs.Document.{ReadsText, IsSigned, IsNotSigned, d
 use crate::read_signed::signed_of;
 use crate::role::Role;
 use crate::signature::Signature;
-use crate::write_signed::{signed_text, signed_value};
+use crate::write_signed::{before_role, signed_value};
 use serde_json::Value;
 use std::alloc::Global;
 use tough_json::borrowed::{Scratch, borrowed};
@@ -75,9 +75,10 @@ impl<T: Role> Signed<T> {
         ensures { IfOk result (λ t. option_and_then (text_in form)
             (document_json T.json self.now) ≡ Some t.items) }
     {
-        let role = self.signed.text_in_pieces(alloc, form)?;
-        let text = signed_text(alloc, form, role.as_slice(), &self.signatures)?;
-        Ok(text)
+        let (object, before) = before_role(alloc, form, &self.signatures)?;
+        let text = self.signed.append_in_pieces(alloc, form, before)?;
+        let whole = object.close(text).finish()?;
+        Ok(whole)
     }
 
     /// The text of the document, canonical or compact; `Unwritable` where its role has no JSON, or that has no such text.

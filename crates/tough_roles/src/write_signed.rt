@@ -1,13 +1,14 @@
-ghost use Rattle.std.specs.Prelude.{◌≡◌, Some, IfOk, option_and_then};
-ghost use Rattle.serde_json.specs.Data.{Data};
+ghost use Rattle.std.specs.Prelude.{◌≡◌, [], Some, IfOk, codes};
+ghost use Rattle.serde_json.specs.Data.{array, Items, no_members, member};
 ghost use Rattle.serde_json.specs.View.{view, items_view};
 ghost use Rattle.tough_json.specs.Writing.{all_json};
-ghost use Rattle.tough_json.specs.Pieces.{text_in};
+ghost use Rattle.tough_json.specs.Pieces.{IsOpen};
 ghost use Rattle.tough_roles.specs.Signature.{signature_doc, signatures_doc, signature_json, signed_parts_json};
 
 use crate::signature::Signature;
 use serde_json::{Map, Value};
 use std::alloc::{AllocError, Global};
+use tough_json::pieces::OpenObject;
 use tough_json::write::{digits, put};
 use tough_json::{Form, ObjectText, PieceError};
 
@@ -53,21 +54,20 @@ pub(crate) fn signed_value(
     Ok(Value::Object(members))
 }
 
-// The text of the document with the role of that text and these signatures.
-pub(crate) fn signed_text(
+// The document's text up to its role's, which stands behind these signatures.
+pub(crate) fn before_role(
     alloc: Global,
     form: Form,
-    role: &[u8],
     signatures: &[Signature],
-) -> Result<Vec<u8>, PieceError>
-    ensures { IfOk result (λ t. (d : Data) → text_in form d ≡ Some role.now
-        → option_and_then (text_in form)
-        (signed_parts_json d (signatures_doc signatures.now)) ≡ Some t.items) }
+) -> Result<(OpenObject, Vec<u8>), PieceError>
+    ensures { IfOk result (λ r. (items : Items)
+        × (all_json signature_json (signatures_doc signatures.now) ≡ Some items)
+        × IsOpen [] form (member (codes "signatures") (array items) no_members)
+        (codes "signed") r.0 r.1.items) }
 {
     let items = Value::Array(signature_values(alloc, signatures)?);
     let mut object = ObjectText::new(alloc, form)?;
     object.push(alloc, "signatures", &items)?;
-    object.push_text("signed", role)?;
-    let text = object.finish()?;
-    Ok(text)
+    let opened = object.open("signed")?;
+    Ok(opened)
 }

@@ -1,6 +1,8 @@
 -- What is written for a target is read as it.
-use Rattle.std.proofs.Common.{◌≡◌, List, [], ◌∷◌, length, codes, Option, Some, None, refl}
-use Rattle.serde_json.specs.Data.{Data, object, Members, no_members, member}
+use Rattle.std.proofs.Common.{◌≡◌, ℕ, List, [], ◌∷◌, length, codes, Option, Some, None, refl}
+use Rattle.std.proofs.lemmas.Slice.Eq.{bytes_eq-Decides}
+use Rattle.tough_decoded.specs.Spelled.{Spelled, hex_bytes}
+use Rattle.serde_json.specs.Data.{Data, string, object, Members, no_members, member}
 use Rattle.serde_json.specs.Find.{get_member}
 use Rattle.serde_json.specs.View.{members_view}
 use Rattle.serde_json.proofs.Views.{Entry, get_member-put}
@@ -54,3 +56,7 @@ pub plain-json : (t : TargetDoc) (d size : Data) → IsPlain t → hexadecimal_j
     → target_json t ≡ Some (object (member (codes "hashes") (object (member (codes "sha256") d no_members)) (member (codes "length") size no_members)))
 unfolding target_json
 plain-json t d size plain is sized = rw (plain.0, plain.1, hashes-plain t.hashes d plain.2 plain.3 is, ← some-inj sized) refl
+
+-- the digits that were read stand for their bytes
+pub digits-are : (s : Spelled) (text : List ℕ) → text ≡ s.spelling → hex_bytes text ≡ Some s.bytes → hexadecimal_json s ≡ Some (string text)
+digits-are s text is read = rw (← is, read, (bytes_eq-Decides s.bytes s.bytes).1 refl) refl

@@ -24,7 +24,7 @@ pub enum PathSet {
 
 /// The roles that a document delegates to, in their order, and their keys (TUF specification 1.0, section 4.5,
 /// `delegations`).
-#[derive(Debug, PartialEq)]
+#[derive(Debug)]
 #[cycle(tree)]
 pub struct Delegations {
     pub keys: BTreeMap<Decoded<Hex>, Key>,

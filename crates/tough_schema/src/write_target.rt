@@ -1,9 +1,10 @@
 //! Targets' entries, written as JSON.
 
-ghost use Rattle.std.specs.Prelude.{◌≡◌, IfOk, IsTrue, Some, None, option_map, codes};
+ghost use Rattle.std.specs.Prelude.{◌≡◌, IfOk, IsTrue, Some, None, option_map, option_and_then, codes};
 ghost use Rattle.serde_json.specs.Data.{Data, object, no_members, member};
 ghost use Rattle.serde_json.specs.View.{view, members_view};
-ghost use Rattle.tough_json.specs.Pieces.{text_in};
+ghost use Rattle.tough_json.specs.Pieces.{text_in, Appends};
+ghost use Rattle.tough_json.specs.declared.pieces.Form.{Form as Kind};
 ghost use Rattle.tough_json.specs.Results.{Writes};
 ghost use Rattle.tough_json.specs.Writing.{length_json, hexadecimal_json};
 ghost use Rattle.tough_schema.specs.Target.{target_doc, target_json, unless_empty, IsPlain};
@@ -13,7 +14,7 @@ use serde_json::{Map, Value};
 use std::alloc::{AllocError, Global};
 use tough_decoded::{Decoded, Hex};
 use tough_json::error::WriteError;
-use tough_json::pieces::text_in;
+use tough_json::pieces::{append_quoted, append_value};
 use tough_json::write::{copy_members, digits, with, with_optional};
 use tough_json::{Form, ObjectText, PieceError};
 use tough_roles::write_timestamp::hashes_value;
@@ -75,50 +76,79 @@ fn is_plain(target: &Target) -> bool
         && is_bare(&target.hashes._extra)
 }
 
-// The text of the hashes that are this SHA-256 alone.
-fn digest_text(alloc: Global, form: Form, digest: &Decoded<Hex>) -> Result<Vec<u8>, PieceError>
-    ensures { IfOk result (λ t. (d : Data) × (hexadecimal_json digest.now ≡ Some d)
-        × (text_in form (object (member (codes "sha256") d no_members)) ≡ Some t.items)) }
+// The text with the digits behind it, in quotes.
+fn append_digits(digest: &Decoded<Hex>, out: Vec<u8>) -> Result<Vec<u8>, PieceError>
+    ensures { IfOk result (λ t. (form : Kind) → Appends out.items
+        (option_and_then (text_in form) (hexadecimal_json digest.now)) t.items) }
 {
-    let value = digits(alloc, digest)?;
-    let mut object = ObjectText::new(alloc, form)?;
-    object.push(alloc, "sha256", &value)?;
-    let text = object.finish()?;
+    append_quoted(out, digest.as_str())
+}
+
+// The text with that of the hashes behind it which are this SHA-256 alone.
+fn append_digest(
+    alloc: Global,
+    form: Form,
+    digest: &Decoded<Hex>,
+    out: Vec<u8>,
+) -> Result<Vec<u8>, PieceError>
+    ensures { IfOk result (λ t. (d : Data) × (hexadecimal_json digest.now ≡ Some d)
+        × Appends out.items (text_in form (object (member (codes "sha256") d no_members)))
+        t.items) }
+{
+    let begun = ObjectText::behind(alloc, form, out)?;
+    let (object, before) = begun.open("sha256")?;
+    let digits = append_digits(digest, before)?;
+    let text = object.close(digits).finish()?;
     Ok(text)
 }
 
-// The text of a plain target, of which no value is made.
-fn plain_text(alloc: Global, form: Form, target: &Target) -> Result<Vec<u8>, PieceError>
-    ensures { IfOk result (λ t. IsPlain (target_doc target.now)
-        → (d : Data) × (target_json (target_doc target.now) ≡ Some d)
-        × (text_in form d ≡ Some t.items)) }
+// The text with that of a plain target behind it, of which no value is made.
+fn append_plain(
+    alloc: Global,
+    form: Form,
+    target: &Target,
+    out: Vec<u8>,
+) -> Result<Vec<u8>, PieceError>
+    ensures { IfOk result (λ t. IsPlain (target_doc target.now) → Appends out.items
+        (option_and_then (text_in form) (target_json (target_doc target.now))) t.items) }
 {
-    let digest = digest_text(alloc, form, &target.hashes.sha256)?;
-    let mut object = ObjectText::new(alloc, form)?;
-    object.push_text("hashes", digest.as_slice())?;
+    let begun = ObjectText::behind(alloc, form, out)?;
+    let (hashes, before) = begun.open("hashes")?;
+    let digest = append_digest(alloc, form, &target.hashes.sha256, before)?;
+    let mut object = hashes.close(digest);
     object.push(alloc, "length", &length_value(target.length))?;
     let text = object.finish()?;
     Ok(text)
 }
 
-// The text of a target, by its value.
-fn value_text(alloc: Global, form: Form, target: &Target) -> Result<Vec<u8>, PieceError>
-    ensures { IfOk result (λ t. (d : Data) × (target_json (target_doc target.now) ≡ Some d)
-        × (text_in form d ≡ Some t.items)) }
+// The text with that of a target behind it, by its value.
+fn append_by_value(
+    alloc: Global,
+    form: Form,
+    target: &Target,
+    out: Vec<u8>,
+) -> Result<Vec<u8>, PieceError>
+    ensures { IfOk result (λ t. Appends out.items
+        (option_and_then (text_in form) (target_json (target_doc target.now))) t.items) }
 {
     let value = target_value(alloc, target)?;
-    let text = text_in(alloc, form, &value)?;
+    let text = append_value(alloc, form, &value, out)?;
     Ok(text)
 }
 
-/// The text of a target. `Refused` if there is none.
-pub(crate) fn target_text(alloc: Global, form: Form, target: &Target) -> Result<Vec<u8>, PieceError>
-    ensures { IfOk result (λ t. (d : Data) × (target_json (target_doc target.now) ≡ Some d)
-        × (text_in form d ≡ Some t.items)) }
+/// The text with that of a target behind it. `Refused` if there is none.
+pub(crate) fn append_target(
+    alloc: Global,
+    form: Form,
+    target: &Target,
+    out: Vec<u8>,
+) -> Result<Vec<u8>, PieceError>
+    ensures { IfOk result (λ t. Appends out.items
+        (option_and_then (text_in form) (target_json (target_doc target.now))) t.items) }
 {
     if !is_plain(target) {
-        return value_text(alloc, form, target);
+        return append_by_value(alloc, form, target, out);
     }
-    let text = plain_text(alloc, form, target)?;
+    let text = append_plain(alloc, form, target, out)?;
     Ok(text)
 }

@@ -1,24 +1,24 @@
 //! Targets, written as JSON.
 
-ghost use Rattle.std.specs.Prelude.{◌≡◌, IfOk, Some, option_and_then};
+ghost use Rattle.std.specs.Prelude.{◌≡◌, IfOk, Some, option_and_then, codes};
 ghost use Rattle.std.specs.List.Sorted.{IsStrictlySortedBy};
 ghost use Rattle.std.specs.Map.{keys_of};
-ghost use Rattle.serde_json.specs.Data.{Members, no_members, object};
+ghost use Rattle.serde_json.specs.Data.{Data, Members, no_members, object};
+ghost use Rattle.serde_json.specs.Find.{get_member};
 ghost use Rattle.serde_json.specs.View.{view, members_view};
 ghost use Rattle.tough_names.specs.Named.{by_raw_then_resolved};
-ghost use Rattle.tough_json.specs.Pieces.{text_in};
+ghost use Rattle.tough_json.specs.Pieces.{text_in, replaced, Appends};
 ghost use Rattle.tough_json.specs.Results.{Writes};
 ghost use Rattle.tough_schema.specs.Targets.{listing_doc, listing_json, targets_doc, parts_json, around_json, targets_json, AreSorted, KeysRise};
 
 use crate::target::Target;
 use crate::targets::Targets;
 use crate::write_delegations::optional_delegations;
-use crate::write_target::{target_text, target_value};
+use crate::write_target::{append_target, target_value};
 use serde_json::{Map, Value};
 use std::alloc::Global;
 use std::collections::BTreeMap;
 use tough_json::error::WriteError;
-use tough_json::pieces::object_with;
 use tough_json::write::{copy_members, with, with_optional};
 use tough_json::{Form, ObjectText, PieceError};
 use tough_names::TargetName;
@@ -96,37 +96,69 @@ pub(crate) fn targets_value(alloc: Global, targets: &Targets) -> Result<Value, W
     Ok(Value::Object(members))
 }
 
-// The text of the listing, written target by target.
-fn listing_text(
+// The text with that of the listing behind it, written target by target.
+fn append_listing(
     alloc: Global,
     form: Form,
     targets: &BTreeMap<TargetName, Target>,
+    out: Vec<u8>,
 ) -> Result<Vec<u8>, PieceError>
     ensures { IfOk result (λ t. (ms : Members)
         × (listing_json (listing_doc targets.now.entries) no_members ≡ Some ms)
-        × (text_in form (object ms) ≡ Some t.items)) }
+        × Appends out.items (text_in form (object ms)) t.items) }
 {
-    let mut object = ObjectText::new(alloc, form)?;
+    let mut object = ObjectText::behind(alloc, form, out)?;
     for (name, target) in targets.iter() {
-        let entry = target_text(alloc, form, target)?;
-        object.push_text(name.raw(), entry.as_slice())?;
+        let (listing, before) = object.open(name.raw())?;
+        let entry = append_target(alloc, form, target, before)?;
+        object = listing.close(entry);
     }
     let text = object.finish()?;
     Ok(text)
 }
 
-/// Writes the targets' JSON target by target. `Refused` if a member's name, in the listing or in the document, isn't
-/// ASCII, is empty or has a control character, a quote or a backslash, and if there is no text.
-pub(crate) fn targets_text(
+// The text with that of the object of these members behind it, but that the listing stands under `targets`, if one of
+// them has that name.
+fn append_around(
+    alloc: Global,
+    form: Form,
+    members: &Map<String, Value>,
+    targets: &BTreeMap<TargetName, Target>,
+    out: Vec<u8>,
+) -> Result<Vec<u8>, PieceError>
+    ensures { IfOk result (λ t. (d : Data)
+        → get_member (codes "targets") (members_view members.now.entries) ≡ Some d
+        → (ms : Members) × (listing_json (listing_doc targets.now.entries) no_members ≡ Some ms)
+        × Appends out.items (text_in form (object (replaced (codes "targets") (object ms)
+        (members_view members.now.entries)))) t.items) }
+{
+    let mut object = ObjectText::behind(alloc, form, out)?;
+    for (key, member) in members.iter() {
+        if key.as_str() == "targets" {
+            let (around, before) = object.open("targets")?;
+            let listing = append_listing(alloc, form, targets, before)?;
+            object = around.close(listing);
+        } else {
+            object.push(alloc, key.as_str(), member)?;
+        }
+    }
+    let text = object.finish()?;
+    Ok(text)
+}
+
+/// The text with that of the targets' JSON behind it, written target by target. `Refused` if a member's name, in the
+/// listing or in the document, isn't ASCII, is empty or has a control character, a quote or a backslash, and if there is
+/// no text.
+pub(crate) fn append_targets(
     alloc: Global,
     targets: &Targets,
     form: Form,
+    out: Vec<u8>,
 ) -> Result<Vec<u8>, PieceError>
-    ensures { IfOk result (λ t. option_and_then (text_in form)
-        (targets_json (targets_doc targets.now)) ≡ Some t.items) }
+    ensures { IfOk result (λ t. Appends out.items
+        (option_and_then (text_in form) (targets_json (targets_doc targets.now))) t.items) }
 {
-    let listed = listing_text(alloc, form, &targets.targets)?;
     let members = members_around(alloc, targets, Value::Null)?;
-    let text = object_with(alloc, form, &members, "targets", listed.as_slice())?;
+    let text = append_around(alloc, form, &members, &targets.targets, out)?;
     Ok(text)
 }

@@ -1,17 +1,18 @@
 -- Objects that are written member by member.
-use Rattle.std.proofs.Common.{◌≡◌, ℕ, List, [], ◌∷◌, ◌++◌, flat_map, map, Bool, true, false, not, nat_lt, ◌==◌, ◌&&◌, if◌then◌else◌, Option, Some, None, option_map, option_and_then, Ordering, Less, Equal, Greater, nat_cmp, is_eq, bytes_eq, string_bytes, refl, sym, ap, ap₂, ◌∙◌, append_assoc, arith, Result, Ok, Err, OnOk}
+use Rattle.std.proofs.Common.{◌≡◌, ℕ, List, [], ◌∷◌, ◌++◌, flat_map, map, Bool, true, false, not, nat_lt, ◌==◌, ◌&&◌, if◌then◌else◌, Option, Some, None, option_map, option_and_then, Ordering, Less, Equal, Greater, nat_cmp, is_eq, bytes_eq, String, string_bytes, refl, sym, ap, ap₂, ◌∙◌, append_assoc, arith, Result, Ok, Err, OnOk}
 use Rattle.std.proofs.lemmas.Bool.{and_parts}
 use Rattle.std.proofs.lemmas.Bool.Decides.{nat_tests}
 use Rattle.std.proofs.lemmas.Cmp.{nat_list_cmp_total}
 use Rattle.std.proofs.lemmas.Map.Text.{is_eq-slice_cmp}
 use Rattle.std.proofs.lemmas.Slice.Eq.{bytes_eq-Decides}
+use Rattle.std.specs.declared.alloc.Global.{Global}
 use Rattle.std.specs.Cmp.Lexicographic.{slice_cmp}
 use Rattle.std.specs.List.{AllByRecursion, list_all}
 use Rattle.std.specs.Map.{keys_of}
 use Rattle.std.specs.Ordering.{match_ordering, ordering_reverse, is_le}
 use Rattle.json.specs.Print.{escape, escape_byte, escape_letter}
 use Rattle.json.specs.Print as print
-use Rattle.serde_json.specs.Data.{Data, object, Members, no_members, member, put}
+use Rattle.serde_json.specs.Data.{Data, string, object, Members, no_members, member, put}
 use Rattle.serde_json.specs.Find.{get_member}
 use Rattle.serde_json.specs.View.{view, members_view}
 use Rattle.serde_json.specs.Written.{has_float, members_have_float, compact_text, members_text}
@@ -23,7 +24,7 @@ use Rattle.tough_cjson.proofs.lemmas.Plain.{nfc_text-IsAscii}
 use Rattle.tough_json.specs.declared.pieces.Form.{Form}
 use Rattle.tough_json.specs.declared.pieces.Form.TheVariants as forms
 use Rattle.tough_json.specs.declared.pieces.ObjectText.{ObjectText}
-use Rattle.tough_json.specs.Pieces.{text_in, is_simple_byte, IsSimple, IsBelow, AreBelow, AreSimple, and_last, replaced, piece, ArePieces, is_none_yet, Stands}
+use Rattle.tough_json.specs.Pieces.{text_in, is_simple_byte, IsSimple, IsBelow, AreBelow, AreSimple, and_last, replaced, piece, ArePieces, is_none_yet, Appends, Stands, IsNamed}
 use Rattle.tough_json.specs.Writing.{with}
 use Rattle.tough_json.proofs.lemmas.Write.{if_free-ok}
 
@@ -148,24 +149,48 @@ some-more : (ts : List (List ℕ)) (t : List ℕ) → false ≡ is_none_yet (ts 
 some-more [] t = refl
 some-more (u ∷ ts) t = refl
 
-text-more : (ts : List (List ℕ)) (t : List ℕ) (first : Bool) (o p : List ℕ) → o ≡ 123 ∷ joined ts → first ≡ is_none_yet ts → p ≡ o ++ (comma_unless first ++ t) → p ≡ 123 ∷ joined (ts ++ t ∷ [])
-text-more ts t first o p e f g = g ∙ ap₂ (λ a b. a ++ (comma_unless b ++ t)) e (f ∙ none-is_nil ts) ∙ piece_more [] 123 ts t
+-- a member's text is its beginning, with the value's text behind it
+piece-begun : (n t : List ℕ) → piece n [] ++ t ≡ piece n t
+piece-begun n t = ap (λ l. 34 ∷ l) (append_assoc n (34 ∷ 58 ∷ []) t)
 
-pub stands-last : (form : Form) (ms : Members) (n : List ℕ) (d : Data) (t : List ℕ) (o p : ObjectText) → Stands form ms o → IsSimple n → slice_cmp nat_cmp (string_bytes o.last) n ≡ Less → text_in form d ≡ Some t
-    → p.form ≡ o.form → p.text.items ≡ o.text.items ++ (comma_unless o.is_first ++ piece n t) → p.is_first ≡ false → string_bytes p.last ≡ n → AreBelow n ms × Stands form (and_last ms n d) p
-stands-last form ms n d t o p s here less is kind text first last =
+text-more : (base : List ℕ) (ts : List (List ℕ)) (n t before after : List ℕ) → before ≡ (base ++ 123 ∷ joined ts) ++ (comma_unless (is_none_yet ts) ++ piece n []) → after ≡ before ++ t → after ≡ base ++ 123 ∷ joined (ts ++ piece n t ∷ [])
+text-more base ts n t before after e g =
+    let old = base ++ 123 ∷ joined ts in
+    let comma = comma_unless (is_none_yet ts) in
+    g ∙ ap (λ l. l ++ t) e ∙ append_assoc old (comma ++ piece n []) t
+    ∙ ap (λ l. old ++ l) (append_assoc comma (piece n []) t ∙ ap₂ (λ b l. comma_unless b ++ l) (none-is_nil ts) (piece-begun n t))
+    ∙ piece_more base 123 ts (piece n t)
+
+-- the name is written
+pub named-next : (base : List ℕ) (form : Form) (ms : Members) (n : List ℕ) (o : ObjectText) (kind : Form) (last : String Global) (text : List ℕ) → Stands base form ms o → IsSimple n → slice_cmp nat_cmp (string_bytes o.last) n ≡ Less
+    → kind ≡ o.form → string_bytes last ≡ n → text ≡ o.text.items ++ (comma_unless o.is_first ++ piece n []) → AreBelow n ms × IsNamed base form ms n kind last text
+named-next base form ms n o kind last text s here less same named written =
     let below = s.above n less in (
       below,
       record {
-        kind = kind ∙ s.kind;
-        simple = simple-last ms n d s.simple here below;
-        above = λ m more. above-last m ms n d below (ap (λ l. slice_cmp nat_cmp l m) (sym last) ∙ more);
-        pieces = s.pieces ++ piece n t ∷ [];
-        told = pieces-last form ms s.pieces n d t s.told is;
-        text = text-more s.pieces (piece n t) o.is_first o.text.items p.text.items s.text s.first text;
-        first = first ∙ some-more s.pieces (piece n t);
+        same = same ∙ s.kind;
+        simple = s.simple;
+        here = here;
+        below = below;
+        named = named;
+        pieces = s.pieces;
+        told = s.told;
+        written = written ∙ ap₂ (λ a b. a ++ (comma_unless b ++ piece n [])) s.text s.first;
       },
     )
+
+-- and the value behind it
+pub stands-last : (base : List ℕ) (form : Form) (ms : Members) (n : List ℕ) (d : Data) (kind : Form) (last : String Global) (before : List ℕ) (p : ObjectText) → IsNamed base form ms n kind last before → Appends before (text_in form d) p.text.items
+    → p.form ≡ kind → string_bytes p.last ≡ string_bytes last → p.is_first ≡ false → Stands base form (and_last ms n d) p
+stands-last base form ms n d kind last before p s told same named first = record {
+  kind = same ∙ s.same;
+  simple = simple-last ms n d s.simple s.here s.below;
+  above = λ m more. above-last m ms n d s.below (ap (λ l. slice_cmp nat_cmp l m) (sym (named ∙ s.named)) ∙ more);
+  pieces = s.pieces ++ piece n told.0 ∷ [];
+  told = pieces-last form ms s.pieces n d told.0 s.told told.1;
+  text = text-more base s.pieces n told.0 before p.text.items s.written told.2;
+  first = first ∙ some-more s.pieces (piece n told.0);
+}
 
 -- a member whose name is above the others is put at their end
 last-free : (n : List ℕ) (ms : Members) → AreBelow n ms → get_member n ms ≡ None
@@ -247,8 +272,25 @@ with-place n d x ms new h =
     let free = if_free-ok (get_member n ms) (put n d ms) new h in
     rw (free.0, ← free.1, place n d x ms free.0) refl
 
-pub finished : (form : Form) (ms : Members) (o : ObjectText) (text : List ℕ) → Stands form ms o → text ≡ o.text.items ++ 125 ∷ [] → text_in form (object ms) ≡ Some text
-finished form ms o text s e = object-text form ms s.pieces s.simple s.told ∙ ap Some (sym (e ∙ ap (λ l. l ++ 125 ∷ []) s.text))
+pub finished : (base : List ℕ) (form : Form) (ms : Members) (o : ObjectText) (text : List ℕ) → Stands base form ms o → text ≡ o.text.items ++ 125 ∷ [] → Appends base (text_in form (object ms)) text
+finished base form ms o text s e = (
+  123 ∷ (joined s.pieces ++ 125 ∷ []),
+  object-text form ms s.pieces s.simple s.told,
+  e ∙ ap (λ l. l ++ 125 ∷ []) s.text ∙ append_assoc base (123 ∷ joined s.pieces) (125 ∷ []),
+)
+
+-- a text that stands in quotes as it is
+pub quoted-text : (form : Form) (s : List ℕ) → IsSimple s → text_in form (string s) ≡ Some (34 ∷ (s ++ 34 ∷ []))
+unfolding canonical_of
+quoted-text forms.Canonical s h = ap (λ l. Some (34 ∷ (escaped l ++ 34 ∷ []))) (nfc_text-IsAscii s h.0) ∙ ap (λ l. Some (34 ∷ (l ++ 34 ∷ []))) (plain s h.1)
+quoted-text forms.Compact s h = ap (λ l. Some (34 ∷ (l ++ 34 ∷ []))) (shown s h.1)
+
+pub quoted-behind : (o s a b p : List ℕ) → a ≡ o ++ 34 ∷ [] → b ≡ a ++ s → p ≡ b ++ 34 ∷ [] → p ≡ o ++ 34 ∷ (s ++ 34 ∷ [])
+quoted-behind o s a b p e f g = g ∙ ap (λ l. l ++ 34 ∷ []) (f ∙ ap (λ l. l ++ s) e) ∙ append_assoc (o ++ 34 ∷ []) s (34 ∷ []) ∙ append_assoc o (34 ∷ []) (s ++ 34 ∷ [])
+
+-- begun behind no text
+pub from-none : (o : Option (List ℕ)) (t : List ℕ) → Appends [] o t → o ≡ Some t
+from-none o t h = h.1 ∙ ap Some (sym h.2)
 
 greater : (o : Ordering) → is_le o ≡ false → o ≡ Greater
 greater Less h = cc

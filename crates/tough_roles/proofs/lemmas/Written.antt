@@ -6,6 +6,7 @@ use Rattle.serde_json.specs.Data.{Data, string, array, object, Items, no_items, 
 use Rattle.serde_json.specs.Written.{has_float, items_have_float, compact_text}
 use Rattle.tough_json.specs.CanonicalText.{canonical_of}
 use Rattle.tough_json.specs.Pieces.{text_in}
+use Rattle.tough_json.specs.declared.pieces.Form.{Form}
 use Rattle.tough_json.specs.declared.pieces.Form.TheVariants as forms
 use Rattle.tough_json.specs.Reading.{◌>>=◌}
 use Rattle.tough_json.specs.Writing.{with, stands_for, hexadecimal_json, all_json}
@@ -58,6 +59,11 @@ document_of role items = object (member (codes "signatures") (array items) (memb
 document-is : (role : Data) (ss : List SignatureDoc) (items : Items) → all_json signature_json ss ≡ Some items → signed_parts_json role ss ≡ Some (document_of role items)
 unfolding signed_parts_json
 document-is role ss items w = rw w refl
+
+-- the text of a document of these parts is that of the document
+pub signed-text : (form : Form) (o : Option Data) (d : Data) (ss : List SignatureDoc) (items : Items) (t : List ℕ) → o ≡ Some d → all_json signature_json ss ≡ Some items → text_in form (document_of d items) ≡ Some t
+    → option_and_then (text_in form) (o >>= λ role. signed_parts_json role ss) ≡ Some t
+signed-text form o d ss items t is w h = ap (λ x. option_and_then (text_in form) (x >>= λ role. signed_parts_json role ss)) is ∙ ap (option_and_then (text_in form)) (document-is d ss items w) ∙ h
 
 document-plain : (role : Data) (items : Items) → has_float role ≡ false → items_have_float items ≡ false → has_float (document_of role items) ≡ false
 document-plain role items f g = rw (g, f) refl

@@ -1,12 +1,8 @@
-use Rattle.std.proofs.Common.{◌≡◌, ◌++◌, false, refl, ap, sym, ◌∙◌, string_bytes, nat_cmp}
-use Rattle.std.specs.Cmp.Lexicographic.{slice_cmp}
-use Rattle.std.specs.Ordering.{is_le}
-use Rattle.tough_json.specs.Pieces.{IsSimple}
-use Rattle.tough_json.proofs.lemmas.Piece.{below-from, stands-last}
+use Rattle.std.proofs.Common.{refl}
+use Rattle.tough_json.proofs.lemmas.Piece.{stands-last}
 use Rattle.tough_json.proofs.pieces.ObjectText.push_text.Goals as goal
 
 pub returns : goal.returns
-returns c = λ form ms d s is.
-    let here : IsSimple c.args.name.now = c.is_simple.ensures c.if-not-is_simple.false in
-    let low : is_le (slice_cmp nat_cmp c.args.name.now (string_bytes c.args.self.now.last)) ≡ false = ap (λ l. is_le (slice_cmp nat_cmp c.args.name.now l)) (sym c.as_str.ensures.value) ∙ sym c.le.ensures ∙ c.if-le.false in
-    stands-last form ms c.args.name.now d c.args.text.now c.args.self.now _ s here (below-from (string_bytes c.args.self.now.last) c.args.name.now low) is refl c.in_ok-append_piece.ensures refl (c.in_ok-push_str.ensures.bytes ∙ ap (λ l. l ++ c.args.name.now) c.clear.ensures.bytes)
+returns c = λ base form ms d s is.
+    let named = c.in_ok-write_name.ensures.named base form ms s in
+    (named.0, stands-last base form ms c.args.name.now d _ _ _ _ named.1 (c.args.text.now, is, c.in_ok-extend_from_slice.ensures.items) refl refl c.in_ok-write_name.ensures.more)
