@@ -1,4 +1,4 @@
--- How deep a tree is: words of private clauses.
+-- How deep a tree is.
 use Rattle.std.specs.Prelude.{ℕ, List}
 use denote.Param.Weighed.{most}
 use Rattle.tough_schema.specs.declared.delegations.DelegatedRole.{DelegatedRole, size-DelegatedRole}

@@ -28,6 +28,9 @@ pub mod FromPath
 pub mod Copying
 pub mod Update
 pub mod Falling
+pub mod Equal
+pub mod Equals
+pub mod Comparing
 pub mod Put
 pub mod Putting
 pub mod Measuring

@@ -6,6 +6,7 @@ mod copy;
 mod delegations;
 mod edit;
 mod entries;
+mod equal;
 mod fall;
 pub mod file_digest;
 mod find;

@@ -11,7 +11,7 @@ ghost use Rattle.tough_schema.specs.Targets.{targets_doc, delegated_doc, delegat
 use crate::delegations::Delegations;
 use crate::read_targets::targets_in;
 use crate::target::Target;
-use crate::write_targets::{targets_text, targets_value};
+use crate::write_targets::{append_targets, targets_value};
 use serde_json::{Map, Value};
 use std::alloc::{AllocError, Global};
 use std::collections::BTreeMap;
@@ -135,8 +135,13 @@ impl Role for Targets {
         Ok(value)
     }
 
-    fn text_in_pieces(&self, alloc: Global, form: Form) -> Result<Vec<u8>, PieceError> {
-        let text = targets_text(alloc, self, form)?;
+    fn append_in_pieces(
+        &self,
+        alloc: Global,
+        form: Form,
+        out: Vec<u8>,
+    ) -> Result<Vec<u8>, PieceError> {
+        let text = append_targets(alloc, self, form, out)?;
         Ok(text)
     }
 
@@ -196,8 +201,13 @@ impl Role for DelegatedTargets {
         Ok(value)
     }
 
-    fn text_in_pieces(&self, alloc: Global, form: Form) -> Result<Vec<u8>, PieceError> {
-        let text = targets_text(alloc, &self.targets, form)?;
+    fn append_in_pieces(
+        &self,
+        alloc: Global,
+        form: Form,
+        out: Vec<u8>,
+    ) -> Result<Vec<u8>, PieceError> {
+        let text = append_targets(alloc, &self.targets, form, out)?;
         Ok(text)
     }
 
