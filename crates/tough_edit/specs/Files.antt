@@ -1,8 +1,9 @@
 -- The target that an editor makes of a file (TUF specification 1.0, section 4.5, TARGETS).
 use Rattle.std.specs.Prelude.{◌≡◌, ⊤, ℕ, List, [], ◌∷◌, ◌++◌, Option, Some, None, Ok, Err, string_bytes}
 use Rattle.std.specs.Path.{path_file_name}
-use Rattle.tough_files.specs.Contents.{Node}
+use Rattle.tough_files.specs.Contents.{Node, Contents}
 use Rattle.tough_names.specs.Named.{Named, clean}
+use Rattle.tough_schema.specs.FileDigest.{there}
 use Rattle.tough_schema.specs.FromPath.{IsTargetOf}
 use Rattle.tough_schema.specs.declared.target.Target.{Target}
 use Rattle.std.specs.Borrow.{Bor}
@@ -40,3 +41,16 @@ AreAdded (p ∷ ps) e after = (next : EditsDoc) × IsAdded p.now e next × AreAd
 -- the first of the paths are added so
 abbrev pub SomeAdded : List (Bor (List ℕ)) → EditsDoc → EditsDoc → Type 0
 SomeAdded ps e after = (done rest : List (Bor (List ℕ))) × (ps ≡ done ++ rest) × AreAdded done e after
+
+-- each path's target is added, one after another, of what stands there
+abbrev pub AreAddedOf : Contents → List (Bor (List ℕ)) → EditsDoc → EditsDoc → Type 0
+AreAddedOf contents [] e after = after ≡ e
+AreAddedOf contents (p ∷ ps) e after = (next : EditsDoc) × IsAddedOf p.now (there p.now contents) e next × AreAddedOf contents ps next after
+
+-- the paths before one are added so, and the file at that one is no target
+abbrev pub IsStopped : Contents → List (Bor (List ℕ)) → EditsDoc → EditsDoc → EditError → Type 0
+IsStopped contents ps e after error = (done : List (Bor (List ℕ))) × (p : Bor (List ℕ)) × (rest : List (Bor (List ℕ))) × (ps ≡ done ++ p ∷ rest) × AreAddedOf contents done e after × IsNoTarget p.now (there p.now contents) error
+
+-- the file at one of the paths is no target
+abbrev pub SomeNoTarget : Contents → List (Bor (List ℕ)) → EditError → Type 0
+SomeNoTarget contents ps error = (done : List (Bor (List ℕ))) × (p : Bor (List ℕ)) × (rest : List (Bor (List ℕ))) × (ps ≡ done ++ p ∷ rest) × IsNoTarget p.now (there p.now contents) error

@@ -5,7 +5,7 @@ ghost use Rattle.tough_files.specs.Contents.{Node, Same};
 ghost use Rattle.tough_names.specs.Named.{Named};
 ghost use Rattle.tough_schema.specs.FileDigest.{there};
 ghost use Rattle.tough_schema.specs.FromPath.{IsTargetOf};
-ghost use Rattle.tough_edit.specs.Files.{IsNamed, IsNoTarget, IsAdded, IsAddedOf, AreAdded, SomeAdded};
+ghost use Rattle.tough_edit.specs.Files.{IsNamed, IsNoTarget, IsAdded, IsAddedOf, AreAdded, AreAddedOf, SomeAdded, IsStopped};
 ghost use Rattle.tough_edit.specs.Edits.{edits_doc};
 
 use crate::edits::TargetEdits;
@@ -100,8 +100,13 @@ impl TargetEdits {
         paths: &[&str],
     ) -> Result<(), EditError>
         ensures added { OnOk result (AreAdded paths.now (edits_doc self.old) (edits_doc self.new)) }
+        ensures targets { F.tells ≡ true → OnOk result (AreAddedOf (F.contents files.old) paths.now
+            (edits_doc self.old) (edits_doc self.new)) }
+        ensures refused { F.tells ≡ true → IfErr result (IsStopped (F.contents files.old) paths.now
+            (edits_doc self.old) (edits_doc self.new)) }
         ensures some { OnErr result
             (SomeAdded paths.now (edits_doc self.old) (edits_doc self.new)) }
+        ensures kept { F.tells ≡ true → Same (F.contents files.old) (F.contents files.new) }
     {
         for path in paths {
             self.add_target_path(alloc, files, path)?;

@@ -13,7 +13,7 @@ ghost use Rattle.tough_signed.specs.Standing.{roles_of, is_consistent};
 ghost use Rattle.tough_edit.specs.Edits.{edits_doc, fresh, opened, with_target, without_target, without_targets, with_version, with_expiry};
 ghost use Rattle.tough_edit.specs.Keys.{key_added, key_removed, IsUndelegated};
 ghost use Rattle.tough_edit.specs.Roles.{delegated_to, with_role, without_role};
-ghost use Rattle.tough_edit.specs.Files.{IsAddedOf, AreAdded, IsNoTarget};
+ghost use Rattle.tough_edit.specs.Files.{IsAddedOf, AreAdded, AreAddedOf, IsNoTarget, SomeNoTarget};
 ghost use Rattle.tough_edit.specs.Built.{IsBuilt, IsIncomplete};
 ghost use Rattle.tough_edit.specs.Signed.{IsCreated, IsUncreated, AreSigned, IsSigningRefused};
 ghost use Rattle.tough_editor.specs.Wide.{Told};
@@ -195,7 +195,13 @@ impl<T> TargetsEditor<T> {
     ) -> Result<&mut Self, Error>
         ensures added { IfOk result (λ e. IsChanged (AreAdded paths.now) (editor_doc self.old)
             (editor_doc e.now)) }
+        ensures targets { F.tells ≡ true → IfOk result (λ e. IsChanged
+            (AreAddedOf (F.contents files.old) paths.now) (editor_doc self.old)
+            (editor_doc e.now)) }
         ensures lent { IfOk result (λ e. e.ghost_name ≡ self.entry.ghost_name) }
+        ensures refused { F.tells ≡ true → IfErr result
+            (Told (SomeNoTarget (F.contents files.old) paths.now)) }
+        ensures kept { F.tells ≡ true → Same (F.contents files.old) (F.contents files.new) }
     {
         match self.edits.add_target_paths(self.alloc, files, paths) {
             Ok(()) => Ok(self),

@@ -11,7 +11,7 @@ ghost use Rattle.tough_signed.specs.declared.error.EditError.TheVariants as erro
 ghost use Rattle.tough_edit.specs.Edits.{with_target, without_target, without_targets, with_version, with_expiry};
 ghost use Rattle.tough_edit.specs.Files.{IsNamed, IsNoTarget};
 ghost use Rattle.tough_release.specs.Edits.{at_editor, IsUnopened};
-ghost use Rattle.tough_release.specs.Changes.{IsAddedOf, IsUnadded, AreAdded, IsDelegated, IsUndelegatable};
+ghost use Rattle.tough_release.specs.Changes.{IsAddedOf, IsUnadded, AreAdded, AreAddedOf, SomeUnadded, IsDelegated, IsUndelegatable};
 ghost use Rattle.tough_editor.specs.Wide.{Told};
 ghost use Rattle.tough_editor.specs.Editors.{changed, IsChanged};
 ghost use Rattle.tough_publish.specs.Editors.{editor_doc};
@@ -143,7 +143,13 @@ impl<T> RepositoryEditor<T> {
     ) -> Result<&mut Self, Error>
         ensures added { IfOk result (λ e. IsChanged (AreAdded paths.now) (editor_doc self.old)
             (editor_doc e.now)) }
+        ensures targets { F.tells ≡ true → IfOk result (λ e. IsChanged
+            (AreAddedOf (F.contents files.old) paths.now) (editor_doc self.old)
+            (editor_doc e.now)) }
         ensures lent { IfOk result (λ e. e.ghost_name ≡ self.entry.ghost_name) }
+        ensures refused { F.tells ≡ true → IfErr result (Told (SomeUnadded
+            (F.contents files.old) paths.now (editor_doc self.old).edits)) }
+        ensures kept { F.tells ≡ true → Same (F.contents files.old) (F.contents files.new) }
     {
         match self.edits.add_target_paths(self.alloc, files, paths) {
             Ok(()) => Ok(self),

@@ -2,10 +2,11 @@
 use Rattle.std.specs.Prelude.{◌≡◌, ℕ, ℤ, List, [], ◌∷◌, ◌++◌, map, Bool, true, is_some, IsTrue, Option, Some, Ok, ◌⊎◌}
 use Rattle.std.specs.Borrow.{Bor}
 use Rattle.tough_decoded.specs.Spelled.{Spelled}
-use Rattle.tough_files.specs.Contents.{Node}
+use Rattle.tough_files.specs.Contents.{Node, Contents}
 use Rattle.tough_keys.specs.Key.{KeyDoc}
 use Rattle.tough_names.specs.Named.{Named}
 use Rattle.tough_roles.specs.declared.signed.Signed.{Signed}
+use Rattle.tough_schema.specs.FileDigest.{there}
 use Rattle.tough_schema.specs.FromPath.{IsTargetOf}
 use Rattle.tough_schema.specs.Paths.{PathsDoc}
 use Rattle.tough_schema.specs.Target.{TargetDoc, target_doc}
@@ -47,6 +48,19 @@ AreAdded (p ∷ ps) e after = (next : ReleaseDoc) × IsAdded p.now e next × Are
 -- the first of the paths are added so
 abbrev pub SomeAdded : List (Bor (List ℕ)) → ReleaseDoc → ReleaseDoc → Type 0
 SomeAdded ps e after = (done rest : List (Bor (List ℕ))) × (ps ≡ done ++ rest) × AreAdded done e after
+
+-- each path's target is added, one after another, of what stands there
+abbrev pub AreAddedOf : Contents → List (Bor (List ℕ)) → ReleaseDoc → ReleaseDoc → Type 0
+AreAddedOf contents [] e after = after ≡ e
+AreAddedOf contents (p ∷ ps) e after = (next : ReleaseDoc) × IsAddedOf p.now (there p.now contents) e next × AreAddedOf contents ps next after
+
+-- the paths before one are added so, and that one's target is not
+abbrev pub IsStopped : Contents → List (Bor (List ℕ)) → ReleaseDoc → ReleaseDoc → EditError → Type 0
+IsStopped contents ps e after error = (done : List (Bor (List ℕ))) × (p : Bor (List ℕ)) × (rest : List (Bor (List ℕ))) × (ps ≡ done ++ p ∷ rest) × AreAddedOf contents done e after × IsUnadded p.now (there p.now contents) e error
+
+-- the file at one of the paths is no target; or no editor takes it
+abbrev pub SomeUnadded : Contents → List (Bor (List ℕ)) → ReleaseDoc → EditError → Type 0
+SomeUnadded contents ps e error = (done : List (Bor (List ℕ))) × (p : Bor (List ℕ)) × (rest : List (Bor (List ℕ))) × (ps ≡ done ++ p ∷ rest) × IsUnadded p.now (there p.now contents) e error
 
 -- ---- new roles
 

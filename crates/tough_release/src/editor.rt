@@ -13,7 +13,7 @@ ghost use Rattle.tough_edit.specs.Edits.{with_target, without_target, without_ta
 ghost use Rattle.tough_edit.specs.Roles.{delegated_to, with_role};
 ghost use Rattle.tough_edit.specs.Signed.{IsCreated, IsUncreated};
 ghost use Rattle.tough_release.specs.Edits.{release_doc, at_editor, IsUnopened};
-ghost use Rattle.tough_release.specs.Changes.{IsAdded, IsAddedOf, IsUnadded, AreAdded, SomeAdded, NewRole, HasDelegations, IsUndelegating, new_document, IsDelegated, IsUndelegatable};
+ghost use Rattle.tough_release.specs.Changes.{IsAdded, IsAddedOf, IsUnadded, AreAdded, AreAddedOf, SomeAdded, IsStopped, NewRole, HasDelegations, IsUndelegating, new_document, IsDelegated, IsUndelegatable};
 
 use crate::edits::RepositoryEdits;
 use std::alloc::Global;
@@ -135,8 +135,13 @@ impl RepositoryEdits {
     ) -> Result<(), EditError>
         ensures added { OnOk result
             (AreAdded paths.now (release_doc self.old) (release_doc self.new)) }
+        ensures targets { F.tells ≡ true → OnOk result (AreAddedOf (F.contents files.old) paths.now
+            (release_doc self.old) (release_doc self.new)) }
+        ensures refused { F.tells ≡ true → IfErr result (IsStopped (F.contents files.old) paths.now
+            (release_doc self.old) (release_doc self.new)) }
         ensures some { OnErr result
             (SomeAdded paths.now (release_doc self.old) (release_doc self.new)) }
+        ensures kept { F.tells ≡ true → Same (F.contents files.old) (F.contents files.new) }
     {
         for path in paths {
             self.add_target_path(alloc, files, path)?;

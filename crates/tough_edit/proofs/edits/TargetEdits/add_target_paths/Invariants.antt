@@ -1,7 +1,11 @@
-use Rattle.std.proofs.Common.{take}
+use Rattle.std.proofs.Common.{◌≡◌, true, take}
+use Rattle.tough_files.specs.Contents.{Same}
 use Rattle.tough_edit.specs.Edits.{edits_doc}
-use Rattle.tough_edit.specs.Files.{AreAdded}
+use Rattle.tough_edit.specs.Files.{AreAdded, AreAddedOf}
 use Rattle.tough_edit.proofs.edits.TargetEdits.add_target_paths.Given as goal
 
 abbrev pub invariant-loop-path : goal.invariant-loop-path
-invariant-loop-path g l = AreAdded (take l.path-index l.paths) (edits_doc l.fn.self) (edits_doc l.self)
+invariant-loop-path g l =
+    AreAdded (take l.path-index l.paths) (edits_doc l.fn.self) (edits_doc l.self)
+    × (g.F.Files.tells ≡ true → AreAddedOf (g.F.Files.contents l.fn.files) (take l.path-index l.paths) (edits_doc l.fn.self) (edits_doc l.self))
+    × (g.F.Files.tells ≡ true → Same (g.F.Files.contents l.fn.files) (g.F.Files.contents l.files))
