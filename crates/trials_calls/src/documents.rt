@@ -88,7 +88,7 @@ pub(crate) fn tell(
 
 // The text of targets that are written target by target.
 fn in_pieces(alloc: Global, targets: &Targets, form: Form) -> Result<String> {
-    match targets.text_in_pieces(alloc, form) {
+    match targets.append_in_pieces(alloc, form, Vec::new(alloc)) {
         Ok(text) => Ok(String::from_utf8(text)?),
         Err(error) => Ok(format!(in alloc; "{error:?}")?),
     }

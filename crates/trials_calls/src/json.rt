@@ -6,7 +6,7 @@ use serde_json::Value;
 use std::alloc::Global;
 use tough_json::borrowed::{Scratch, borrowed, value_in};
 use tough_json::text::{bytes_of, value_of};
-use tough_json::{Form, ObjectText, canonical, moment_text};
+use tough_json::{Form, ObjectText, PieceError, ReadError, canonical, moment_text};
 
 // A text with its control characters as two digits.
 fn shown(alloc: Global, bytes: &[u8]) -> Result<String> {
@@ -23,8 +23,10 @@ fn shown(alloc: Global, bytes: &[u8]) -> Result<String> {
 
 // The canonical text of the value that a text is.
 fn canonical_text(alloc: Global, input: &str) -> Result<String> {
-    let Ok(value) = Value::from_str(alloc, input) else {
-        return Ok(String::from_str(alloc, "no JSON")?);
+    let value = match Value::from_str(alloc, input) {
+        Ok(value) => value,
+        Err(error) if error.is_memory() => return Err(error.into()),
+        Err(_) => return Ok(String::from_str(alloc, "no JSON")?),
     };
     match canonical(alloc, &value) {
         Ok(bytes) => shown(alloc, bytes.as_slice()),
@@ -43,8 +45,10 @@ fn compact_text(alloc: Global, bytes: &[u8]) -> Result<String> {
 // The compact text of the value that a text is, where the value was read from JSON that borrows the text.
 fn borrowed_text(alloc: Global, input: &str) -> Result<String> {
     let mut scratch = Scratch::new(alloc);
-    let Ok(found) = borrowed(alloc, input.as_bytes(), &mut scratch) else {
-        return Ok(String::from_str(alloc, "refused")?);
+    let found = match borrowed(alloc, input.as_bytes(), &mut scratch) {
+        Ok(found) => found,
+        Err(ReadError::Memory) => return Err(ReadError::Memory.into()),
+        Err(_) => return Ok(String::from_str(alloc, "refused")?),
     };
     let value = value_in(alloc, &found)?;
     shown(alloc, bytes_of(alloc, &value)?.as_slice())
@@ -61,14 +65,16 @@ fn instant_text(alloc: Global, input: &str) -> Result<String> {
     }
 }
 
-// Adds a member to an object's text, by its value or by the value's text, and tells whether it was taken.
-fn push_member(alloc: Global, object: &mut ObjectText, member: &Value) -> bool {
+// Adds a member to an object's text, by its value or by the value's text.
+fn push_member(
+    alloc: Global,
+    object: &mut ObjectText,
+    member: &Value,
+) -> std::result::Result<(), PieceError> {
     let name = text(member, "name");
     match member.get("value") {
-        Some(value) => object.push(alloc, name, value).is_ok(),
-        None => object
-            .push_text(name, text(member, "text").as_bytes())
-            .is_ok(),
+        Some(value) => object.push(alloc, name, value),
+        None => object.push_text(name, text(member, "text").as_bytes()),
     }
 }
 
@@ -81,8 +87,10 @@ fn object_text(alloc: Global, case: &Value) -> Result<String> {
     let mut object = ObjectText::new(alloc, form)?;
     if let Some(members) = case.get("members").and_then(Value::as_array) {
         for member in members {
-            if !push_member(alloc, &mut object, member) {
-                return Ok(String::from_str(alloc, "refused")?);
+            match push_member(alloc, &mut object, member) {
+                Ok(()) => {}
+                Err(PieceError::Refused) => return Ok(String::from_str(alloc, "refused")?),
+                Err(error) => return Err(error.into()),
             }
         }
     }

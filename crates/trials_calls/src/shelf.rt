@@ -109,7 +109,7 @@ impl Shelf {
 
     // Adds the name of a file and the version of its document, or the moment that it notes, if the store holds it.
     fn tell_file(&mut self, alloc: Global, name: &str, told: &mut String) -> Result<()> {
-        if let Ok(Some(bytes)) = self.files.read(alloc, name) {
+        if let Some(bytes) = self.files.read(alloc, name)? {
             let held = held(alloc, bytes.as_slice())?;
             told.push_str(format!(in alloc; " {name} {held}")?.as_str())?;
         }
@@ -152,8 +152,10 @@ impl Shelf {
 
 /// The version of a document, or the moment that a file notes.
 pub fn held(alloc: Global, bytes: &[u8]) -> Result<String> {
-    let Ok(value) = Value::from_slice(alloc, bytes) else {
-        return Ok(String::from_str(alloc, "no JSON")?);
+    let value = match Value::from_slice(alloc, bytes) {
+        Ok(value) => value,
+        Err(error) if error.is_memory() => return Err(error.into()),
+        Err(_) => return Ok(String::from_str(alloc, "no JSON")?),
     };
     if let Some(moment) = value.as_str() {
         return Ok(String::from_str(alloc, moment)?);

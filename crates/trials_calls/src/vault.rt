@@ -7,7 +7,7 @@ use serde_json::Value;
 use std::alloc::{AllocError, Global};
 use std::fmt::Debug;
 use tough_roles::{DemoVerify, Root, Signed, Snapshot, Timestamp};
-use tough_vault::{DocumentName, ExpirationEnforcement, Receipt, Store, Vault};
+use tough_vault::{DocumentName, ExpirationEnforcement, Receipt, Store, StoreError, Vault};
 
 /// Whether what has expired is refused.
 pub fn enforcement(case: &Value) -> ExpirationEnforcement {
@@ -151,6 +151,7 @@ fn read_back(
         let name = name.as_str().unwrap_or("");
         let held = match store.read(alloc, name) {
             Ok(Some(bytes)) => held(alloc, bytes.as_slice())?,
+            Err(StoreError::Memory) => return Err(StoreError::Memory.into()),
             _ => String::from_str(alloc, "nothing")?,
         };
         told.push_str(format!(in alloc; "\n  {name}: {held}")?.as_str())?;
