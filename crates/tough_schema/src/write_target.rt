@@ -15,7 +15,7 @@ use std::alloc::{AllocError, Global};
 use tough_decoded::{Decoded, Hex};
 use tough_json::error::WriteError;
 use tough_json::pieces::{append_quoted, append_value};
-use tough_json::write::{copy_members, digits, with, with_optional};
+use tough_json::write::{copy_members, with, with_optional};
 use tough_json::{Form, ObjectText, PieceError};
 use tough_roles::write_timestamp::hashes_value;
 
