@@ -4,7 +4,6 @@
 mod cache;
 mod canonical;
 mod ed25519;
-mod edit;
 mod http;
 mod load;
 mod matching;
@@ -19,7 +18,7 @@ use std::env;
 const USAGE: &str = "\
     usage: bench canonical [MEGABYTES] | verify [THOUSANDS] | ed25519 [THOUSANDS] | match [CHARACTERS] | \
     search [ROLES] | load [TARGETS [FOLDER]] | chain TARGETS ROLES [FOLDER] | \
-    fan TARGETS ROLES [FOLDER] | http URL | cache FOLDER | edit FOLDER KEY";
+    fan TARGETS ROLES [FOLDER] | http URL | cache FOLDER";
 
 // The word at a place, if there is one.
 fn word(words: &[String], place: usize) -> Option<&str> {
@@ -58,11 +57,6 @@ fn measure(rt: &HostRuntime, words: &[String]) -> Result<(), Error> {
         "chain" => trees(rt, true, words),
         "fan" => trees(rt, false, words),
         "cache" => cache::run(rt, word(words, 1).unwrap_or("")),
-        "edit" => edit::run(
-            rt,
-            word(words, 1).unwrap_or(""),
-            word(words, 2).unwrap_or(""),
-        ),
         _ => {
             println!(rt; "{USAGE}")?;
             Ok(())
