@@ -1,6 +1,6 @@
 //! The checks of the steps, in their order.
 
-ghost use Rattle.std.specs.Prelude.{◌≡◌, ◌==◌, true, not, Err};
+ghost use Rattle.std.specs.Prelude.{◌≡◌, ◌==◌, true, not, Ok, Err, IfOk};
 ghost use Rattle.tough_roles.specs.Signature.{signed_doc};
 ghost use Rattle.tough_roles.specs.Root.{root_doc};
 ghost use Rattle.tough_roles.specs.Timestamp.{timestamp_doc};
@@ -231,13 +231,14 @@ fn check_form(timestamp: &Timestamp) -> Result<(), Refusal>
 
 /// A document of this role is signed as its keys and threshold demand, by what its verification answers: else `VerifyMetadata` with the
 /// refusal, or `Memory` (TUF specification 5.3 to 5.6).
-pub fn check_signed(role: RoleType, answer: Result<(), Error>) -> Result<(), StepError>
+pub fn check_signed<A>(role: RoleType, answer: Result<A, Error>) -> Result<A, StepError>
     ensures signed { (verdict : _) → Answers answer verdict
         → Checked (verified role verdict) result }
     ensures memory { result ≡ Err step.Memory → answer ≡ Err error.Memory }
+    ensures given { IfOk result (λ found. answer ≡ Ok found) }
 {
     match answer {
-        Ok(()) => Ok(()),
+        Ok(found) => Ok(found),
         Err(Error::Memory) => Err(StepError::Memory),
         Err(source) => Err(StepError::Refused(Refusal::VerifyMetadata { role, source })),
     }

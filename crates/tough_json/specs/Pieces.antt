@@ -16,10 +16,20 @@ use Rattle.tough_json.specs.declared.pieces.Form.TheVariants as forms
 use Rattle.tough_json.specs.declared.pieces.ObjectText.{ObjectText}
 use Rattle.tough_json.specs.declared.pieces.OpenObject.{OpenObject}
 
--- the text of a value: the canonical one (OLPC canonical JSON), or compact JSON (RFC 8259), which no value with a float has
+-- compact JSON (RFC 8259), which no value with a float has
+abbrev pub compact_of : Data → Option (List ℕ)
+compact_of d = if has_float d then None else Some (compact_text d)
+
+-- the text that both are
+abbrev pub agreed : Option (List ℕ) → Option (List ℕ) → Option (List ℕ)
+agreed (Some s) (Some t) = if bytes_eq s t then Some s else None
+agreed _ _ = None
+
+-- the text of a value: the canonical one (OLPC canonical JSON), the compact one, or that which is both, if there is one
 abbrev pub text_in : Form → Data → Option (List ℕ)
 text_in forms.Canonical d = canonical_of d
-text_in forms.Compact d = if has_float d then None else Some (compact_text d)
+text_in forms.Compact d = compact_of d
+text_in forms.Both d = agreed (canonical_of d) (compact_of d)
 
 -- no control character, no quote and no backslash
 abbrev pub is_simple_byte : ℕ → Bool

@@ -1,6 +1,6 @@
 //! Objects written member by member, so that no value of the whole object is made.
 
-ghost use Rattle.std.specs.Prelude.{◌≡◌, ◌++◌, ℕ, List, [], ◌∷◌, false, Some, IfOk, OnOk, IsTrue, if◌then◌else◌};
+ghost use Rattle.std.specs.Prelude.{◌≡◌, ◌++◌, ℕ, List, [], ◌∷◌, false, Some, IfOk, OnOk, IsTrue, ◌&&◌, nat_lt, if◌then◌else◌};
 ghost use Rattle.std.specs.List.{list_all};
 ghost use Rattle.serde_json.specs.Data.{Data, string, Members, object, no_members};
 ghost use Rattle.serde_json.specs.View.{view};
@@ -21,6 +21,8 @@ pub enum Form {
     Canonical,
     /// Compact JSON (RFC 8259), with the members in the order of their names' bytes.
     Compact,
+    /// The canonical one, of a value whose compact text is the same; others have none.
+    Both,
 }
 
 /// Why an object isn't written in pieces.
@@ -56,6 +58,7 @@ pub fn text_in(alloc: Global, form: Form, value: &Value) -> Result<Vec<u8>, Writ
     match form {
         Form::Canonical => canonical_text(alloc, value),
         Form::Compact => compact_text(alloc, value),
+        Form::Both => common_text(alloc, value),
     }
 }
 
@@ -83,15 +86,27 @@ fn compact_text(alloc: Global, value: &Value) -> Result<Vec<u8>, WriteError>
     }
 }
 
-// No control character, no quote and no backslash.
-fn is_simple_byte(byte: u8) -> bool
-    ensures { result ≡ is_simple_byte byte }
+// The canonical text of a value, which is its compact text too; `Unwritable` where they differ, or it has none.
+fn common_text(alloc: Global, value: &Value) -> Result<Vec<u8>, WriteError>
+    ensures { Writes (λ t. t.items) result (text_in Kind.Both (view value.now)) }
 {
-    !(byte < 32) && !(byte == b'"') && !(byte == b'\\')
+    let text = canonical_text(alloc, value)?;
+    let compact = compact_text(alloc, value)?;
+    if text.as_slice() != compact.as_slice() {
+        return Err(WriteError::Unwritable);
+    }
+    Ok(text)
+}
+
+// ASCII that is no control character, no quote and no backslash.
+fn is_simple_byte(byte: u8) -> bool
+    ensures { result ≡ (nat_lt byte 128 && is_simple_byte byte) }
+{
+    byte < 128 && !(byte < 32) && !(byte == b'"') && !(byte == b'\\')
 }
 
 fn has_simple_bytes(name: &[u8]) -> bool
-    ensures { result ≡ list_all is_simple_byte name.now }
+    ensures { result ≡ list_all (λ b. nat_lt b 128 && is_simple_byte b) name.now }
 {
     name.iter().all(|byte| is_simple_byte(*byte))
 }
@@ -100,7 +115,7 @@ fn has_simple_bytes(name: &[u8]) -> bool
 fn is_simple(name: &str) -> bool
     ensures { IsTrue result → IsSimple name.now }
 {
-    name.is_ascii() && has_simple_bytes(name.as_bytes())
+    has_simple_bytes(name.as_bytes())
 }
 
 /// The text with that of the value behind it. `Refused` where the value has none.

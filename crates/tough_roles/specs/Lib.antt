@@ -16,3 +16,4 @@ pub mod RoleId
 pub mod Names
 pub mod Keyring
 pub mod Readable
+pub mod Written

@@ -80,8 +80,8 @@ IsRefusal errors.Memory v = ⊤
 IsRefusal e v = Refuses (refused e) v
 
 -- an answer is the verdict
-abbrev pub Answers : Result Unit Error → Result Unit Refused → Type 0
-Answers (Ok u) v = v ≡ Ok tt
+abbrev pub Answers : {A : Type 0} → Result A Error → Result Unit Refused → Type 0
+Answers (Ok a) v = v ≡ Ok tt
 Answers (Err e) v = IsRefusal e v
 
 -- nothing was refused but memory

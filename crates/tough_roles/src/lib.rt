@@ -24,6 +24,7 @@ pub mod write_root;
 mod write_signed;
 mod write_snapshot;
 pub mod write_timestamp;
+mod written;
 
 pub use error::{Error, Result};
 pub use keyring::KeysIter;
@@ -40,3 +41,4 @@ pub use tough_keys::{
     DemoSign, DemoVerify, EcdsaKey, EcdsaScheme, Ed25519Key, Ed25519Scheme, Key, KeyParseError,
     RsaKey, RsaScheme, Sign, SignError, Verify,
 };
+pub use written::Written;

@@ -97,7 +97,7 @@ fn repeated(alloc: Global, signatures: &[Signature]) -> Result<Option<usize>, Al
 
 // Whether the signatures over the text reach the threshold that the role asks for. The refusals, in this order: `DuplicateKeyId`,
 // `SignatureThreshold`.
-fn judge<V: Verify>(
+pub(crate) fn judge<V: Verify>(
     alloc: Global,
     known: &BTreeMap<Decoded<Hex>, Key>,
     role: RoleType,

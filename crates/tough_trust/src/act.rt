@@ -1,7 +1,7 @@
 //! The steps of an update on a store.
 
 use jiff::Timestamp as Instant;
-use tough_roles::{Root, Signed, Snapshot, Timestamp};
+use tough_roles::{Root, Signed, Snapshot, Timestamp, Written};
 use tough_schema::Targets;
 use tough_vault::{DocumentName, ExpirationEnforcement};
 
@@ -39,12 +39,12 @@ pub enum Act<'a> {
         enforcement: ExpirationEnforcement,
     },
     /// To store the targets.
-    PutTargets(&'a Signed<Targets>),
+    PutTargets(&'a Written<Targets>),
     /// To store the document of a delegated role.
     PutDelegated {
         /// The file's name.
         name: &'a DocumentName,
         /// The document.
-        targets: &'a Signed<Targets>,
+        targets: &'a Written<Targets>,
     },
 }

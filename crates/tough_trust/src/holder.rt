@@ -1,6 +1,6 @@
 //! Whether targets are taken: those of a repository, and those of a delegated role (TUF specification 5.6).
 
-ghost use Rattle.std.specs.Prelude.{◌≡◌, option_map};
+ghost use Rattle.std.specs.Prelude.{◌≡◌, IfOk, option_map};
 ghost use Rattle.tough_roles.specs.Signature.{signed_doc};
 ghost use Rattle.tough_roles.specs.Root.{root_doc};
 ghost use Rattle.tough_roles.specs.Verdict.{Answers};
@@ -14,8 +14,7 @@ ghost use Rattle.tough_trust.specs.View.{holder_doc, role_holder_doc};
 
 use crate::error::UpdateError;
 use std::alloc::Global;
-use tough_roles::verify::verify_by;
-use tough_roles::{self as schema, ReadError, RoleType, Root, Signed, Verify};
+use tough_roles::{self as schema, ReadError, RoleType, Root, Signed, Verify, Written};
 use tough_schema::{DelegatedRole, Delegations, Targets};
 use tough_vault::{Checker, StepError, check_expiry, check_signed, check_version};
 
@@ -53,20 +52,21 @@ pub fn holder_of<'a>(root: &'a Root, role: Option<RoleHolder<'a>>) -> Holder<'a>
 }
 
 impl RoleHolder<'_> {
-    // Whether the targets reach the threshold of the role.
+    // The targets, if they reach the threshold of the role.
     fn verify<V: Verify>(
         &self,
         alloc: Global,
-        targets: &Signed<Targets>,
+        targets: Signed<Targets>,
         verifier: &V,
-    ) -> Result<(), schema::Error>
-        ensures { Answers result (targets_verdict (V.verifies verifier.now)
-            (role_holder_doc self.now) (signed_doc targets_doc targets.now)) }
+    ) -> Result<Written<Targets>, schema::Error>
+        ensures verdict { Answers result (targets_verdict (V.verifies verifier.now)
+            (role_holder_doc self.now) (signed_doc targets_doc targets)) }
+        ensures same { IfOk result (λ written. written ≡ targets) }
     {
         if let Some(delegations) = self.delegations {
             if let Some(role) = self.role {
                 let keys = role.keys(alloc)?;
-                return verify_by(alloc, &delegations.keys, &keys, targets, verifier);
+                return Written::verify_by(alloc, &delegations.keys, &keys, targets, verifier);
             }
         }
         Err(schema::Error::RoleNotFound {
@@ -76,46 +76,43 @@ impl RoleHolder<'_> {
 }
 
 impl Holder<'_> {
-    // Whether the targets reach the threshold.
+    // The targets, if they reach the threshold.
     fn verify<V: Verify>(
         &self,
         alloc: Global,
-        targets: &Signed<Targets>,
+        targets: Signed<Targets>,
         verifier: &V,
-    ) -> Result<(), schema::Error>
-        ensures { Answers result (targets_verdict (V.verifies verifier.now)
-            (holder_doc self.now) (signed_doc targets_doc targets.now)) }
+    ) -> Result<Written<Targets>, schema::Error>
+        ensures verdict { Answers result (targets_verdict (V.verifies verifier.now)
+            (holder_doc self.now) (signed_doc targets_doc targets)) }
+        ensures same { IfOk result (λ written. written ≡ targets) }
     {
         match self {
-            Holder::Root(root) => root.verify_role(alloc, targets, verifier),
+            Holder::Root(root) => Written::verify_role(alloc, root, targets, verifier),
             Holder::Role(role) => role.verify(alloc, targets, verifier),
         }
     }
 }
 
-// Targets reach the holder's threshold, have the listed version and aren't expired.
+// The targets, if they reach the holder's threshold, have the listed version and aren't expired.
 fn check<V: Verify>(
     checker: &Checker<'_, V>,
     holder: &Holder<'_>,
     listed: u64,
-    targets: &Signed<Targets>,
-) -> Result<(), StepError>
-    ensures { Checked (targets_refusal (V.verifies checker.now.verifier.now)
+    targets: Signed<Targets>,
+) -> Result<Written<Targets>, StepError>
+    ensures checked { Checked (targets_refusal (V.verifies checker.now.verifier.now)
         (enforces checker.now.enforcement) checker.now.start.nanosecond (holder_doc holder.now)
-        listed (signed_doc targets_doc targets.now)) result }
+        listed (signed_doc targets_doc targets)) result }
+    ensures same { IfOk result (λ written. written ≡ targets) }
 {
     let role = RoleType::Targets;
-    check_signed(
-        role,
-        holder.verify(checker.alloc, targets, checker.verifier),
-    )?;
-    check_version(role, targets.signed.version.get(), listed)?;
-    Ok(check_expiry(
-        role,
-        checker.enforcement,
-        checker.start,
-        targets.signed.expires,
-    )?)
+    let answer = holder.verify(checker.alloc, targets, checker.verifier);
+    let written = check_signed(role, answer)?;
+    let told = &written.document().signed;
+    check_version(role, told.version.get(), listed)?;
+    check_expiry(role, checker.enforcement, checker.start, told.expires)?;
+    Ok(written)
 }
 
 /// Reads targets, and checks them in this order: `ParseMetadata` where the bytes are no signed targets, `VerifyMetadata` where they don't
@@ -126,7 +123,7 @@ pub fn read_targets<V: Verify>(
     holder: &Holder<'_>,
     listed: u64,
     bytes: &[u8],
-) -> Result<Signed<Targets>, UpdateError>
+) -> Result<Written<Targets>, UpdateError>
     ensures { Gives (signed_doc tree_doc)
         (judged (V.verifies checker.now.verifier.now) (enforces checker.now.enforcement)
         checker.now.start.nanosecond (holder_doc holder.now) listed bytes.now) result }
@@ -141,8 +138,8 @@ pub fn read_targets<V: Verify>(
             });
         }
     };
-    check(checker, holder, listed, &targets)?;
-    Ok(targets)
+    let written = check(checker, holder, listed, targets)?;
+    Ok(written)
 }
 
 /// The same of bytes that are given up: they are let go of before the checks, which make a text of the document.
@@ -151,7 +148,7 @@ pub fn targets_from<V: Verify>(
     holder: &Holder<'_>,
     listed: u64,
     bytes: Vec<u8>,
-) -> Result<Signed<Targets>, UpdateError>
+) -> Result<Written<Targets>, UpdateError>
     ensures { Gives (signed_doc tree_doc)
         (judged (V.verifies checker.now.verifier.now) (enforces checker.now.enforcement)
         checker.now.start.nanosecond (holder_doc holder.now) listed bytes.items) result }
@@ -168,8 +165,8 @@ pub fn targets_from<V: Verify>(
             });
         }
     };
-    check(checker, holder, listed, &targets)?;
-    Ok(targets)
+    let written = check(checker, holder, listed, targets)?;
+    Ok(written)
 }
 
 /// Each name that a document of the tree lists is found by the permissive search for it, or else `InvalidPath` tells the first that isn't.

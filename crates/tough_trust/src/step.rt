@@ -40,12 +40,12 @@ pub fn act_on<S: Store, V: Verify>(
             start,
             enforcement,
         } => vault.advance_snapshot(*root, *listed, *new, *start, *enforcement, verifier),
-        Act::PutDelegated { name, targets } => vault.put_document(*name, *targets),
+        Act::PutDelegated { name, targets } => vault.put_written(*name, *targets),
         Act::PutTargets(targets) => {
             let Ok(name) = DocumentName::targets(alloc) else {
                 return Err(StepError::Memory);
             };
-            vault.put_document(&name, *targets)
+            vault.put_written(&name, *targets)
         }
     }
 }

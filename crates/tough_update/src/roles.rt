@@ -16,7 +16,7 @@ use crate::delegations::{Growth, Progress};
 use crate::stage::{Known, Loaded, Pending, Received, Roles, Stage, Wanted};
 use crate::turns::Setting;
 use std::alloc::{AllocError, Global};
-use tough_roles::{Signed, Verify};
+use tough_roles::{Signed, Verify, Written};
 use tough_schema::Targets;
 use tough_trust::{Limits, UpdateError, check_tree, holder_of, read_targets, role_request};
 use tough_vault::{Checker, DocumentName};
@@ -111,7 +111,7 @@ fn store_role(
     known: Known,
     roles: Roles,
     file: String,
-    targets: Signed<Targets>,
+    targets: Written<Targets>,
 ) -> Result<Stage, UpdateError>
     ensures { Gives stage_doc
         (role_stored (setting_doc setting.now).limits (known_doc known) (roles_doc roles)
@@ -119,7 +119,10 @@ fn store_role(
 {
     match DocumentName::delegated(file) {
         Some(name) => Ok(Stage::Step(Pending::PutDelegated(known, roles, name, targets))),
-        None => give_role(setting.alloc, &setting.limits, known, roles, targets),
+        None => {
+            let document = targets.into_document();
+            give_role(setting.alloc, &setting.limits, known, roles, document)
+        }
     }
 }
 

@@ -8,7 +8,7 @@ ghost use Rattle.tough_update.specs.View.{latest, walk_doc, base_doc, pending_do
 
 use crate::delegations::Growth;
 use jiff::Timestamp as Instant;
-use tough_roles::{Root, Signed, Snapshot, Timestamp};
+use tough_roles::{Root, Signed, Snapshot, Timestamp, Written};
 use tough_schema::Targets;
 use tough_trust::{Act, Request, UpdateError};
 use tough_vault::{DocumentName, ExpirationEnforcement};
@@ -84,8 +84,8 @@ pub(crate) enum Pending {
     PutLast(Walk),
     PutTimestamp(Base, Signed<Timestamp>),
     PutSnapshot(Known, u64),
-    PutTargets(Known, Signed<Targets>),
-    PutDelegated(Known, Roles, DocumentName, Signed<Targets>),
+    PutTargets(Known, Written<Targets>),
+    PutDelegated(Known, Roles, DocumentName, Written<Targets>),
 }
 
 /// What an update waits for, with what is known by then.

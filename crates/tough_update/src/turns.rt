@@ -347,9 +347,11 @@ fn after<V: Verify>(
         Pending::PutLast(walk) => end_walk(alloc, limits, setting.enforcement, walk),
         Pending::PutTimestamp(base, timestamp) => go_to_snapshot(alloc, limits, base, timestamp),
         Pending::PutSnapshot(known, _) => go_to_targets(alloc, limits, known),
-        Pending::PutTargets(known, targets) => begin_roles(alloc, limits, known, targets),
+        Pending::PutTargets(known, targets) => {
+            begin_roles(alloc, limits, known, targets.into_document())
+        }
         Pending::PutDelegated(known, roles, _, targets) => {
-            give_role(alloc, limits, known, roles, targets)
+            give_role(alloc, limits, known, roles, targets.into_document())
         }
     }
 }

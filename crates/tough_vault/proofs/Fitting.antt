@@ -168,6 +168,12 @@ module _ {S : Type 0} (tells : Bool) (files : S → Files) (count : S → ℕ) w
   after_step step old new mid (Err e) result s p c f =
       kept_refused tells files count step old new e s (subst (λ (r : Result Receipt StepError). Takes tells files count step old new r) c.refused.0 (takes tells files count step old new mid (Err e) result p c))
 
+  -- and through one that was taken whole
+  pub after_taking : (step : Step) (old new : Parts S) (result : Result Receipt StepError) → Sound tells files count old → Takes tells files count step old new result
+      → ((found : Option (List ℕ)) → Passes tells files count step old.store found → Fits tells files count step old (files new.store) found) → Sound tells files count new
+  after_taking step old new (Ok r) s t f = kept tells files count step old new r s (λ found d. f found d.passes) t
+  after_taking step old new (Err e) s t f = kept_refused tells files count step old new e s t
+
 -- what was prepared is so
 pub when_ready : {P : Type 0} (prepared : Result Prepared StepError) (p : Prepared) → OnOk prepared P → prepared ≡ Ok p → P
 when_ready {P} prepared p h is = subst (λ (r : Result Prepared StepError). OnOk r P) is h

@@ -32,7 +32,7 @@ module _ {S : Type 0} (tells : Bool) (files : S → Files) (count : S → ℕ) (
 
   -- the entry says whether keys were rotated
   kept_as : (rotated : Bool) (p : Prepared) (result : Result Receipt StepError) → note_of p.entry ≡ Root root.role.head.version rotated → rotated ≡ false
-      → ConcludesAs tells files count (note_of p.entry) p between new result → Writes tells files count root_file p between new result
+      → ConcludesAs tells files count (note_of p.entry) p between new result → Writes tells files count root_file (note_of p.entry) p.bytes.items between new result
   kept_as rotated p result is none c =
       subst (λ (n : Note). ConcludesAs tells files count n p between new result) (is ∙ ap (Root root.role.head.version) none) c
 
@@ -42,7 +42,7 @@ module _ {S : Type 0} (tells : Bool) (files : S → Files) (count : S → ℕ) (
       subst (λ (n : Note). ConcludesAs tells files count n p between new result) (is ∙ ap (Root root.role.head.version) some) c
 
   -- a write that failed is one of a step that clears nothing
-  unwritten : (p : Prepared) (e : StepError) → Unwritten tells files count between new e → Writes tells files count root_file p between new (Err e)
+  unwritten : (p : Prepared) (e : StepError) → Unwritten tells files count between new e → Writes tells files count root_file (note_of p.entry) p.bytes.items between new (Err e)
   unwritten p e u = record { done = tt; stored = tt; fault = u.fault; broken = u.broken; same = λ is. u.same (cc (is)); elsewhere = u.elsewhere }
 
   -- ---- what a root's step does
@@ -50,7 +50,7 @@ module _ {S : Type 0} (tells : Bool) (files : S → Files) (count : S → ℕ) (
   refused : (e : StepError) (result : Result Receipt StepError) → (result ≡ Err e) × (new ≡ between) → Concludes tells files count root_file (Err e) between new result
   refused e result c = record { refused = c; written = tt }
 
-  wrote : (p : Prepared) (result : Result Receipt StepError) → Writes tells files count root_file p between new result → Concludes tells files count root_file (Ok p) between new result
+  wrote : (p : Prepared) (result : Result Receipt StepError) → Writes tells files count root_file (note_of p.entry) p.bytes.items between new result → Concludes tells files count root_file (Ok p) between new result
   wrote p result w = record { refused = tt; written = w }
 
   taken : (prepared : Result Prepared StepError) (result : Result Receipt StepError) → Prepares tells files count (root_step verifies old.tip root) old.store mid prepared
@@ -61,7 +61,7 @@ module _ {S : Type 0} (tells : Bool) (files : S → Files) (count : S → ℕ) (
   not_stored e t = inl (record { takes = t; keeps = tt })
 
   stored : (p : Prepared) (result : Result Receipt StepError) (h : Prepares tells files count (root_step verifies old.tip root) old.store mid (Ok p)) → rotates (stored_root verifies h.ready.0) root.role ≡ false
-      → Writes tells files count root_file p between new result → Puts tells files count verifies root old new result
+      → Writes tells files count root_file (note_of p.entry) p.bytes.items between new result → Puts tells files count verifies root old new result
   stored p (Err e) h same w = not_stored e (taken (Ok p) (Err e) h (wrote p (Err e) w))
   stored p (Ok r) h same w =
       inl (record { takes = taken (Ok p) (Ok r) h (wrote p (Ok r) w); keeps = w.done.1.entry ∙ (h.ready.2.entry ∙ ap (Root root.role.head.version) same) })

@@ -99,16 +99,16 @@ module _ {S : Type 0} (tells : Bool) (files : S → Files) (count : S → ℕ) w
   IsFault file old new (DatastoreCreate path) = (string_bytes path ≡ file) × (count new ≢ count old)
   IsFault file old new _ = ⊥
 
-  -- The last part of a step: it writes what was prepared, and notes it.
-  pub record Writes (file : List ℕ) (p : Prepared) (old new : Parts S) (result : Result Receipt StepError) : Type 0 where
-    pub done : IfOk result (λ r. IsNoted (note_of p.entry) old new × IsReceipt (length old.notes) (note_of p.entry) r)
-    pub stored : OnOk result (tells ≡ true → files new.store file ≡ Some p.bytes.items)
+  -- The last part of a step: it writes the bytes, and notes this.
+  pub record Writes (file : List ℕ) (note : Note) (bytes : List ℕ) (old new : Parts S) (result : Result Receipt StepError) : Type 0 where
+    pub done : IfOk result (λ r. IsNoted note old new × IsReceipt (length old.notes) note r)
+    pub stored : OnOk result (tells ≡ true → files new.store file ≡ Some bytes)
     pub fault : IfErr result (IsFault file old.store new.store)
     pub broken : IfErr result (λ e. IsUnwritten e → IsNoted Broken old new)
     pub same : IsErrOf result Memory → (new.notes ≡ old.notes) × (new.tip ≡ old.tip) × (tells ≡ true → SameFiles (files old.store) (files new.store))
     pub elsewhere : tells ≡ true → SameElsewhere file (files old.store) (files new.store)
 
-  -- The same where the first part may have refused: then nothing changes.
+  -- The same of what was prepared, where the first part may have refused: then nothing changes.
   pub record Concludes (file : List ℕ) (prepared : Result Prepared StepError) (old new : Parts S) (result : Result Receipt StepError) : Type 0 where
     pub refused : IfErr prepared (λ e. (result ≡ Err e) × (new ≡ old))
-    pub written : IfOk prepared (λ p. Writes file p old new result)
+    pub written : IfOk prepared (λ p. Writes file (note_of p.entry) p.bytes.items old new result)

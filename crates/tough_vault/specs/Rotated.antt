@@ -44,7 +44,7 @@ module _ {S : Type 0} (tells : Bool) (files : S → Files) (count : S → ℕ) w
   -- The last part of a root's step: where the entry says so, timestamp and snapshot are removed after the write.
   abbrev pub ConcludesAs : Note → Prepared → Parts S → Parts S → Result Receipt StepError → Type 0
   ConcludesAs (Root version true) p old new result = WritesAnew version p.bytes.items old new result
-  ConcludesAs _ p old new result = Writes tells files count root_file p old new result
+  ConcludesAs _ p old new result = Writes tells files count root_file (note_of p.entry) p.bytes.items old new result
 
   abbrev pub ConcludesRoot : Result Prepared StepError → Parts S → Parts S → Result Receipt StepError → Type 0
   ConcludesRoot (Ok p) old new result = ConcludesAs (note_of p.entry) p old new result

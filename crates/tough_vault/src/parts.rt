@@ -3,7 +3,7 @@
 ghost use Rattle.std.specs.Prelude.{◌≡◌, ◌<◌, vec_len, vec_capacity, length, ◌++◌, ◌∷◌, []};
 ghost use Rattle.tough_vault.specs.Journal.{note_of, notes_of};
 ghost use Rattle.tough_vault.specs.Step.{IsReceipt};
-ghost use Rattle.tough_vault.specs.Parts.{parts, Concludes};
+ghost use Rattle.tough_vault.specs.Parts.{parts, Writes, Concludes};
 
 use crate::entry::{Entry, Receipt, Tip};
 use crate::store::{Store, StoreError};
@@ -14,6 +14,42 @@ use tough_checks::StepError;
 pub(crate) struct Prepared {
     pub(crate) bytes: Vec<u8>,
     pub(crate) entry: Entry,
+}
+
+/// Writes the bytes and notes the entry.
+pub(crate) fn write_noted<S: Store>(
+    store: &mut S,
+    journal: &mut Vec<Entry>,
+    tip: &mut Tip,
+    name: &str,
+    bytes: &[u8],
+    entry: Entry,
+) -> Result<Receipt, StepError>
+    ensures { Writes S.tells S.files S.count name.now (note_of entry) bytes.now
+        (parts store.old journal.old.items tip.old)
+        (parts store.new journal.new.items tip.new) result }
+{
+    let alloc = *journal.allocator();
+    let (Ok(receipt), Ok(accepted)) = (entry.copy(alloc), entry.copy(alloc)) else {
+        return Err(StepError::Memory);
+    };
+    let Ok(path) = String::from_str(alloc, name) else {
+        return Err(StepError::Memory);
+    };
+    if journal.reserve(1).is_err() {
+        return Err(StepError::Memory);
+    }
+    match store.write(name, bytes) {
+        Ok(()) => {
+            tip.apply(accepted);
+            Ok(note(journal, entry, receipt))
+        }
+        Err(StoreError::Failed) => {
+            note(journal, Entry::Broken, Entry::Broken);
+            Err(StepError::DatastoreCreate { path })
+        }
+        Err(StoreError::Memory) => Err(StepError::Memory),
+    }
 }
 
 /// Writes what was prepared and notes it; where the first part refused, does nothing.
@@ -30,29 +66,7 @@ pub(crate) fn conclude<S: Store>(
 {
     match prepared {
         Err(error) => Err(error),
-        Ok(Prepared { bytes, entry }) => {
-            let alloc = *journal.allocator();
-            let (Ok(receipt), Ok(accepted)) = (entry.copy(alloc), entry.copy(alloc)) else {
-                return Err(StepError::Memory);
-            };
-            let Ok(path) = String::from_str(alloc, name) else {
-                return Err(StepError::Memory);
-            };
-            if journal.reserve(1).is_err() {
-                return Err(StepError::Memory);
-            }
-            match store.write(name, &bytes) {
-                Ok(()) => {
-                    tip.apply(accepted);
-                    Ok(note(journal, entry, receipt))
-                }
-                Err(StoreError::Failed) => {
-                    note(journal, Entry::Broken, Entry::Broken);
-                    Err(StepError::DatastoreCreate { path })
-                }
-                Err(StoreError::Memory) => Err(StepError::Memory),
-            }
-        }
+        Ok(Prepared { bytes, entry }) => write_noted(store, journal, tip, name, &bytes, entry),
     }
 }
 

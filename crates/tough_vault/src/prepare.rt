@@ -6,7 +6,7 @@ ghost use Rattle.tough_roles.specs.Root.{root_doc};
 ghost use Rattle.tough_roles.specs.Timestamp.{timestamp_doc, timestamp_json};
 ghost use Rattle.tough_checks.specs.StoredDocuments.{content, stored_timestamp, stored_time, time_in};
 ghost use Rattle.tough_vault.specs.Stored.{SameFiles};
-ghost use Rattle.tough_vault.specs.Step.{Finds};
+ghost use Rattle.tough_vault.specs.Step.{Finds, Takes};
 ghost use Rattle.tough_checks.specs.Versions.{time_where};
 ghost use Rattle.tough_vault.specs.Journal.{tip_of};
 ghost use Rattle.tough_checks.specs.Checks.{timestamp_where, enforces};
@@ -14,11 +14,11 @@ ghost use Rattle.tough_checks.specs.Documents.{role_text, timestamp_text, timest
 ghost use Rattle.tough_checks.specs.DocumentName.{name_of};
 ghost use Rattle.tough_vault.specs.Steps.{time_step, timestamp_step, document_step, time_text};
 ghost use Rattle.tough_json.specs.Results.{Writes};
-ghost use Rattle.tough_vault.specs.Parts.{Prepares, IsReadFault};
+ghost use Rattle.tough_vault.specs.Parts.{parts, Prepares, IsReadFault};
 
 use crate::document::document_bytes;
-use crate::entry::{Entry, Tip};
-use crate::parts::Prepared;
+use crate::entry::{Entry, Receipt, Tip};
+use crate::parts::{Prepared, write_noted};
 use crate::store::{Store, StoreError};
 use jiff::Timestamp as Instant;
 use serde_json::Value;
@@ -179,4 +179,31 @@ pub(crate) fn prepare_document<S: Store, T: Role>(
         bytes,
         entry: Entry::Document(name),
     })
+}
+
+/// Stores a document of this text under its name, and notes it.
+pub(crate) fn put_text<S: Store>(
+    store: &mut S,
+    journal: &mut Vec<Entry>,
+    tip: &mut Tip,
+    name: &DocumentName,
+    text: &Vec<u8>,
+) -> Result<Receipt, StepError>
+    ensures { Takes S.tells S.files S.count
+        (document_step (name_of name.now) (Some text.now.items))
+        (parts store.old journal.old.items tip.old)
+        (parts store.new journal.new.items tip.new) result }
+{
+    let alloc = *journal.allocator();
+    let Ok(noted) = String::from_str(alloc, name.as_str()) else {
+        return Err(StepError::Memory);
+    };
+    write_noted(
+        store,
+        journal,
+        tip,
+        name.as_str(),
+        text.as_slice(),
+        Entry::Document(noted),
+    )
 }

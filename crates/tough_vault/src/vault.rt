@@ -20,7 +20,7 @@ ghost use Rattle.tough_vault.specs.Props.{Rises-prop, replays-prop};
 use crate::entry::{Entry, Receipt, Tip};
 use crate::parts::conclude;
 use crate::prepare::{
-    SNAPSHOT, TIME, TIMESTAMP, prepare_document, prepare_time, prepare_timestamp,
+    SNAPSHOT, TIME, TIMESTAMP, prepare_document, prepare_time, prepare_timestamp, put_text,
 };
 use crate::root_step::{look, prepare_root};
 use crate::rotated::{clear, conclude_root};
@@ -29,7 +29,7 @@ use crate::store::Store;
 use jiff::Timestamp as Instant;
 use std::alloc::Global;
 use tough_checks::{Checker, DocumentName, ExpirationEnforcement, StepError};
-use tough_roles::{Role, Root, Signed, Snapshot, Timestamp, Verify};
+use tough_roles::{Role, Root, Signed, Snapshot, Timestamp, Verify, Written};
 
 /// A store, what was accepted from it, and the tip of that.
 #[derive(Drop)]
@@ -255,6 +255,28 @@ impl<S: Store> Vault<S> {
         } = self;
         let prepared = prepare_document(*alloc, store, name, role);
         conclude(store, journal, tip, name.as_str(), prepared)
+    }
+
+    /// The same, where the document's text may be known: then it isn't made again.
+    pub fn put_written<T: Role>(
+        &mut self,
+        name: &DocumentName,
+        role: &Written<T>,
+    ) -> Result<Receipt, StepError>
+        ensures { Takes S.tells S.files S.count
+            (document_step (name_of name.now) (role_text T.json role.now)) (parts_of self.old)
+            (parts_of self.new) result }
+    {
+        let Some(text) = role.text() else {
+            return self.put_document(name, role.document());
+        };
+        let Vault {
+            alloc: _,
+            store,
+            journal,
+            tip,
+        } = self;
+        put_text(store, journal, tip, name, text)
     }
 
     /// The store.

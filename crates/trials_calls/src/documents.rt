@@ -103,6 +103,7 @@ fn rewritten(alloc: Global, form: &str, document: &str) -> Result<String> {
     match form {
         "canonical pieces" => in_pieces(alloc, &targets, Form::Canonical),
         "compact pieces" => in_pieces(alloc, &targets, Form::Compact),
+        "pieces of both" => in_pieces(alloc, &targets, Form::Both),
         "canonical" => Ok(String::from_utf8(targets.canonical_form(alloc)?)?),
         _ => Ok(targets.to_value(alloc)?.to_string(alloc)?),
     }

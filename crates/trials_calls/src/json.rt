@@ -82,6 +82,7 @@ fn push_member(
 fn object_text(alloc: Global, case: &Value) -> Result<String> {
     let form = match text(case, "form") {
         "canonical" => Form::Canonical,
+        "both" => Form::Both,
         _ => Form::Compact,
     };
     let mut object = ObjectText::new(alloc, form)?;

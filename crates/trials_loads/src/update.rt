@@ -25,9 +25,16 @@ fn act(alloc: Global, act: &Act<'_>) -> Result<String, AllocError> {
             format!(in alloc; "AdvanceSnapshot {} {listed}", new.signed.version)
         }
         Act::PutDelegated { name, targets } => {
-            format!(in alloc; "PutDelegated {} {}", name.as_str(), targets.signed.version)
+            format!(in alloc;
+                "PutDelegated {} {}",
+                name.as_str(),
+                targets.document().signed.version
+            )
         }
-        Act::PutTargets(targets) => format!(in alloc; "PutTargets {}", targets.signed.version),
+        Act::PutTargets(targets) => format!(in alloc;
+            "PutTargets {}",
+            targets.document().signed.version
+        ),
     }
 }
 

@@ -1,10 +1,11 @@
 -- Objects that are written member by member.
 use Rattle.std.proofs.Common.{◌≡◌, ℕ, List, [], ◌∷◌, ◌++◌, flat_map, map, Bool, true, false, not, nat_lt, ◌==◌, ◌&&◌, if◌then◌else◌, Option, Some, None, option_map, option_and_then, Ordering, Less, Equal, Greater, nat_cmp, is_eq, bytes_eq, String, string_bytes, refl, sym, ap, ap₂, ◌∙◌, append_assoc, arith, Result, Ok, Err, OnOk}
-use Rattle.std.proofs.lemmas.Bool.{and_parts}
+use Rattle.std.proofs.lemmas.Bool.{and_parts, ltb-true}
 use Rattle.std.proofs.lemmas.Bool.Decides.{nat_tests}
 use Rattle.std.proofs.lemmas.Cmp.{nat_list_cmp_total}
 use Rattle.std.proofs.lemmas.Map.Text.{is_eq-slice_cmp}
 use Rattle.std.proofs.lemmas.Slice.Eq.{bytes_eq-Decides}
+use Rattle.std.proofs.lemmas.Str.Ascii.{IsAscii-nil, IsAscii-cons}
 use Rattle.std.specs.declared.alloc.Global.{Global}
 use Rattle.std.specs.Cmp.Lexicographic.{slice_cmp}
 use Rattle.std.specs.List.{AllByRecursion, list_all}
@@ -24,7 +25,7 @@ use Rattle.tough_cjson.proofs.lemmas.Plain.{nfc_text-IsAscii}
 use Rattle.tough_json.specs.declared.pieces.Form.{Form}
 use Rattle.tough_json.specs.declared.pieces.Form.TheVariants as forms
 use Rattle.tough_json.specs.declared.pieces.ObjectText.{ObjectText}
-use Rattle.tough_json.specs.Pieces.{text_in, is_simple_byte, IsSimple, IsBelow, AreBelow, AreSimple, and_last, replaced, piece, ArePieces, is_none_yet, Appends, Stands, IsNamed}
+use Rattle.tough_json.specs.Pieces.{compact_of, agreed, text_in, is_simple_byte, IsSimple, IsBelow, AreBelow, AreSimple, and_last, replaced, piece, ArePieces, is_none_yet, Appends, Stands, IsNamed}
 use Rattle.tough_json.specs.Writing.{with}
 use Rattle.tough_json.proofs.lemmas.Write.{if_free-ok}
 
@@ -38,6 +39,14 @@ three false false false h = (refl, refl, refl)
 
 plain_byte : (b : ℕ) → is_simple_byte b ≡ true → escaped_byte b ≡ b ∷ []
 plain_byte b h = let p = three (nat_lt b 32) (b == 34) (b == 92) h in rw (p.1, p.2) refl
+
+-- a name whose bytes are all ASCII with none of these
+pub simple-from : (s : List ℕ) → list_all (λ b. nat_lt b 128 && is_simple_byte b) s ≡ true → IsSimple s
+simple-from [] h = (IsAscii-nil, refl)
+simple-from (b ∷ s) h =
+    let p = and_parts (nat_lt b 128 && is_simple_byte b) (list_all (λ c. nat_lt c 128 && is_simple_byte c) s) h in
+    let q = and_parts (nat_lt b 128) (is_simple_byte b) p.0 in
+    let r = simple-from s p.1 in (IsAscii-cons b s (ltb-true b 128 q.0) r.0, rw (q.1, r.1) refl)
 
 letter : (b : ℕ) → nat_lt b 32 ≡ false → (b == 34) ≡ false → (b == 92) ≡ false → escape_letter b ≡ 0
 letter b low quote slash = grind (arith, nat_tests)
@@ -119,9 +128,43 @@ compact-object (member k d ms) ts s h =
     let r = later ms h.1 s.2 h.3 in
     rw (p.0, r.0) (ap (λ l. Some (123 ∷ l)) (said k (compact_text d) h.0 (members_text true ms) s.0.1 p.1 ∙ ap (λ l. piece k h.0 ++ l) r.1 ∙ sym (append_assoc (piece k h.0) (flat_map (λ u. 44 ∷ u) h.1) (125 ∷ []))) ∙ ap (λ us. Some (123 ∷ (joined us ++ 125 ∷ []))) (sym h.4))
 
+-- ---- the text that is both
+
+agreed_at : (b : Bool) (s t u : List ℕ) → bytes_eq s t ≡ b → (if b then Some s else None) ≡ Some u → (Some s ≡ Some u) × (Some t ≡ Some u)
+agreed_at true s t u is h = (h, ap Some (sym ((bytes_eq-Decides s t).0 is)) ∙ h)
+agreed_at false s t u is h = absurd (cc h)
+
+agreed-parts : (a b : Option (List ℕ)) (t : List ℕ) → agreed a b ≡ Some t → (a ≡ Some t) × (b ≡ Some t)
+agreed-parts None b t h = absurd (cc h)
+agreed-parts (Some s) None t h = absurd (cc h)
+agreed-parts (Some s) (Some u) t h = agreed_at (bytes_eq s u) s u t refl h
+
+agreed-same : (t : List ℕ) → agreed (Some t) (Some t) ≡ Some t
+agreed-same t = rw ((bytes_eq-Decides t t).1 refl) refl
+
+-- the text that is both is each of the two
+pub both-parts : (d : Data) (t : List ℕ) → text_in forms.Both d ≡ Some t → (text_in forms.Canonical d ≡ Some t) × (text_in forms.Compact d ≡ Some t)
+both-parts d t h = agreed-parts (canonical_of d) (compact_of d) t h
+
+pieces-canonical : (ms : Members) (ts : List (List ℕ)) → ArePieces forms.Both ms ts → ArePieces forms.Canonical ms ts
+pieces-canonical no_members ts h = h
+pieces-canonical (member k d ms) ts h = (h.0, h.1, (both-parts d h.0 h.2).0, pieces-canonical ms h.1 h.3, h.4)
+
+pieces-compact : (ms : Members) (ts : List (List ℕ)) → ArePieces forms.Both ms ts → ArePieces forms.Compact ms ts
+pieces-compact no_members ts h = h
+pieces-compact (member k d ms) ts h = (h.0, h.1, (both-parts d h.0 h.2).1, pieces-compact ms h.1 h.3, h.4)
+
+both-object : (ms : Members) (ts : List (List ℕ)) → AreSimple ms → ArePieces forms.Both ms ts → text_in forms.Both (object ms) ≡ Some (123 ∷ (joined ts ++ 125 ∷ []))
+both-object ms ts s h =
+    let t = 123 ∷ (joined ts ++ 125 ∷ []) in
+    let canonical : canonical_of (object ms) ≡ Some t = canonical-object ms ts s (pieces-canonical ms ts h) in
+    let compact : compact_of (object ms) ≡ Some t = compact-object ms ts s (pieces-compact ms ts h) in
+    ap₂ agreed canonical compact ∙ agreed-same t
+
 object-text : (form : Form) (ms : Members) (ts : List (List ℕ)) → AreSimple ms → ArePieces form ms ts → text_in form (object ms) ≡ Some (123 ∷ (joined ts ++ 125 ∷ []))
 object-text forms.Canonical ms ts s h = canonical-object ms ts s h
 object-text forms.Compact ms ts s h = compact-object ms ts s h
+object-text forms.Both ms ts s h = both-object ms ts s h
 
 -- ---- one more member
 
@@ -279,11 +322,18 @@ finished base form ms o text s e = (
   e ∙ ap (λ l. l ++ 125 ∷ []) s.text ∙ append_assoc base (123 ∷ joined s.pieces) (125 ∷ []),
 )
 
+canonical-quoted : (s : List ℕ) → IsSimple s → canonical_of (string s) ≡ Some (34 ∷ (s ++ 34 ∷ []))
+unfolding canonical_of
+canonical-quoted s h = ap (λ l. Some (34 ∷ (escaped l ++ 34 ∷ []))) (nfc_text-IsAscii s h.0) ∙ ap (λ l. Some (34 ∷ (l ++ 34 ∷ []))) (plain s h.1)
+
+compact-quoted : (s : List ℕ) → IsSimple s → compact_of (string s) ≡ Some (34 ∷ (s ++ 34 ∷ []))
+compact-quoted s h = ap (λ l. Some (34 ∷ (l ++ 34 ∷ []))) (shown s h.1)
+
 -- a text that stands in quotes as it is
 pub quoted-text : (form : Form) (s : List ℕ) → IsSimple s → text_in form (string s) ≡ Some (34 ∷ (s ++ 34 ∷ []))
-unfolding canonical_of
-quoted-text forms.Canonical s h = ap (λ l. Some (34 ∷ (escaped l ++ 34 ∷ []))) (nfc_text-IsAscii s h.0) ∙ ap (λ l. Some (34 ∷ (l ++ 34 ∷ []))) (plain s h.1)
-quoted-text forms.Compact s h = ap (λ l. Some (34 ∷ (l ++ 34 ∷ []))) (shown s h.1)
+quoted-text forms.Canonical s h = canonical-quoted s h
+quoted-text forms.Compact s h = compact-quoted s h
+quoted-text forms.Both s h = ap₂ agreed (canonical-quoted s h) (compact-quoted s h) ∙ agreed-same (34 ∷ (s ++ 34 ∷ []))
 
 pub quoted-behind : (o s a b p : List ℕ) → a ≡ o ++ 34 ∷ [] → b ≡ a ++ s → p ≡ b ++ 34 ∷ [] → p ≡ o ++ 34 ∷ (s ++ 34 ∷ [])
 quoted-behind o s a b p e f g = g ∙ ap (λ l. l ++ 34 ∷ []) (f ∙ ap (λ l. l ++ s) e) ∙ append_assoc (o ++ 34 ∷ []) s (34 ∷ []) ∙ append_assoc o (34 ∷ []) (s ++ 34 ∷ [])

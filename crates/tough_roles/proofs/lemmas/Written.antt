@@ -1,6 +1,7 @@
 -- What signatures add to a role's JSON can always be written.
-use Rattle.std.proofs.Common.{◌≡◌, ℕ, Bool, true, false, List, [], ◌∷◌, codes, Option, Some, None, Ok, option_and_then, if◌then◌else◌, refl, sym, ap, ◌∙◌}
+use Rattle.std.proofs.Common.{◌≡◌, ℕ, Bool, true, false, List, [], ◌∷◌, codes, Option, Some, None, Ok, option_and_then, if◌then◌else◌, ◌++◌, ◌-◌, length, take, drop, refl, sym, ap, ap₂, ◌∙◌}
 use Rattle.std.proofs.lemmas.Slice.Eq.{bytes_eq-Decides}
+use Rattle.std.proofs.lemmas.List.{take_rest}
 use Rattle.tough_decoded.specs.Spelled.{Spelled, hex_bytes}
 use Rattle.serde_json.specs.Data.{Data, string, array, object, Items, no_items, item, no_members, member}
 use Rattle.serde_json.specs.Written.{has_float, items_have_float, compact_text}
@@ -82,6 +83,14 @@ float_at role ss d false f w h = let none : true ≡ false = sym h ∙ parts-pla
 pub role-floats : (o : Option Data) (ss : List SignatureDoc) (d : Data) → (o >>= λ role. signed_parts_json role ss) ≡ Some d → has_float d ≡ true → option_and_then (text_in forms.Compact) o ≡ None
 role-floats None ss d w h = refl
 role-floats (Some role) ss d w h = float_at role ss d (has_float role) refl w h
+
+-- what stands behind the text before it
+drop-behind : (before role : List ℕ) → drop (length before) (before ++ role) ≡ role
+drop-behind [] role = refl
+drop-behind (b ∷ bs) role = drop-behind bs role
+
+pub role-behind : (before role text : List ℕ) (at : ℕ) → at ≡ length before → text ≡ before ++ role → take (length text - at) (drop at text) ≡ role
+role-behind before role text at is whole = take_rest text at ∙ ap₂ drop is whole ∙ drop-behind before role
 
 -- ---- what was verified can be written
 
