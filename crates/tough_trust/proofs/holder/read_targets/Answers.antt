@@ -1,4 +1,4 @@
-use Rattle.std.proofs.Common.{rules, ◌≡◌, Some, Ok, Err, ap, sym, subst, ◌∙◌}
+use Rattle.std.proofs.Common.{rules, ◌≡◌, Some, Ok, ap, sym, ◌∙◌}
 use Rattle.tough_checks.specs.Checks.{enforces}
 use Rattle.tough_roles.specs.Signature.{signed_doc}
 use Rattle.tough_schema.specs.Targets.{targets_doc}

@@ -17,8 +17,8 @@ missing (Some g) None name h = refl
 missing (Some g) (Some r) name (inl h) = absurd (cc (h))
 missing (Some g) (Some r) name (inr h) = absurd (cc (h))
 
-pub returns : goal.returns
-returns g c =
+pub returns-clause-verdict : goal.returns-clause-verdict
+returns-clause-verdict g c =
     let holder = c.args.self.now in
     let delegations = option_map (λ d. delegations_doc d.now) holder.delegations in
     let first = option_map (λ r. delegated_role_doc r.now) holder.role in
@@ -27,7 +27,7 @@ returns g c =
       | in-Some+in_default-role x ↦ let e : first ≡ None = search rules in inr e
       | in_default x ↦ let e : delegations ≡ None = search rules in inl e
     ] in
-    let d = signed_doc targets_doc c.args.targets.now in
+    let d = signed_doc targets_doc c.args.targets in
     let v = g.V.Verify.verifies c.args.verifier.now in
     let text = text_by targets_json d.role in
     ap (λ p. verdict v (RoleNotFound holder.name.now) role.Targets p text d.signatures) (missing delegations first holder.name.now none) ∙ verdict-missing v (RoleNotFound holder.name.now) role.Targets text d.signatures
