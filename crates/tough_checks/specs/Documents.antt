@@ -1,13 +1,11 @@
 -- Signed documents as the steps see them.
-use Rattle.std.specs.Prelude.{◌≡◌, ℕ, List, Option, None, Some, option_and_then, Result, if◌then◌else◌}
+use Rattle.std.specs.Prelude.{◌≡◌, ℕ, List, Option, None, Some, option_and_then, Result}
 use Rattle.serde_json.specs.Data.{Data}
 use Rattle.serde_json.specs.Read.{max_depth}
-use Rattle.serde_json.specs.Written.{has_float, compact_text}
 use Rattle.tough_json.specs.CanonicalText.{canonical_of}
+use Rattle.tough_json.specs.Pieces.{compact_of}
 use Rattle.tough_json.specs.Results.{json_of}
 use Rattle.tough_roles.specs.Signature.{SignedDoc, signed_at, signed_json}
-use Rattle.tough_roles.specs.declared.signed.Signed.{Signed}
-use Rattle.tough_roles.specs.Document.{document_json}
 use Rattle.tough_roles.specs.Readable.{NestsWithin}
 use Rattle.tough_roles.specs.Root.{RootDoc, root_at, root_json}
 use Rattle.tough_roles.specs.Timestamp.{TimestampDoc, timestamp_at, timestamp_json}
@@ -18,23 +16,15 @@ use Rattle.tough_roles.specs.Policy.{policy}
 use Rattle.tough_roles.specs.Verdict.{Refused, MissingRole, verdict}
 use Rattle.tough_roles.specs.declared.role_type.RoleType.TheVariants as role
 
--- The text of a JSON value in a store: compact JSON (RFC 8259). A value that holds a float has none.
-abbrev pub stored_text : Data → Option (List ℕ)
-stored_text d = if has_float d then None else Some (compact_text d)
-
--- the text of a signed document in a store, where it can be written
+-- the text of a signed document in a store, compact JSON, where it can be written
 abbrev pub root_text : SignedDoc RootDoc → Option (List ℕ)
-root_text d = option_and_then stored_text (signed_json root_json d)
+root_text d = option_and_then compact_of (signed_json root_json d)
 
 abbrev pub timestamp_text : SignedDoc TimestampDoc → Option (List ℕ)
-timestamp_text d = option_and_then stored_text (signed_json timestamp_json d)
+timestamp_text d = option_and_then compact_of (signed_json timestamp_json d)
 
 abbrev pub snapshot_text : SignedDoc SnapshotDoc → Option (List ℕ)
-snapshot_text d = option_and_then stored_text (signed_json snapshot_json d)
-
--- the same of a document of any role, by what its JSON is
-abbrev pub role_text : {T : Type 0} → (T → Option Data) → Signed T → Option (List ℕ)
-role_text json s = option_and_then stored_text (document_json json s)
+snapshot_text d = option_and_then compact_of (signed_json snapshot_json d)
 
 -- the signed root that bytes are
 abbrev pub root_in : List ℕ → Option (SignedDoc RootDoc)

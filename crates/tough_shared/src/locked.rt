@@ -4,7 +4,7 @@ ghost use Rattle.std.specs.Prelude.{◌≡◌, ◌+◌, ◌≤◌, [], length, t
 ghost use Rattle.tough_vault.specs.Act.{PutDocument, Acts};
 ghost use Rattle.tough_vault.specs.Journal.{number_of};
 ghost use Rattle.tough_vault.specs.Vault.{parts_of, journal_of, notes_in, store_of};
-ghost use Rattle.tough_checks.specs.Documents.{role_text};
+ghost use Rattle.tough_roles.specs.Written.{compact_by};
 ghost use Rattle.tough_checks.specs.DocumentName.{name_of};
 ghost use Rattle.tough_vault.specs.Looking.{Looks, look_doc};
 ghost use Rattle.tough_trust.specs.View.{act_of};
@@ -88,7 +88,7 @@ impl<S: Store, J: Naming> Locked<S, J> {
         role: &Signed<T>,
     ) -> Result<Receipt<J>, StepError>
         ensures step { Acts S.tells S.files S.count no_signature
-            (PutDocument (name_of name.now) (role_text T.json role.now))
+            (PutDocument (name_of name.now) (compact_by T.json role.now))
             (parts_of self.old.vault) (parts_of self.new.vault) (untied result) }
         ensures later { IfOk result (IsLater (length me.now.seen.log)) }
     {
@@ -128,7 +128,7 @@ impl<S: Store, J: Naming> Locked<S, J> {
         role: &Signed<T>,
     ) -> Result<Receipt<J>, StepError>
         ensures { Shares S.tells S.files S.count no_signature
-            (PutDocument (name_of name.now) (role_text T.json role.now)) result }
+            (PutDocument (name_of name.now) (compact_by T.json role.now)) result }
     {
         self.show();
         let result = self.put_document(rt, head, me, name, role);

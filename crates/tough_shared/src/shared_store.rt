@@ -7,7 +7,7 @@ ghost use Rattle.tough_roles.specs.Snapshot.{snapshot_doc};
 ghost use Rattle.tough_roles.specs.Timestamp.{timestamp_doc};
 ghost use Rattle.tough_checks.specs.Checks.{enforces};
 ghost use Rattle.tough_checks.specs.DocumentName.{name_of};
-ghost use Rattle.tough_checks.specs.Documents.{role_text};
+ghost use Rattle.tough_roles.specs.Written.{compact_by};
 ghost use Rattle.tough_vault.specs.Act.{NoteTime, PutRoot, ClearRotated, AdvanceTimestamp, AdvanceSnapshot, PutDocument};
 ghost use Rattle.tough_vault.specs.Looking.{look_doc};
 ghost use Rattle.tough_trust.specs.View.{act_of};
@@ -207,7 +207,7 @@ impl<S: Store + Drop, J: Naming> SharedStore<S, J> {
         role: &Signed<T>,
     ) -> Result<Receipt<J>, StepError>
         ensures { Shares S.tells S.files S.count no_signature
-            (PutDocument (name_of name.now) (role_text T.json role.now)) result }
+            (PutDocument (name_of name.now) (compact_by T.json role.now)) result }
     {
         let mut guard = self.shared.vault.lock(rt);
         if let Some(locked) = &mut *guard {

@@ -1,5 +1,6 @@
 -- Targets as an update takes them: those of a repository, and the documents of delegated roles (TUF specification 1.0, section 5.6).
 use Rattle.std.specs.Prelude.{ℕ, ℤ, ◌==◌, List, [], ◌∷◌, Option, Some, None, Bool, not, option_map, option_and_then, Result, Ok, Err}
+use Rattle.tough_json.specs.Pieces.{compact_of}
 use Rattle.tough_json.specs.Results.{json_of}
 use Rattle.tough_keys.specs.Same.{Verifies}
 use Rattle.tough_roles.specs.Signature.{SignedDoc, signed_at, signed_json}
@@ -15,9 +16,8 @@ use Rattle.tough_schema.specs.Whole.{TreeDoc}
 use Rattle.tough_trust.specs.delegations.Bare.{bare}
 use Rattle.tough_names.specs.Named.{Named}
 use Rattle.tough_checks.specs.Checks.{Reason, VersionMismatch, first_of, refuse, verified, expiry}
-use Rattle.tough_checks.specs.Documents.{stored_text}
 use Rattle.tough_trust.specs.Failure.{Failure, ParseMetadata, InvalidPath}
-use Rattle.tough_trust.specs.Outcomes.{if_read, holds_json, unrefused}
+use Rattle.tough_trust.specs.Outcomes.{if_read, holds_json, unrefused, and_then}
 
 -- the signed targets that bytes are
 abbrev pub targets_in : List ℕ → Option (SignedDoc TargetsDoc)
@@ -25,7 +25,7 @@ targets_in bytes = option_and_then (signed_at targets_at) (json_of bytes)
 
 -- the text of signed targets in a store, where they can be written
 abbrev pub targets_text : SignedDoc TargetsDoc → Option (List ℕ)
-targets_text d = option_and_then stored_text (signed_json targets_json d)
+targets_text d = option_and_then compact_of (signed_json targets_json d)
 
 -- who vouches for targets: a root, or, of delegations, if there are any, the role that says which keys sign for this name, if one does
 pub data HolderDoc : Type 0 where
@@ -63,9 +63,13 @@ targets_refusal verifies enforced start holder listed d = first_of
     ∷ expiry role.Targets enforced start d.role.head.expires
     ∷ [])
 
+-- targets that were read
+abbrev pub parsed : List ℕ → Result (SignedDoc TargetsDoc) Failure
+parsed bytes = if_read (ParseMetadata role.Targets (holds_json bytes)) (targets_in bytes) (λ d. Ok d)
+
 -- targets that were read and checked; none of their roles has a document
 abbrev pub judged : Verifies → Bool → ℤ → HolderDoc → ℕ → List ℕ → Result (SignedDoc TreeDoc) Failure
-judged verifies enforced start holder listed bytes = if_read (ParseMetadata role.Targets (holds_json bytes)) (targets_in bytes) (λ d.
+judged verifies enforced start holder listed bytes = and_then (parsed bytes) (λ d.
     unrefused (targets_refusal verifies enforced start holder listed d) (bare d))
 
 -- each name that a complete tree lists must be found by the permissive search; else this one isn't

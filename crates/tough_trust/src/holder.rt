@@ -5,11 +5,12 @@ ghost use Rattle.tough_roles.specs.Signature.{signed_doc};
 ghost use Rattle.tough_roles.specs.Root.{root_doc};
 ghost use Rattle.tough_roles.specs.Verdict.{Answers};
 ghost use Rattle.tough_checks.specs.Checks.{Checked, enforces};
+ghost use Rattle.tough_schema.specs.Fresh.{IsFresh};
 ghost use Rattle.tough_schema.specs.Targets.{targets_doc};
 ghost use Rattle.tough_schema.specs.Whole.{tree_doc};
 ghost use Rattle.tough_schema.specs.Entries.{first_missing};
 ghost use Rattle.tough_trust.specs.Failure.{Gives};
-ghost use Rattle.tough_trust.specs.Listed.{holder_in, targets_verdict, targets_refusal, judged, all_found};
+ghost use Rattle.tough_trust.specs.Listed.{holder_in, targets_verdict, targets_refusal, parsed, judged, all_found};
 ghost use Rattle.tough_trust.specs.View.{holder_doc, role_holder_doc};
 
 use crate::error::UpdateError;
@@ -115,6 +116,21 @@ fn check<V: Verify>(
     Ok(written)
 }
 
+// The signed targets that the bytes are; `ParseMetadata` where they are none.
+fn parse(alloc: Global, bytes: &[u8]) -> Result<Signed<Targets>, UpdateError>
+    ensures read { Gives (signed_doc targets_doc) (parsed bytes.now) result }
+    ensures fresh { IfOk result (λ s. IsFresh s.signed) }
+{
+    match Signed::<Targets>::read(alloc, bytes) {
+        Ok(targets) => Ok(targets),
+        Err(ReadError::Memory) => Err(UpdateError::Memory),
+        Err(source) => Err(UpdateError::ParseMetadata {
+            role: RoleType::Targets,
+            source,
+        }),
+    }
+}
+
 /// Reads targets, and checks them in this order: `ParseMetadata` where the bytes are no signed targets, `VerifyMetadata` where they don't
 /// reach the holder's threshold, `VersionMismatch` where they haven't the listed version, `ExpiredMetadata` where the update began after
 /// they expired (TUF specification 5.6).
@@ -128,16 +144,7 @@ pub fn read_targets<V: Verify>(
         (judged (V.verifies checker.now.verifier.now) (enforces checker.now.enforcement)
         checker.now.start.nanosecond (holder_doc holder.now) listed bytes.now) result }
 {
-    let targets = match Signed::<Targets>::read(checker.alloc, bytes) {
-        Ok(targets) => targets,
-        Err(ReadError::Memory) => return Err(UpdateError::Memory),
-        Err(source) => {
-            return Err(UpdateError::ParseMetadata {
-                role: RoleType::Targets,
-                source,
-            });
-        }
-    };
+    let targets = parse(checker.alloc, bytes)?;
     let written = check(checker, holder, listed, targets)?;
     Ok(written)
 }
@@ -153,18 +160,9 @@ pub fn targets_from<V: Verify>(
         (judged (V.verifies checker.now.verifier.now) (enforces checker.now.enforcement)
         checker.now.start.nanosecond (holder_doc holder.now) listed bytes.items) result }
 {
-    let read = Signed::<Targets>::read(checker.alloc, bytes.as_slice());
+    let parsed = parse(checker.alloc, bytes.as_slice());
     drop(bytes);
-    let targets = match read {
-        Ok(targets) => targets,
-        Err(ReadError::Memory) => return Err(UpdateError::Memory),
-        Err(source) => {
-            return Err(UpdateError::ParseMetadata {
-                role: RoleType::Targets,
-                source,
-            });
-        }
-    };
+    let targets = parsed?;
     let written = check(checker, holder, listed, targets)?;
     Ok(written)
 }

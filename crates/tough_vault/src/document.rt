@@ -1,9 +1,8 @@
 //! Documents as they lie in a store.
 
-ghost use Rattle.std.specs.Prelude.{◌≡◌, option_and_then};
+ghost use Rattle.std.specs.Prelude.{◌≡◌};
 ghost use Rattle.tough_json.specs.Results.{Writes};
-ghost use Rattle.tough_roles.specs.Document.{document_json};
-ghost use Rattle.tough_checks.specs.Documents.{stored_text};
+ghost use Rattle.tough_roles.specs.Written.{compact_by};
 
 use std::alloc::Global;
 use tough_json::Form;
@@ -14,8 +13,7 @@ pub(crate) fn document_bytes<T: Role>(
     alloc: Global,
     document: &Signed<T>,
 ) -> Result<Vec<u8>, WriteError>
-    ensures { Writes (λ b. b.items) result
-        (option_and_then stored_text (document_json T.json document.now)) }
+    ensures { Writes (λ b. b.items) result (compact_by T.json document.now) }
 {
     document.text(alloc, Form::Compact)
 }

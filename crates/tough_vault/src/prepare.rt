@@ -4,13 +4,14 @@ ghost use Rattle.std.specs.Prelude.{◌≡◌, IfOk, IfErr, OnOk, Some, true};
 ghost use Rattle.tough_roles.specs.Signature.{signed_doc, signed_json};
 ghost use Rattle.tough_roles.specs.Root.{root_doc};
 ghost use Rattle.tough_roles.specs.Timestamp.{timestamp_doc, timestamp_json};
+ghost use Rattle.tough_roles.specs.Written.{compact_by};
 ghost use Rattle.tough_checks.specs.StoredDocuments.{content, stored_timestamp, stored_time, time_in};
 ghost use Rattle.tough_vault.specs.Stored.{SameFiles};
 ghost use Rattle.tough_vault.specs.Step.{Finds, Takes};
 ghost use Rattle.tough_checks.specs.Versions.{time_where};
 ghost use Rattle.tough_vault.specs.Journal.{tip_of};
 ghost use Rattle.tough_checks.specs.Checks.{timestamp_where, enforces};
-ghost use Rattle.tough_checks.specs.Documents.{role_text, timestamp_text, timestamp_in, ReadsBack};
+ghost use Rattle.tough_checks.specs.Documents.{timestamp_text, timestamp_in, ReadsBack};
 ghost use Rattle.tough_checks.specs.DocumentName.{name_of};
 ghost use Rattle.tough_vault.specs.Steps.{time_step, timestamp_step, document_step, time_text};
 ghost use Rattle.tough_json.specs.Results.{Writes};
@@ -165,7 +166,7 @@ pub(crate) fn prepare_document<S: Store, T: Role>(
     role: &Signed<T>,
 ) -> Result<Prepared, StepError>
     ensures { Prepares S.tells S.files S.count
-        (document_step (name_of name.now) (role_text T.json role.now)) store.old store.new result }
+        (document_step (name_of name.now) (compact_by T.json role.now)) store.old store.new result }
 {
     let bytes = match document_bytes(alloc, role) {
         Ok(bytes) => bytes,

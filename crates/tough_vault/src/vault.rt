@@ -10,7 +10,7 @@ ghost use Rattle.tough_vault.specs.Journal.{no_tip, replay, Rises, Legal, Nothin
 ghost use Rattle.tough_vault.specs.Step.{Takes, Clears, TriesTwo};
 ghost use Rattle.tough_vault.specs.Steps.{time_text, time_step, timestamp_step, snapshot_step, document_step};
 ghost use Rattle.tough_checks.specs.StoredDocuments.{stored_time};
-ghost use Rattle.tough_checks.specs.Documents.{role_text};
+ghost use Rattle.tough_roles.specs.Written.{compact_by};
 ghost use Rattle.tough_checks.specs.DocumentName.{name_of};
 ghost use Rattle.tough_vault.specs.Looking.{Looks, look_doc};
 ghost use Rattle.tough_vault.specs.Parts.{Holds, NamesFree, RootReadsBack, TimestampReadsBack, SnapshotReadsBack};
@@ -244,7 +244,7 @@ impl<S: Store> Vault<S> {
         role: &Signed<T>,
     ) -> Result<Receipt, StepError>
         ensures { Takes S.tells S.files S.count
-            (document_step (name_of name.now) (role_text T.json role.now)) (parts_of self.old)
+            (document_step (name_of name.now) (compact_by T.json role.now)) (parts_of self.old)
             (parts_of self.new) result }
     {
         let Vault {
@@ -264,7 +264,7 @@ impl<S: Store> Vault<S> {
         role: &Written<T>,
     ) -> Result<Receipt, StepError>
         ensures { Takes S.tells S.files S.count
-            (document_step (name_of name.now) (role_text T.json role.now)) (parts_of self.old)
+            (document_step (name_of name.now) (compact_by T.json role.now)) (parts_of self.old)
             (parts_of self.new) result }
     {
         let Some(text) = role.text() else {

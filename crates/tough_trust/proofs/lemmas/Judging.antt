@@ -1,6 +1,6 @@
 -- Targets that were judged.
 use Rattle.std.specs.Prelude.{◌≡◌, ℕ, ℤ, ◌==◌, List, Option, Some, None, Bool, false, not, Ok}
-use Rattle.std.proofs.Common.{sym, ap, ◌∙◌}
+use Rattle.std.proofs.Common.{refl, sym, ap, ◌∙◌}
 use Rattle.std.proofs.lemmas.Bool.{eqb-true}
 use Rattle.tough_keys.specs.Same.{Verifies}
 use Rattle.tough_roles.specs.Signature.{SignedDoc}
@@ -16,16 +16,22 @@ use Rattle.tough_schema.specs.Whole.{TreeDoc}
 use Rattle.tough_trust.specs.delegations.Bare.{bare}
 use Rattle.tough_checks.specs.Checks.{refuse, or_else, VersionMismatch, expiry, is_expired, verified}
 use Rattle.tough_trust.specs.Failure.{ParseMetadata}
-use Rattle.tough_trust.specs.Outcomes.{if_read, holds_json, unrefused}
-use Rattle.tough_trust.specs.Listed.{targets_in, HolderDoc, targets_verdict, targets_refusal, judged}
-use Rattle.tough_trust.proofs.lemmas.Passing.{or_first, or_second, not_refused, is_verified, not-expired, if_read-ok, unrefused-ok}
+use Rattle.tough_trust.specs.Outcomes.{if_read, holds_json, unrefused, and_then}
+use Rattle.tough_trust.specs.Listed.{targets_in, HolderDoc, targets_verdict, targets_refusal, parsed, judged}
+use Rattle.tough_trust.proofs.lemmas.Passing.{or_first, or_second, not_refused, is_verified, not-expired, and_then-ok, ok-same, if_read-ok, unrefused-ok}
 
 -- targets that were read and checked
+pub judged-after : (v : Verifies) (enforced : Bool) (start : ℤ) (holder : HolderDoc) (listed : ℕ) (bytes : List ℕ) (page : SignedDoc TargetsDoc) → parsed bytes ≡ Ok page
+    → targets_refusal v enforced start holder listed page ≡ None → judged v enforced start holder listed bytes ≡ Ok (bare page)
+judged-after v enforced start holder listed bytes page h k =
+    ap (λ o. and_then o (λ d. unrefused (targets_refusal v enforced start holder listed d) (bare d))) h
+    ∙ ap (λ o. unrefused o (bare page)) k
+
+-- the same by what the bytes are
 pub judged-to : (v : Verifies) (enforced : Bool) (start : ℤ) (holder : HolderDoc) (listed : ℕ) (bytes : List ℕ) (page : SignedDoc TargetsDoc) → targets_in bytes ≡ Some page
     → targets_refusal v enforced start holder listed page ≡ None → judged v enforced start holder listed bytes ≡ Ok (bare page)
 judged-to v enforced start holder listed bytes page h k =
-    ap (λ o. if_read (ParseMetadata role.Targets (holds_json bytes)) o (λ d. unrefused (targets_refusal v enforced start holder listed d) (bare d))) h
-    ∙ ap (λ o. unrefused o (bare page)) k
+    judged-after v enforced start holder listed bytes page (ap (λ o. if_read (ParseMetadata role.Targets (holds_json bytes)) o (λ d. Ok d)) h) k
 
 -- targets that passed their checks
 checked-ok : (verifies : Verifies) (enforced : Bool) (start : ℤ) (holder : HolderDoc) (listed : ℕ) (d : SignedDoc TargetsDoc) → targets_refusal verifies enforced start holder listed d ≡ None
@@ -51,8 +57,9 @@ pub record Passed (verifies : Verifies) (enforced : Bool) (start : ℤ) (holder 
 pub judged-ok : (verifies : Verifies) (enforced : Bool) (start : ℤ) (holder : HolderDoc) (listed : ℕ) (bytes : List ℕ) (d : SignedDoc TreeDoc) → judged verifies enforced start holder listed bytes ≡ Ok d
     → Passed verifies enforced start holder listed bytes d
 judged-ok verifies enforced start holder listed bytes d h =
-    let r = if_read-ok (ParseMetadata role.Targets (holds_json bytes)) (targets_in bytes) (λ x. unrefused (targets_refusal verifies enforced start holder listed x) (bare x)) d h in
-    let p = unrefused-ok (targets_refusal verifies enforced start holder listed r.0) (bare r.0) d r.2 in
+    let a = and_then-ok (parsed bytes) (λ x. unrefused (targets_refusal verifies enforced start holder listed x) (bare x)) d h in
+    let r = if_read-ok (ParseMetadata role.Targets (holds_json bytes)) (targets_in bytes) (λ x. Ok x) a.0 a.1 in
+    let p = unrefused-ok (targets_refusal verifies enforced start holder listed r.0) (bare r.0) d (ap (λ x. unrefused (targets_refusal verifies enforced start holder listed x) (bare x)) (ok-same r.0 a.0 (Ok r.0) refl r.2) ∙ a.2) in
     let c = checked-ok verifies enforced start holder listed r.0 p.0 in
     record { page = r.0; is = sym p.1; reading = r.1; verified = c.0; version = c.1; in_time = c.2 }
 

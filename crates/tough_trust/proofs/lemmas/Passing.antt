@@ -15,7 +15,7 @@ use Rattle.tough_roles.proofs.lemmas.Reached.{ok-reaches}
 use Rattle.tough_checks.specs.Checks.{Reason, refuse, or_else, VersionMismatch, TimestampMetaLength, expiry, is_expired, ExpiredMetadata, verified, timestamp_first, timestamp_form, snapshot_first, snapshot_form}
 use Rattle.tough_checks.specs.Documents.{timestamp_verdict, snapshot_verdict}
 use Rattle.tough_trust.specs.Failure.{Failure}
-use Rattle.tough_trust.specs.Outcomes.{if_read, unrefused}
+use Rattle.tough_trust.specs.Outcomes.{if_read, unrefused, and_then}
 use Rattle.tough_net.specs.Digests.{Digests, HasDigests, has_digests}
 use Rattle.tough_net.proofs.lemmas.Digests.{digests-had}
 use Rattle.tough_trust.specs.Requests.{bound}
@@ -62,6 +62,10 @@ pub digests-stated : (d : Digests) (bytes : List ℕ) → IsTrue (has_digests d 
 digests-stated = digests-had
 
 -- ---- documents that were read
+
+pub and_then-ok : {A B : Type 0} (r : Result A Failure) (next : A → Result B Failure) (b : B) → and_then r next ≡ Ok b → (a : A) × (r ≡ Ok a) × (next a ≡ Ok b)
+and_then-ok (Ok a) next b h = (a, refl, h)
+and_then-ok (Err e) next b h = cc
 
 pub if_read-ok : {A B : Type 0} (f : Failure) (o : Option A) (next : A → Result B Failure) (b : B) → if_read f o next ≡ Ok b → (a : A) × (o ≡ Some a) × (next a ≡ Ok b)
 if_read-ok f None next b h = cc

@@ -1,5 +1,5 @@
 use Rattle.tough_checks.specs.DocumentName.{name_of}
-use Rattle.tough_checks.specs.Documents.{role_text}
+use Rattle.tough_roles.specs.Written.{compact_by}
 use Rattle.tough_vault.specs.Steps.{document_step}
 use Rattle.tough_vault.specs.Parts.{parts}
 use Rattle.tough_vault.proofs.Taking.{takes}
@@ -15,7 +15,7 @@ invariant_of-self g c =
     let before = parts c.args.self.now.store c.args.self.now.journal.items c.args.self.now.tip in
     let after = parts c.conclude.new.store c.conclude.new.journal.items c.conclude.new.tip in
     let name = name_of c.args.name.now in
-    let text = role_text g.T.Role.json c.args.role.now in
+    let text = compact_by g.T.Role.json c.args.role.now in
     let s = after_step g.S.Store.tells g.S.Store.files g.S.Store.count (document_step name text) before after _ c.prepare_document-prepared.result c.conclude.result
     (record { replays = self.replays; rises = self.rises; free = self.free; holds = self.holds })
     c.prepare_document-prepared.ensures (rw c.as_str.ensures at c.conclude.ensures)
