@@ -1,10 +1,11 @@
 -- The target that an editor makes of a file (TUF specification 1.0, section 4.5, TARGETS).
-use Rattle.std.specs.Prelude.{◌≡◌, ⊤, ℕ, List, [], ◌∷◌, ◌++◌, Option, Some, None, Ok, Err, string_bytes}
+use Rattle.std.specs.Prelude.{◌≡◌, ◌≢◌, ⊤, ℕ, List, [], ◌∷◌, ◌++◌, Option, Some, None, Ok, Err, string_bytes}
 use Rattle.std.specs.Path.{path_file_name}
 use Rattle.tough_files.specs.Contents.{Node, Contents}
 use Rattle.tough_names.specs.Named.{Named, clean}
 use Rattle.tough_schema.specs.FileDigest.{there}
 use Rattle.tough_schema.specs.FromPath.{IsTargetOf}
+use Rattle.tough_schema.specs.declared.file_digest.FileError.TheVariants as why
 use Rattle.tough_schema.specs.declared.target.Target.{Target}
 use Rattle.std.specs.Borrow.{Bor}
 use Rattle.tough_schema.specs.Target.{TargetDoc, target_doc}
@@ -21,7 +22,7 @@ IsNamed path name = (path_file_name path ≡ Some name.raw) × (clean name.raw �
 abbrev pub IsNoTarget : List ℕ → Option Node → EditError → Type 0
 IsNoTarget path n (errors.NoFileName p) = (string_bytes p ≡ path) × (path_file_name path ≡ None)
 IsNoTarget path n (errors.Name e) = (raw : List ℕ) × (path_file_name path ≡ Some raw) × (clean raw ≡ Err e)
-IsNoTarget path n (errors.TargetFromPath p e) = (string_bytes p ≡ path) × (name : Named) × IsNamed path name × IsTargetOf n (Err e)
+IsNoTarget path n (errors.TargetFromPath p e) = (e ≢ why.Memory) × (string_bytes p ≡ path) × (name : Named) × IsNamed path name × IsTargetOf n (Err e)
 IsNoTarget path n errors.Memory = ⊤
 IsNoTarget path n _ = ⊥
 
@@ -51,6 +52,6 @@ AreAddedOf contents (p ∷ ps) e after = (next : EditsDoc) × IsAddedOf p.now (t
 abbrev pub IsStopped : Contents → List (Bor (List ℕ)) → EditsDoc → EditsDoc → EditError → Type 0
 IsStopped contents ps e after error = (done : List (Bor (List ℕ))) × (p : Bor (List ℕ)) × (rest : List (Bor (List ℕ))) × (ps ≡ done ++ p ∷ rest) × AreAddedOf contents done e after × IsNoTarget p.now (there p.now contents) error
 
--- the file at one of the paths is no target
-abbrev pub SomeNoTarget : Contents → List (Bor (List ℕ)) → EditError → Type 0
-SomeNoTarget contents ps error = (done : List (Bor (List ℕ))) × (p : Bor (List ℕ)) × (rest : List (Bor (List ℕ))) × (ps ≡ done ++ p ∷ rest) × IsNoTarget p.now (there p.now contents) error
+-- the same, whatever they added
+abbrev pub AreRefused : Contents → List (Bor (List ℕ)) → EditsDoc → EditError → Type 0
+AreRefused contents ps e error = (after : EditsDoc) × IsStopped contents ps e after error

@@ -75,8 +75,8 @@ module _ {S : Type 0} (key_of : S → KeyDoc) where
     pub file : IsWritten json_of first
     pub standing : AllStanding e.new_roles rest
 
-  -- The document isn't created, or has no text as a file; or a new role has no document, or that has no text.
-  abbrev pub IsSigningRefused : (S → List ℕ → Type 0) → EditsDoc → List S → EditError → Type 0
-  IsSigningRefused fails e signers error =
+  -- The document isn't created; or it is, and has no text as a file, or a new role has no document, or that has no text.
+  abbrev pub IsSigningRefused : (S → List ℕ → List ℕ → Type 0) → (S → List ℕ → Type 0) → EditsDoc → List S → EditError → Type 0
+  IsSigningRefused signs fails e signers error =
       IsUncreated fails e signers error
-      ⊎ (((s : Signed DelegatedTargets) × IsBuilt e s.signed × IsUnfiled json_of types.DelegatedTargets s error) ⊎ SomeUnstanding e.new_roles error)
+      ⊎ ((s : Signed DelegatedTargets) × IsCreated signs e signers s × (IsUnfiled json_of types.DelegatedTargets s error ⊎ SomeUnstanding e.new_roles error))

@@ -38,15 +38,12 @@ fn untargeted(alloc: Global, path: &str, error: FileError) -> EditError
     ensures { (n : Option Node) (name : Named) → IsNamed path.now name
         → IsTargetOf n (Err error) → IsNoTarget path.now n result }
 {
-    if error == FileError::Memory {
-        return EditError::Memory;
-    }
-    match String::from_str(alloc, path) {
-        Ok(path) => EditError::TargetFromPath {
-            path,
-            source: error,
+    match error {
+        FileError::Memory => EditError::Memory,
+        source => match String::from_str(alloc, path) {
+            Ok(path) => EditError::TargetFromPath { path, source },
+            Err(_) => EditError::Memory,
         },
-        Err(_) => EditError::Memory,
     }
 }
 

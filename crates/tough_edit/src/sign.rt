@@ -66,7 +66,7 @@ impl TargetEdits {
             (roles_of s)) }
         ensures plain { IfOk result (λ s. is_consistent s ≡ false) }
         ensures refused { IfErr result
-            (IsSigningRefused S.key S.fails (edits_doc self.now) signers.now) }
+            (IsSigningRefused S.key S.signs S.fails (edits_doc self.now) signers.now) }
     {
         let document = self.create_signed(alloc, signers)?;
         let mut roles = Vec::new(alloc);

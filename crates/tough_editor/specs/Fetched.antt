@@ -7,6 +7,7 @@ use Rattle.url.specs.Parser.{parse_url}
 use Rattle.url.specs.declared.error.ParseError.{ParseError}
 use Rattle.serde_json.specs.Data.{Data}
 use Rattle.tough_json.specs.declared.error.ReadError.{ReadError}
+use Rattle.tough_json.specs.declared.error.ReadError.TheVariants as reading
 use Rattle.tough_json.specs.Results.{json_of}
 use Rattle.tough_names.specs.Filename.{filename_of}
 use Rattle.tough_net.specs.declared.collect.Collect.{Collect}
@@ -22,6 +23,7 @@ use Rattle.tough_roles.specs.Document.{IsSigned, IsNotSigned, RefusesText}
 use Rattle.tough_roles.specs.Signature.{signatures_doc}
 use Rattle.tough_roles.specs.declared.role_type.RoleType.TheVariants as types
 use Rattle.tough_roles.specs.declared.signed.Signed.{Signed}
+use Rattle.tough_schema.specs.Fresh.{IsFresh}
 use Rattle.tough_schema.specs.Targets.{targets_at, targets_doc}
 use Rattle.tough_schema.specs.Whole.{HeldDoc, tree_doc}
 use Rattle.tough_schema.specs.declared.targets.Targets.{Targets}
@@ -104,9 +106,9 @@ module _ {T S : Type 0} (refuses : T → Parts → TransportError → Type 0) (s
 
 -- ---- what it is
 
--- the bytes are this signed document
+-- the bytes are this signed document, below which no other stands
 abbrev pub IsDocument : List ℕ → Signed Targets → Type 0
-IsDocument bytes s = (d : Data) × (json_of bytes ≡ Some d) × IsSigned (λ x t. targets_at x ≡ Some (targets_doc t)) d s
+IsDocument bytes s = IsFresh s.signed × (d : Data) × (json_of bytes ≡ Some d) × IsSigned (λ x t. targets_at x ≡ Some (targets_doc t)) d s
 
 -- the document of the role of the name
 abbrev pub held_as : List ℕ → Signed Targets → HeldDoc
@@ -114,6 +116,6 @@ held_as name s = record { name = name; signatures = signatures_doc s.signatures.
 
 -- the bytes are no document; or memory was wanting
 abbrev pub IsNoDocument : List ℕ → Error → Type 0
-IsNoDocument bytes (wide.ParseMetadata role source) = (role ≡ types.Targets) × RefusesText (IsNotSigned (λ d. targets_at d ≡ None)) source bytes
+IsNoDocument bytes (wide.ParseMetadata role source) = (source ≢ reading.Memory) × (role ≡ types.Targets) × RefusesText (IsNotSigned (λ d. targets_at d ≡ None)) source bytes
 IsNoDocument bytes wide.Memory = ⊤
 IsNoDocument bytes _ = ⊥

@@ -13,7 +13,7 @@ ghost use Rattle.tough_signed.specs.Standing.{roles_of, is_consistent};
 ghost use Rattle.tough_edit.specs.Edits.{edits_doc, fresh, opened, with_target, without_target, without_targets, with_version, with_expiry};
 ghost use Rattle.tough_edit.specs.Keys.{key_added, key_removed, IsUndelegated};
 ghost use Rattle.tough_edit.specs.Roles.{delegated_to, with_role, without_role};
-ghost use Rattle.tough_edit.specs.Files.{IsAddedOf, AreAdded, AreAddedOf, IsNoTarget, SomeNoTarget};
+ghost use Rattle.tough_edit.specs.Files.{IsAdded, IsAddedOf, AreAdded, AreAddedOf, AreRefused, IsNoTarget};
 ghost use Rattle.tough_edit.specs.Built.{IsBuilt, IsIncomplete};
 ghost use Rattle.tough_edit.specs.Signed.{IsCreated, IsUncreated, AreSigned, IsSigningRefused};
 ghost use Rattle.tough_editor.specs.Wide.{Told};
@@ -173,7 +173,9 @@ impl<T> TargetsEditor<T> {
         files: &mut F,
         path: &str,
     ) -> Result<&mut Self, Error>
-        ensures added { F.tells ≡ true → IfOk result (λ e. IsChanged
+        ensures added { IfOk result (λ e. IsChanged (IsAdded path.now) (editor_doc self.old)
+            (editor_doc e.now)) }
+        ensures target { F.tells ≡ true → IfOk result (λ e. IsChanged
             (IsAddedOf path.now (there path.now (F.contents files.old))) (editor_doc self.old)
             (editor_doc e.now)) }
         ensures lent { IfOk result (λ e. e.ghost_name ≡ self.entry.ghost_name) }
@@ -187,7 +189,7 @@ impl<T> TargetsEditor<T> {
         }
     }
 
-    /// Adds the file at each path, in their order. The errors of `add_target_path`; the targets of the paths before it stay.
+    /// Adds the file at each path, in their order. The errors of `add_target_path`, for the first path that has one; the targets of the paths before it stay.
     pub fn add_target_paths<F: Files>(
         &mut self,
         files: &mut F,
@@ -200,7 +202,7 @@ impl<T> TargetsEditor<T> {
             (editor_doc e.now)) }
         ensures lent { IfOk result (λ e. e.ghost_name ≡ self.entry.ghost_name) }
         ensures refused { F.tells ≡ true → IfErr result
-            (Told (SomeNoTarget (F.contents files.old) paths.now)) }
+            (Told (AreRefused (F.contents files.old) paths.now (editor_doc self.old).edits)) }
         ensures kept { F.tells ≡ true → Same (F.contents files.old) (F.contents files.new) }
     {
         match self.edits.add_target_paths(self.alloc, files, paths) {
@@ -319,7 +321,8 @@ impl<T> TargetsEditor<T> {
             signers.now (roles_of s)) }
         ensures plain { IfOk result (λ s. is_consistent s ≡ false) }
         ensures refused { IfErr result
-            (Told (IsSigningRefused S.key S.fails (editor_doc self.now).edits signers.now)) }
+            (Told (IsSigningRefused S.key S.signs S.fails (editor_doc self.now).edits
+            signers.now)) }
     {
         match self.edits.sign(self.alloc, signers) {
             Ok(signed) => Ok(signed),

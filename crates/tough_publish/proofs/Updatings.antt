@@ -1,5 +1,5 @@
 -- What an update comes to, from where it stands.
-use Rattle.std.specs.Prelude.{◌≡◌, ℕ, List, [], ◌∷◌, map, Option, Some, None, option_map, Result, Ok, Err, Vec, IfSome, ⊤, String, string_bytes}
+use Rattle.std.specs.Prelude.{◌≡◌, ℕ, true, List, [], ◌∷◌, map, is_some, Option, Some, None, option_map, Result, Ok, Err, Vec, IfSome, ⊤, String, string_bytes}
 use Rattle.std.specs.Vec.Iter.{into_iter_items, into_iter_len, into_iter_deque}
 use Rattle.std.specs.declared.vec.IntoIter.{IntoIter}
 use Rattle.std.specs.declared.alloc.Global.{Global}
@@ -127,18 +127,18 @@ module _ {T S : Type 0} (refuses : T → Parts → TransportError → Type 0) (s
 
   pub unbegun : (u : Option UpdateDoc) (w : Error) → IsUnbegun refuses serves yields e text name w → Updates refuses serves yields v e text name None u e.edits (Err w)
   unbegun u w (inl h) = inl (w, h, (refl, refl))
-  unbegun u w (inr h) = inr (Err w, inl h, (refl, refl))
+  unbegun u w (inr (there, h)) = inr (there, (Err w, inl h, (refl, refl)))
 
   pub updates_by : (f : Collect S) (u : Option UpdateDoc) (o : Result (Vec ℕ Global) TransportError) (new : ReleaseDoc) (r : Result (Unit {0}) Error) → Collects (bounds_of f) (yields (collected f)) (held_by f) o → GainsBy refuses serves yields v e text name u o new r
       → Updates refuses serves yields v e text name (Some f) u new r
   updates_by f u o new r came (read, reads, gains) = (read, (o, came, reads), gains)
 
-  pub begun_same : (f : Collect S) (o : Option (Collect S)) (u later : Option UpdateDoc) → o ≡ None → later ≡ None → Begins refuses serves yields e text name f → (p : Poll (Result (Unit {0}) Error))
+  pub begun_same : (f : Collect S) (o : Option (Collect S)) (u later : Option UpdateDoc) → o ≡ None → later ≡ None → is_some e.edits.targets ≡ true → Begins refuses serves yields e text name f → (p : Poll (Result (Unit {0}) Error))
       → OnPending p ((r : Result (Unit {0}) Error) → ((new : ReleaseDoc) × Updates refuses serves yields v e text name (Some f) later new r) → ((new : ReleaseDoc) × Updates refuses serves yields v e text name o u new r))
-  begun_same f o u later is none begun (Ready x) = tt
-  begun_same f o u later is none begun Pending = λ r h.
+  begun_same f o u later is none there begun (Ready x) = tt
+  begun_same f o u later is none there begun Pending = λ r h.
       let m = subst (λ z. Updates refuses serves yields v e text name (Some f) z h.0 r) none h.1 in
-      (h.0, subst (λ z. Updates refuses serves yields v e text name z u h.0 r) (sym is) (inr (m.0, begun_fetches refuses serves yields e text name f begun m.0 m.1, m.2)))
+      (h.0, subst (λ z. Updates refuses serves yields v e text name z u h.0 r) (sym is) (inr (there, (m.0, begun_fetches refuses serves yields e text name f begun m.0 m.1, m.2))))
 
   -- ---- from where the future stands
 

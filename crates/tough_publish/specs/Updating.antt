@@ -1,6 +1,6 @@
 -- A role's document is fetched anew, verified and put in its place, with the documents of its new roles (TUF specification 1.0, sections 4.5 and
 -- 5.6).
-use Rattle.std.specs.Prelude.{◌≡◌, ◌⊎◌, ⊤, ℕ, List, [], ◌∷◌, map, Option, Some, None, option_map, Result, Ok, Err, Vec, IfSome, String, string_bytes}
+use Rattle.std.specs.Prelude.{◌≡◌, ◌⊎◌, ⊤, ℕ, true, List, [], ◌∷◌, map, is_some, Option, Some, None, option_map, Result, Ok, Err, Vec, IfSome, String, string_bytes}
 use Rattle.std.specs.declared.alloc.Global.{Global}
 use Rattle.std.specs.Borrow.{MutBor}
 use Rattle.std.specs.Vec.Iter.{into_iter_items}
@@ -97,7 +97,7 @@ module _ {T : Type 0} where
 module _ {T S : Type 0} (refuses : T → Parts → TransportError → Type 0) (serves : T → Parts → Runs Item) (yields : S → Runs Item) where
   -- or the fetch of the role's document can't begin
   abbrev pub IsUnbegun : EditorDoc ReleaseDoc T → List ℕ → List ℕ → Error → Type 0
-  IsUnbegun e text name w = IsUnready e w ⊎ IsUnfetchable refuses serves yields e text name w
+  IsUnbegun e text name w = IsUnready e w ⊎ ((is_some e.edits.targets ≡ true) × IsUnfetchable refuses serves yields e text name w)
 
 module _ {T S : Type 0} (refuses : T → Parts → TransportError → Type 0) (serves : T → Parts → Runs Item) (yields : S → Runs Item) (v : Verifies) (e : EditorDoc ReleaseDoc T) (text name : List ℕ) where
   -- the documents of these new roles are fetched, one after another, and the role's document takes its place
@@ -121,7 +121,8 @@ module _ {T S : Type 0} (refuses : T → Parts → TransportError → Type 0) (s
   -- what comes of the update: from its start, or once a fetch has begun
   abbrev pub Updates : Option (Collect S) → Option UpdateDoc → ReleaseDoc → Result (Unit {0}) Error → Type 0
   Updates None u new result =
-      ((w : Error) × IsUnready e w × IsRefused w e.edits new result) ⊎ ((read : Result (Signed Targets) Error) × Fetches refuses serves yields None e text name read × Follows read new result)
+      ((w : Error) × IsUnready e w × IsRefused w e.edits new result)
+      ⊎ ((is_some e.edits.targets ≡ true) × (read : Result (Signed Targets) Error) × Fetches refuses serves yields None e text name read × Follows read new result)
   Updates (Some f) u new result = (read : Result (Signed Targets) Error) × Fetches refuses serves yields (Some f) e text name read × Gains u read new result
 
   -- ---- words of private clauses

@@ -75,7 +75,7 @@ IsVouched v root t name s old = ((is_top name ≡ true) × (old ≡ t) × IsVouc
 
 -- there is no such role, or no document of it; or the delegations in which it stands don't vouch for the new one
 abbrev pub IsUnvouchedBelow : Verifies → TreeDoc → List ℕ → Signed Targets → Error → Type 0
-IsUnvouchedBelow v t name s w = IsMissing name (IsLost name t) w ⊎ ((g : DelegationsTree) × (parent name t ≡ Some g) × IsUnverified name (verdict_by v (delegations_top g) name s) w)
+IsUnvouchedBelow v t name s w = IsMissing name (IsLost name t) w ⊎ ((g : DelegationsTree) × (parent name t ≡ Some g) × (is_some (document_of (sought name t)) ≡ true) × IsUnverified name (verdict_by v (delegations_top g) name s) w)
 
 abbrev pub IsUnvouched : Verifies → RootDoc → TreeDoc → List ℕ → Signed Targets → Error → Type 0
 IsUnvouched v root t name s w =

@@ -11,7 +11,7 @@ ghost use Rattle.tough_signed.specs.declared.error.EditError.TheVariants as erro
 ghost use Rattle.tough_edit.specs.Edits.{with_target, without_target, without_targets, with_version, with_expiry};
 ghost use Rattle.tough_edit.specs.Files.{IsNamed, IsNoTarget};
 ghost use Rattle.tough_release.specs.Edits.{at_editor, IsUnopened};
-ghost use Rattle.tough_release.specs.Changes.{IsAddedOf, IsUnadded, AreAdded, AreAddedOf, SomeUnadded, IsDelegated, IsUndelegatable};
+ghost use Rattle.tough_release.specs.Changes.{IsAdded, IsAddedOf, IsUnadded, AreAdded, AreAddedOf, AreRefused, IsDelegated, IsUndelegatable};
 ghost use Rattle.tough_editor.specs.Wide.{Told};
 ghost use Rattle.tough_editor.specs.Editors.{changed, IsChanged};
 ghost use Rattle.tough_publish.specs.Editors.{editor_doc};
@@ -121,7 +121,9 @@ impl<T> RepositoryEditor<T> {
         files: &mut F,
         path: &str,
     ) -> Result<&mut Self, Error>
-        ensures added { F.tells ≡ true → IfOk result (λ e. IsChanged
+        ensures added { IfOk result (λ e. IsChanged (IsAdded path.now) (editor_doc self.old)
+            (editor_doc e.now)) }
+        ensures target { F.tells ≡ true → IfOk result (λ e. IsChanged
             (IsAddedOf path.now (there path.now (F.contents files.old))) (editor_doc self.old)
             (editor_doc e.now)) }
         ensures lent { IfOk result (λ e. e.ghost_name ≡ self.entry.ghost_name) }
@@ -135,7 +137,7 @@ impl<T> RepositoryEditor<T> {
         }
     }
 
-    /// Adds each path as `add_target_path` does, in their order. Its errors; the targets of the paths before it stay.
+    /// Adds each path as `add_target_path` does, in their order. Its errors, for the first path that has one; the targets of the paths before it stay.
     pub fn add_target_paths<F: Files>(
         &mut self,
         files: &mut F,
@@ -147,7 +149,7 @@ impl<T> RepositoryEditor<T> {
             (AreAddedOf (F.contents files.old) paths.now) (editor_doc self.old)
             (editor_doc e.now)) }
         ensures lent { IfOk result (λ e. e.ghost_name ≡ self.entry.ghost_name) }
-        ensures refused { F.tells ≡ true → IfErr result (Told (SomeUnadded
+        ensures refused { F.tells ≡ true → IfErr result (Told (AreRefused
             (F.contents files.old) paths.now (editor_doc self.old).edits)) }
         ensures kept { F.tells ≡ true → Same (F.contents files.old) (F.contents files.new) }
     {

@@ -1,6 +1,6 @@
 //! A role's document is fetched anew.
 
-ghost use Rattle.std.specs.Prelude.{◌≡◌, ⊤, None, Some, Ok, IfOk, IfErr, IfSome, IsSomeAnd, option_map, map, string_bytes};
+ghost use Rattle.std.specs.Prelude.{◌≡◌, ⊤, true, is_some, None, Some, Ok, IfOk, IfErr, IfSome, IsSomeAnd, option_map, map, string_bytes};
 ghost use Rattle.futures.specs.Poll.{IfReady, OnPending};
 ghost use Rattle.futures.specs.Task.{Covers, Keeps};
 ghost use Rattle.tough_keys.specs.Same.{Verifies};
@@ -66,6 +66,7 @@ impl<T: Transport> RepositoryEditor<T> {
         ensures begun { IfOk result (Begins T.refuses T.serves T.Stream.yields
             (editor_doc self.now) url.now name.now) }
         ensures can_poll { IfOk result (CanPoll T.Stream.can_poll) }
+        ensures there { IfOk result (λ f. is_some (editor_doc self.now).edits.targets ≡ true) }
         ensures refused { IfErr result (IsUnbegun T.refuses T.serves T.Stream.yields
             (editor_doc self.now) url.now name.now) }
     {

@@ -49,7 +49,7 @@ unopened_of : (c : Contents) (ps : List (Bor (List ℕ))) (e after : ReleaseDoc)
 unopened_of c [] e after h none = subst (λ x. x.editor ≡ None) h none
 unopened_of c (p ∷ ps) e after h none =
     let next = unopened_of c ps h.0 after h.2 none in
-    none_before (with_target h.1.0 (target_doc h.1.1)) e.editor (subst (λ x. x.editor ≡ None) h.1.4 next)
+    none_before (with_target h.1.0 (target_doc h.1.1)) e.editor (subst (λ x. x.editor ≡ None) h.1.5 next)
 
 unadded_of : (path : List ℕ) (n : Option Node) (e mid : ReleaseDoc) (error : EditError) → (mid.editor ≡ None → e.editor ≡ None) → IsUnadded path n mid error → IsUnadded path n e error
 unadded_of path n e mid error closed (inl h) = inl h

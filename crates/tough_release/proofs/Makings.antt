@@ -14,9 +14,8 @@ use Rattle.tough_roles.specs.declared.timestamp.Timestamp.{Timestamp}
 use Rattle.tough_schema.specs.Targets.{targets_doc, targets_at, KeysAreOwn}
 use Rattle.tough_schema.specs.declared.targets.Targets.{Targets}
 use Rattle.tough_signed.specs.Holders.{HolderDoc, by_root}
-use Rattle.tough_signed.specs.Refusals.{IsUnsigned, IsUnfiledAs}
 use Rattle.tough_signed.specs.Roles.{signed_of, buffer_of, IsWritten}
-use Rattle.tough_signed.specs.Signing.{IsSignedFor}
+use Rattle.tough_signed.specs.Signing.{IsSignedFor, IsRoleRefused}
 use Rattle.tough_signed.specs.declared.error.EditError.{EditError}
 use Rattle.tough_signed.specs.declared.signed_role.SignedRole.{SignedRole}
 use Rattle.tough_release.specs.Documents.{Metas, IsSnapshot, IsTimestamp, snapshot_metas, timestamp_metas}
@@ -56,8 +55,8 @@ module _ {S : Type 0} (key_of : S → KeyDoc) (signs : S → List ℕ → List �
   snapshot_by x (Err error) same built e signed written back = back
 
   pub snapshot_refused : (x : Snapshot) (r : Result (SignedRole Snapshot) EditError) → shown ≡ metas → IsSnapshot heading shown (snapshot_doc x)
-      → IfErr r (λ e. IsUnsigned json_of_snapshot key_of fails holder signers (standard types.Snapshot) types.Snapshot x e ⊎ IsUnfiledAs json_of_snapshot types.Snapshot x e)
-      → IfErr r (IsSnapshotRefused key_of fails holder signers heading metas)
+      → IfErr r (IsRoleRefused json_of_snapshot types.Snapshot key_of signs fails holder (standard types.Snapshot) signers x)
+      → IfErr r (IsSnapshotRefused key_of signs fails holder signers heading metas)
   snapshot_refused x (Ok s) same built h = h
   snapshot_refused x (Err error) same built h = inr (x, subst (λ m. IsSnapshot heading m (snapshot_doc x)) same built, h)
 
@@ -73,8 +72,8 @@ module _ {S : Type 0} (key_of : S → KeyDoc) (signs : S → List ℕ → List �
   timestamp_by x (Err error) same built e signed written back = back
 
   pub timestamp_refused : (x : Timestamp) (r : Result (SignedRole Timestamp) EditError) → shown ≡ metas → IsTimestamp heading shown (timestamp_doc x)
-      → IfErr r (λ e. IsUnsigned json_of_timestamp key_of fails holder signers (standard types.Timestamp) types.Timestamp x e ⊎ IsUnfiledAs json_of_timestamp types.Timestamp x e)
-      → IfErr r (IsTimestampRefused key_of fails holder signers heading metas)
+      → IfErr r (IsRoleRefused json_of_timestamp types.Timestamp key_of signs fails holder (standard types.Timestamp) signers x)
+      → IfErr r (IsTimestampRefused key_of signs fails holder signers heading metas)
   timestamp_refused x (Ok s) same built h = h
   timestamp_refused x (Err error) same built h = inr (x, subst (λ m. IsTimestamp heading m (timestamp_doc x)) same built, h)
 

@@ -30,7 +30,7 @@ IsAdded path e after = (name : Named) × (t : TargetDoc) × IsNamed path name ×
 
 -- the same, of what stands there
 abbrev pub IsAddedOf : List ℕ → Option Node → ReleaseDoc → ReleaseDoc → Type 0
-IsAddedOf path n e after = (name : Named) × (t : Target) × IsNamed path name × IsTargetOf n (Ok t) × (after ≡ at_editor (with_target name (target_doc t)) e)
+IsAddedOf path n e after = (name : Named) × (t : Target) × IsNamed path name × IsTargetOf n (Ok t) × (is_some e.editor ≡ true) × (after ≡ at_editor (with_target name (target_doc t)) e)
 
 -- the path has a target, which no editor takes
 abbrev pub IsUntaken : List ℕ → Option Node → ReleaseDoc → EditError → Type 0
@@ -58,9 +58,9 @@ AreAddedOf contents (p ∷ ps) e after = (next : ReleaseDoc) × IsAddedOf p.now 
 abbrev pub IsStopped : Contents → List (Bor (List ℕ)) → ReleaseDoc → ReleaseDoc → EditError → Type 0
 IsStopped contents ps e after error = (done : List (Bor (List ℕ))) × (p : Bor (List ℕ)) × (rest : List (Bor (List ℕ))) × (ps ≡ done ++ p ∷ rest) × AreAddedOf contents done e after × IsUnadded p.now (there p.now contents) e error
 
--- the file at one of the paths is no target; or no editor takes it
-abbrev pub SomeUnadded : Contents → List (Bor (List ℕ)) → ReleaseDoc → EditError → Type 0
-SomeUnadded contents ps e error = (done : List (Bor (List ℕ))) × (p : Bor (List ℕ)) × (rest : List (Bor (List ℕ))) × (ps ≡ done ++ p ∷ rest) × IsUnadded p.now (there p.now contents) e error
+-- the same, whatever they added
+abbrev pub AreRefused : Contents → List (Bor (List ℕ)) → ReleaseDoc → EditError → Type 0
+AreRefused contents ps e error = (after : ReleaseDoc) × IsStopped contents ps e after error
 
 -- ---- new roles
 

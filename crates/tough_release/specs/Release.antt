@@ -15,9 +15,8 @@ use Rattle.tough_schema.specs.Whole.{TreeDoc}
 use Rattle.tough_schema.specs.declared.targets.DelegatedTargets.{DelegatedTargets}
 use Rattle.tough_schema.specs.declared.targets.Targets.{Targets}
 use Rattle.tough_signed.specs.Holders.{HolderDoc, by_root}
-use Rattle.tough_signed.specs.Refusals.{IsUnsigned, IsUnfiledAs}
 use Rattle.tough_signed.specs.Roles.{signed_of, buffer_of}
-use Rattle.tough_signed.specs.Signing.{IsSignedFor}
+use Rattle.tough_signed.specs.Signing.{IsSignedFor, IsRoleRefused}
 use Rattle.tough_signed.specs.Standing.{roles_of, is_consistent}
 use Rattle.tough_signed.specs.declared.error.EditError.{EditError}
 use Rattle.tough_signed.specs.declared.error.EditError.TheVariants as errors
@@ -85,23 +84,23 @@ module _ {S : Type 0} (key_of : S → KeyDoc) where
   -- ---- the refusals
 
   -- The snapshot isn't built, or isn't signed for the holder, or has no text.
-  abbrev pub IsSnapshotRefused : (S → List ℕ → Type 0) → HolderDoc → List S → HeadingDoc → Metas → EditError → Type 0
-  IsSnapshotRefused fails holder signers heading metas error =
+  abbrev pub IsSnapshotRefused : (S → List ℕ → List ℕ → Type 0) → (S → List ℕ → Type 0) → HolderDoc → List S → HeadingDoc → Metas → EditError → Type 0
+  IsSnapshotRefused signs fails holder signers heading metas error =
       IsHeadless (codes "snapshot version") (codes "snapshot expiration") heading error
-      ⊎ ((x : Snapshot) × IsSnapshot heading metas (snapshot_doc x) × (IsUnsigned json_of_snapshot key_of fails holder signers (standard types.Snapshot) types.Snapshot x error ⊎ IsUnfiledAs json_of_snapshot types.Snapshot x error))
+      ⊎ ((x : Snapshot) × IsSnapshot heading metas (snapshot_doc x) × IsRoleRefused json_of_snapshot types.Snapshot key_of signs fails holder (standard types.Snapshot) signers x error)
 
   -- The same of the timestamp.
-  abbrev pub IsTimestampRefused : (S → List ℕ → Type 0) → HolderDoc → List S → HeadingDoc → Metas → EditError → Type 0
-  IsTimestampRefused fails holder signers heading metas error =
+  abbrev pub IsTimestampRefused : (S → List ℕ → List ℕ → Type 0) → (S → List ℕ → Type 0) → HolderDoc → List S → HeadingDoc → Metas → EditError → Type 0
+  IsTimestampRefused signs fails holder signers heading metas error =
       IsHeadless (codes "timestamp version") (codes "timestamp expiration") heading error
-      ⊎ ((x : Timestamp) × IsTimestamp heading metas (timestamp_doc x) × (IsUnsigned json_of_timestamp key_of fails holder signers (standard types.Timestamp) types.Timestamp x error ⊎ IsUnfiledAs json_of_timestamp types.Timestamp x error))
+      ⊎ ((x : Timestamp) × IsTimestamp heading metas (timestamp_doc x) × IsRoleRefused json_of_timestamp types.Timestamp key_of signs fails holder (standard types.Timestamp) signers x error)
 
   -- The snapshot is refused, or it isn't and its timestamp is; or memory was wanting.
   abbrev pub AreRefused : (S → List ℕ → List ℕ → Type 0) → (S → List ℕ → Type 0) → HolderDoc → List S → HeadingDoc → HeadingDoc → Metas → EditError → Type 0
   AreRefused signs fails holder signers first second metas error =
       (error ≡ errors.Memory)
-      ⊎ (IsSnapshotRefused fails holder signers first metas error
-      ⊎ ((r : SignedRole Snapshot) × IsSnapshotBy signs holder signers first metas r × IsTimestampRefused fails holder signers second (timestamp_metas r) error))
+      ⊎ (IsSnapshotRefused signs fails holder signers first metas error
+      ⊎ ((r : SignedRole Snapshot) × IsSnapshotBy signs holder signers first metas r × IsTimestampRefused signs fails holder signers second (timestamp_metas r) error))
 
   -- Both are signed, and a listed name isn't found.
   abbrev pub IsUnfound : (S → List ℕ → List ℕ → Type 0) → HolderDoc → List S → HeadingDoc → HeadingDoc → Metas → TreeDoc → EditError → Type 0

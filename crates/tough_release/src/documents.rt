@@ -150,8 +150,8 @@ fn sign_snapshot<S: Sign>(
     ensures signed { IfOk result (IsSnapshotBy S.key S.signs (holder_doc holder.now) signers.now
         (heading_doc heading)
         (snapshot_metas filed.now.targets filed.now.delegated.items)) }
-    ensures refused { IfErr result (IsSnapshotRefused S.key S.fails (holder_doc holder.now)
-        signers.now (heading_doc heading)
+    ensures refused { IfErr result (IsSnapshotRefused S.key S.signs S.fails
+        (holder_doc holder.now) signers.now (heading_doc heading)
         (snapshot_metas filed.now.targets filed.now.delegated.items)) }
 {
     let metas = snapshot_metas(alloc, filed)?;
@@ -173,8 +173,8 @@ fn sign_timestamp<S: Sign>(
 ) -> Result<SignedRole<Timestamp>, EditError>
     ensures signed { IfOk result (IsTimestampBy S.key S.signs (holder_doc holder.now) signers.now
         (heading_doc heading) (timestamp_metas snapshot.now)) }
-    ensures refused { IfErr result (IsTimestampRefused S.key S.fails (holder_doc holder.now)
-        signers.now (heading_doc heading) (timestamp_metas snapshot.now)) }
+    ensures refused { IfErr result (IsTimestampRefused S.key S.signs S.fails
+        (holder_doc holder.now) signers.now (heading_doc heading) (timestamp_metas snapshot.now)) }
 {
     let metas = timestamp_metas(alloc, snapshot)?;
     let timestamp = match build_timestamp(alloc, heading, metas) {

@@ -1,6 +1,6 @@
 //! What a snapshot and a timestamp state of files.
 
-ghost use Rattle.std.specs.Prelude.{◌≡◌, ◌++◌, codes, IfOk, OnOk};
+ghost use Rattle.std.specs.Prelude.{◌≡◌, ◌++◌, codes, IfOk, OnOk, OnErr};
 ghost use Rattle.std.specs.Int.NonZero.{non_zero_u64_get};
 ghost use Rattle.tough_roles.specs.Timestamp.{metafile_doc, metafiles_doc};
 ghost use Rattle.tough_sign.specs.Files.{bytes_of};
@@ -36,7 +36,7 @@ pub fn meta_of(alloc: Global, file: &RoleFile, version: NonZeroU64) -> Result<Me
     })
 }
 
-/// Lists a document's file under the role's name and `.json`.
+/// Lists a document's file under the role's name and `.json`. Without memory for it, the list stays as it is.
 pub fn list_file(
     alloc: Global,
     metas: &mut BTreeMap<String, Metafile>,
@@ -44,9 +44,10 @@ pub fn list_file(
     file: &RoleFile,
     version: NonZeroU64,
 ) -> Result<(), AllocError>
-    ensures { OnOk result (metafiles_doc metas.new.entries
+    ensures listed { OnOk result (metafiles_doc metas.new.entries
         ≡ with_meta (metafiles_doc metas.old.entries) (role.now ++ codes ".json")
         (stated (bytes_of file.now) (non_zero_u64_get version))) }
+    ensures unchanged { OnErr result (metas.new.entries ≡ metas.old.entries) }
 {
     let meta = meta_of(alloc, file, version)?;
     let mut name = String::from_str(alloc, role)?;

@@ -6,7 +6,7 @@ ghost use Rattle.tough_keys.specs.Failing.{IsReasoned};
 ghost use Rattle.tough_roles.specs.Signature.{signature_doc, signatures_doc};
 ghost use Rattle.tough_roles.specs.Root.{keys_doc};
 ghost use Rattle.tough_sign.specs.Making.{AreMade, IsMade, chosen, pick, is_listed, is_first};
-ghost use Rattle.tough_sign.specs.Signers.{signers_of, AreKeyed, SomeFails};
+ghost use Rattle.tough_sign.specs.Signers.{signers_of, AreKeyed, OneFails, ChosenFails};
 
 use crate::signers::{KeyedSigner, last_signer};
 use std::alloc::Global;
@@ -70,7 +70,9 @@ fn sign_one<S: Sign>(
     ensures made { IfOk result (λ o. IsMade S.signs text.now
         (pick S.key (keys_doc known.now.entries) keyids.now (signers_of signers.now)
         (keyid.now, key_doc key.now)) (option_map signature_doc o)) }
-    ensures failure { IfErr result (IsReasoned (SomeFails S.fails (signers_of signers.now))) }
+    ensures failure { IfErr result (IsReasoned (OneFails S.fails
+        (pick S.key (keys_doc known.now.entries) keyids.now (signers_of signers.now)
+        (keyid.now, key_doc key.now)))) }
 {
     if !is_listed(keyids, keyid) || !is_first(known, keyid, key) {
         return Ok(None);
@@ -82,7 +84,7 @@ fn sign_one<S: Sign>(
 }
 
 /// The signatures over a text of those signers whose keys are known and listed, in the order of their identifiers: each under the first
-/// identifier of its key, and of two signers of one key the later one's. Where a signer fails, so does this, for the reason that it gives.
+/// identifier of its key, and of two signers of one key the later one's. Where one of these fails, so does this, for the reason that it gives.
 pub fn sign_under<S: Sign>(
     alloc: Global,
     known: &BTreeMap<Decoded<Hex>, Key>,
@@ -94,7 +96,8 @@ pub fn sign_under<S: Sign>(
     ensures made { IfOk result (λ v. AreMade S.signs text.now
         (chosen S.key (keys_doc known.now.entries) keyids.now (signers_of signers.now))
         (signatures_doc v.items)) }
-    ensures failure { IfErr result (IsReasoned (SomeFails S.fails (signers_of signers.now))) }
+    ensures failure { IfErr result (IsReasoned (ChosenFails S.fails
+        (chosen S.key (keys_doc known.now.entries) keyids.now (signers_of signers.now)))) }
 {
     let mut signatures = Vec::new(alloc);
     for (keyid, key) in known.iter() {

@@ -1,8 +1,10 @@
 -- Signatures that were made, and why none were.
-use Rattle.std.proofs.Common.{◌≡◌, ℕ, suc, List, [], ◌∷◌, length, Option, Result, Ok, Err, ◌⊎◌, Some, false, ◌<◌, ◌≤◌, IfOk, IfErr, inl, inr, refl, ap, sym, subst, ◌∙◌}
+use Rattle.std.proofs.Common.{◌≡◌, ℕ, zero, suc, List, [], ◌∷◌, length, Bool, true, false, ◌&&◌, if◌then◌else◌, Option, option_map, Result, Ok, Err, ◌⊎◌, Some, None, ◌<◌, ◌≤◌, IfOk, IfErr, inl, inr, refl, ap, sym, subst, ◌∙◌, arith}
+use Rattle.std.specs.List.{filter_map, cons_option}
 use Rattle.tough_decoded.specs.Spelled.{Spelled}
 use Rattle.tough_roles.specs.Signature.{SignatureDoc, signatures_doc}
-use Rattle.tough_sign.specs.Making.{AreMade, chosen}
+use Rattle.tough_sign.specs.Making.{AreMade, Known, chosen, pick, is_listed, is_first, last_of}
+use Rattle.tough_sign.proofs.Makings.{last_any}
 use Rattle.tough_keys.specs.Failing.{IsReasoned}
 use Rattle.tough_keys.specs.declared.sign.SignError.{SignError}
 use Rattle.tough_keys.specs.declared.sign.SignError.TheVariants as signs
@@ -20,12 +22,12 @@ use Rattle.tough_keys.specs.Key.{KeyDoc}
 use Rattle.tough_roles.specs.RoleId.{RoleIdDoc}
 use Rattle.tough_roles.specs.Root.{RoleKeysDoc}
 use Rattle.tough_roles.specs.Chain.{text_by}
-use Rattle.tough_sign.specs.Signers.{SomeFails}
+use Rattle.tough_sign.specs.Signers.{SomeFails, OneFails, ChosenFails}
 use Rattle.tough_roles.specs.declared.role_type.RoleType.TheVariants as types
 use Rattle.tough_schema.specs.Tree.{Entry}
 use Rattle.tough_schema.specs.Whole.{HeldDoc}
 use Rattle.tough_schema.specs.declared.targets.DelegatedTargets.{DelegatedTargets}
-use Rattle.tough_signed.specs.Signing.{IsSignedFor}
+use Rattle.tough_signed.specs.Signing.{IsSignedFor, IsUnfiledSigned}
 use Rattle.tough_signed.specs.Roles.{signed_of, buffer_of, IsWritten}
 use Rattle.tough_signed.specs.Standing.{IsAlone, IsStanding, IsUnfiledAlone, json_of, is_read_as}
 use Rattle.tough_signed.specs.declared.signed_role.SignedRole.{SignedRole}
@@ -43,10 +45,44 @@ pub failure : (fails : List ℕ → Type 0) (e : SignError) → IsReasoned fails
 failure fails (signs.Failed reason) h = h _ refl
 failure fails signs.Memory h = tt
 
+-- ---- who signs is one of the signers
+
+module _ {S : Type 0} (key_of : S → KeyDoc) (fails : S → List ℕ → Type 0) (t : List ℕ) (known : Known) (ids : List Spelled) (xs : List S) where
+  found_at : (id : Spelled) (b : Bool) (l : Option S) (c : Spelled × S) → (if b then option_map (λ x. (id, x)) l else None) ≡ Some c → Some c.1 ≡ l
+  found_at id true None c q = cc
+  found_at id true (Some x) c q = sym (ap (option_map (λ p. p.1)) q)
+  found_at id false l c q = cc
+
+  one_some : (e : Spelled × KeyDoc) (o : Option (Spelled × S)) → pick key_of known ids xs e ≡ o → OneFails fails o t → SomeFails fails xs t
+  one_some e None q h = absurd h
+  one_some e (Some c) q h = last_any key_of (λ x. fails x t) e.1 xs c.1 (found_at e.0 (is_listed ids e.0 && is_first known e.0 e.1) (last_of key_of e.1 xs) c q) h
+
+  either : (o : Option (Spelled × S)) (cs : List (Spelled × S)) → ChosenFails fails (cons_option o cs) t → OneFails fails o t ⊎ ChosenFails fails cs t
+  either None cs h = inr h
+  either (Some c) cs (zero, x, l, e, h) = inl (subst (λ y. fails y.1 t) (sym e) h)
+  either (Some c) cs (suc i, x, l, e, h) = inr (i, x, omega (arith, l), e, h)
+
+  chosen_of : (es : Known) → ChosenFails fails (filter_map (pick key_of known ids xs) es) t → SomeFails fails xs t
+  chosen_of [] (i, x, l, e, h) = absurd (omega (arith, l))
+  chosen_of (e ∷ es) h = go (chosen_of es) (either (pick key_of known ids xs e) (filter_map (pick key_of known ids xs) es) h)
+    where
+      go : (ChosenFails fails (filter_map (pick key_of known ids xs) es) t → SomeFails fails xs t) → OneFails fails (pick key_of known ids xs e) t ⊎ ChosenFails fails (filter_map (pick key_of known ids xs) es) t → SomeFails fails xs t
+      go ih (inl f) = one_some e (pick key_of known ids xs e) refl f
+      go ih (inr k) = ih k
+
+  pub chosen_some : ChosenFails fails (chosen key_of known ids xs) t → SomeFails fails xs t
+  chosen_some h = chosen_of known h
+
 -- a document of the role that has no text is one of the role with some signatures
 pub unfiled_as : {T X : Type 0} (json : T → Option Data) (type : RoleType) (s : Signed T) (role : T) → s.signed ≡ role → (r : Result X EditError) → IfErr r (IsUnfiled json type s) → IfErr r (IsUnfiledAs json type role)
 unfiled_as json type s role is (Ok x) h = h
 unfiled_as json type s role is (Err e) h = inr (s, is, h)
+
+-- a role that was signed, whose document has no text
+pub unfiled_signed : {T X S : Type 0} (json : T → Option Data) (type : RoleType) (key_of : S → KeyDoc) (signs : S → List ℕ → List ℕ → Type 0) (h : HolderDoc) (i : RoleIdDoc) (xs : List S) (s : Signed T) (role : T) → s.signed ≡ role
+    → IsSignedFor json type key_of signs h i xs s → (r : Result X EditError) → IfErr r (IsUnfiled json type s) → IfErr r (IsUnfiledSigned json type key_of signs h i xs role)
+unfiled_signed json type key_of signs h i xs s role is by (Ok x) k = k
+unfiled_signed json type key_of signs h i xs s role is by (Err e) k = (s, is, by, k)
 
 -- why there are no keys, of equal signers, roles and kinds
 pub unasked_at : {S : Type 0} (key_of : S → KeyDoc) (h : HolderDoc) (xs ys : List S) (i j : RoleIdDoc) (s t : RoleType) (e : EditError) → xs ≡ ys → i ≡ j → s ≡ t → IsUnasked key_of h xs i s e → IsUnasked key_of h ys j t e

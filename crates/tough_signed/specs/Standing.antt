@@ -6,9 +6,10 @@ use Rattle.tough_roles.specs.Document.{document_json}
 use Rattle.tough_roles.specs.Readable.{NestsWithin, IsTextOf}
 use Rattle.tough_roles.specs.Signature.{signatures_doc}
 use Rattle.tough_roles.specs.declared.signed.Signed.{Signed}
+use Rattle.tough_schema.specs.Fresh.{IsUnloaded}
 use Rattle.tough_schema.specs.Targets.{targets_at, targets_json, delegated_doc, delegated_name, KeysAreOwn}
 use Rattle.tough_schema.specs.Tree.{Entry}
-use Rattle.tough_schema.specs.Whole.{HeldDoc, RoleTree, top_doc}
+use Rattle.tough_schema.specs.Whole.{HeldDoc, RoleTree, top_doc, named_tree}
 use Rattle.tough_schema.specs.declared.targets.DelegatedTargets.{DelegatedTargets}
 use Rattle.tough_roles.specs.declared.role_type.RoleType.TheVariants as types
 use Rattle.tough_signed.specs.Refusals.{IsUnfiled}
@@ -31,6 +32,7 @@ pub record IsAlone (e : Entry) (h : HeldDoc) (s : Signed DelegatedTargets) : Typ
   pub name : delegated_name s.signed ≡ e.name
   pub document : delegated_doc s.signed ≡ top_doc h.below
   pub signatures : signatures_doc s.signatures.items ≡ h.signatures
+  pub bare : IsUnloaded (named_tree s.signed).1
 
 -- the same, with its file, which is read as the document where it nests no deeper than is read, and each key stands under its own identifier
 pub record IsStanding (e : Entry) (h : HeldDoc) (r : SignedRole DelegatedTargets) : Type 0 where

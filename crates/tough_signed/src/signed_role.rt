@@ -1,6 +1,6 @@
 //! Signed roles with their files.
 
-ghost use Rattle.std.specs.Prelude.{◌≡◌, ◌⊎◌, IfOk, IfErr, length};
+ghost use Rattle.std.specs.Prelude.{◌≡◌, IfOk, IfErr, length};
 ghost use Rattle.sha2.specs.Sha256.{sha256};
 ghost use Rattle.sha2.specs.Sha512.{sha512};
 ghost use Rattle.serde_json.specs.Read.{max_depth};
@@ -9,9 +9,9 @@ ghost use Rattle.tough_roles.specs.Readable.{NestsWithin, IsTextOf};
 ghost use Rattle.tough_roles.specs.Signature.{signatures_doc};
 ghost use Rattle.tough_sign.specs.Files.{bytes_of};
 ghost use Rattle.tough_signed.specs.Holders.{holder_doc};
-ghost use Rattle.tough_signed.specs.Refusals.{IsUnsigned, IsUnfiled, IsUnfiledAs};
+ghost use Rattle.tough_signed.specs.Refusals.{IsUnfiled, IsUnfiledAs};
 ghost use Rattle.tough_signed.specs.Roles.{signed_of, buffer_of, IsWritten, has_signature, added_to};
-ghost use Rattle.tough_signed.specs.Signing.{IsSignedFor};
+ghost use Rattle.tough_signed.specs.Signing.{IsSignedFor, IsRoleRefused};
 
 use crate::error::EditError;
 use crate::sign::sign_for;
@@ -49,8 +49,8 @@ impl<T: Role + Drop> SignedRole<T> {
         ensures back { T.is_kept role → IfOk result
             (λ r. NestsWithin max_depth (document_json T.json (signed_of r))
             → IsTextOf T.is_read (signed_of r) (buffer_of r)) }
-        ensures refused { IfErr result (λ e. IsUnsigned T.json S.key S.fails (holder_doc holder.now)
-            signers.now (T.id role) T.TYPE role e ⊎ IsUnfiledAs T.json T.TYPE role e) }
+        ensures refused { IfErr result (IsRoleRefused T.json T.TYPE S.key S.signs S.fails
+            (holder_doc holder.now) (T.id role) signers.now role) }
     {
         let signed = sign_for(alloc, role, holder, signers)?;
         SignedRole::from_signed(alloc, signed)

@@ -2,6 +2,7 @@
 
 ghost use Rattle.std.specs.Prelude.{◌≡◌, IfOk, IfErr, map, option_map};
 ghost use Rattle.tough_schema.specs.Delegations.{delegated_role_doc, delegations_doc};
+ghost use Rattle.tough_schema.specs.Fresh.{HasNoDocument, AreUnloaded, DelegateUnloaded, MayDelegateUnloaded, IsFresh};
 ghost use Rattle.tough_schema.specs.Targets.{targets_doc};
 ghost use Rattle.tough_schema.specs.Whole.{role_tree, held_doc};
 ghost use Rattle.tough_signed.specs.Standing.{IsAlone, IsStanding, IsUnfiledAlone};
@@ -16,7 +17,8 @@ use tough_schema::{DelegatedRole, DelegatedTargets, Delegations, Targets, copy_l
 
 // The role without its document.
 fn bare_role(role: &DelegatedRole) -> Result<DelegatedRole, AllocError>
-    ensures { IfOk result (λ c. delegated_role_doc c ≡ delegated_role_doc role.now) }
+    ensures same { IfOk result (λ c. delegated_role_doc c ≡ delegated_role_doc role.now) }
+    ensures bare { IfOk result HasNoDocument }
 {
     let name = role.name.clone()?;
     let keyids = copy_keyids(&role.keyids)?;
@@ -33,8 +35,9 @@ fn bare_role(role: &DelegatedRole) -> Result<DelegatedRole, AllocError>
 
 // The roles without their documents.
 fn bare_roles(alloc: Global, roles: &[DelegatedRole]) -> Result<Vec<DelegatedRole>, AllocError>
-    ensures { IfOk result (λ v. map delegated_role_doc v.items
+    ensures same { IfOk result (λ v. map delegated_role_doc v.items
         ≡ map delegated_role_doc roles.now) }
+    ensures bare { IfOk result (λ v. AreUnloaded v.items) }
 {
     let mut copies = Vec::new(alloc);
     for role in roles {
@@ -45,7 +48,8 @@ fn bare_roles(alloc: Global, roles: &[DelegatedRole]) -> Result<Vec<DelegatedRol
 
 /// The delegations without the documents of their roles.
 pub fn bare_delegations(delegations: &Delegations) -> Result<Delegations, AllocError>
-    ensures { IfOk result (λ c. delegations_doc c ≡ delegations_doc delegations.now) }
+    ensures same { IfOk result (λ c. delegations_doc c ≡ delegations_doc delegations.now) }
+    ensures bare { IfOk result DelegateUnloaded }
 {
     let keys = copy_keys(&delegations.keys)?;
     let roles = bare_roles(*delegations.roles.allocator(), &delegations.roles)?;
@@ -54,8 +58,9 @@ pub fn bare_delegations(delegations: &Delegations) -> Result<Delegations, AllocE
 
 // The delegations, if there are any, without the documents of their roles.
 fn bare_option(delegations: &Option<Delegations>) -> Result<Option<Delegations>, AllocError>
-    ensures { IfOk result
+    ensures same { IfOk result
         (λ o. option_map delegations_doc o ≡ option_map delegations_doc delegations.now) }
+    ensures bare { IfOk result MayDelegateUnloaded }
 {
     match delegations {
         None => Ok(None),
@@ -65,7 +70,8 @@ fn bare_option(delegations: &Option<Delegations>) -> Result<Option<Delegations>,
 
 // The document without those of its roles.
 fn bare_targets(document: &Targets) -> Result<Targets, AllocError>
-    ensures { IfOk result (λ c. targets_doc c ≡ targets_doc document.now) }
+    ensures same { IfOk result (λ c. targets_doc c ≡ targets_doc document.now) }
+    ensures bare { IfOk result IsFresh }
 {
     let spec_version = document.spec_version.clone()?;
     let targets = copy_listing(&document.targets)?;

@@ -10,5 +10,5 @@ returns-clause-opened c = record {
   under = c.in-Ok-parent_of.ensures.found;
   document = held_doc c.in-Ok.document.now;
   held = c.in-Ok.ensures.found;
-  over = over_below c.args.name.now (edits_doc c.in_ok-edits.edits) (delegations_doc c.in_ok-delegations.delegations) c.in-Ok-parent_of.parent.now (tree_doc c.in_ok-below.below) c.in-Ok.document.now c.in_ok-edits.ensures c.in_ok-delegations.ensures c.in_ok-below.ensures.cases;
+  over = over_below c.args.name.now (edits_doc c.in_ok-edits.edits) (delegations_doc c.in_ok-delegations.delegations) c.in-Ok-parent_of.parent.now (tree_doc c.in_ok-below.below) c.in-Ok.document.now c.in_ok-edits.ensures c.in_ok-delegations.ensures.same c.in_ok-below.ensures.cases;
 }

@@ -33,5 +33,6 @@ pub returns-clause-refused : goal.returns-clause-refused
 returns-clause-refused g c = inr (
   delegations_tree c.in-Ok.parent.now,
   c.in-Ok.ensures.found,
+  ap is_some c.in-Ok-delegated_targets.ensures.found,
   unverified_by (g.V.Verify.verifies c.args.verifier.now) c.in-Ok.parent.now c.args.name.now c.args.document.now c.in-Err-verify_by.error c.in-Err-verify_by.ensures.refused,
 )

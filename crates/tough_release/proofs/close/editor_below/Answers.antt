@@ -10,5 +10,5 @@ returns-clause-opened c = record {
   under = c.in-Ok.ensures.found;
   document = held_doc c.in-Ok-delegated_targets.document.now;
   held = c.in-Ok-delegated_targets.ensures.found;
-  over = over_below c.args.role.now (edits_doc c.in_ok-editor.editor) (delegations_doc c.in_ok-delegations.delegations) c.in-Ok.parent.now (tree_doc c.in_ok-below.below) c.in-Ok-delegated_targets.document.now c.in_ok-editor.ensures c.in_ok-delegations.ensures c.in_ok-below.ensures.cases;
+  over = over_below c.args.role.now (edits_doc c.in_ok-editor.editor) (delegations_doc c.in_ok-delegations.delegations) c.in-Ok.parent.now (tree_doc c.in_ok-below.below) c.in-Ok-delegated_targets.document.now c.in_ok-editor.ensures c.in_ok-delegations.ensures.same c.in_ok-below.ensures.cases;
 }

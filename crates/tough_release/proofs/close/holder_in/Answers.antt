@@ -14,4 +14,4 @@ pub returns-in_ok-delegations-in-Ok-clause-holder : goal.returns-in_ok-delegatio
 returns-in_ok-delegations-in-Ok-clause-holder c =
     let g = delegations_doc c.in_ok-delegations-in-Ok.delegations in
     subst (λ (o : Option (Signed Targets)). holder_in (root_doc c.args.root.now) (option_map (signed_doc tree_doc) o) c.args.role.now ≡ Some (by_delegations g)) (sym c.in-Some.is)
-    (held_below (root_doc c.args.root.now) (signed_doc tree_doc c.in-Some.targets) c.args.role.now c.in-Ok.parent.now g (search rules) c.in-Ok.ensures.found c.in_ok-delegations-in-Ok.ensures)
+    (held_below (root_doc c.args.root.now) (signed_doc tree_doc c.in-Some.targets) c.args.role.now c.in-Ok.parent.now g (search rules) c.in-Ok.ensures.found c.in_ok-delegations-in-Ok.ensures.same)

@@ -3,11 +3,11 @@ use Rattle.tough_schema.specs.declared.delegations.DelegatedRole.{DelegatedRole}
 use Rattle.tough_schema.specs.Whole.{role_tree}
 use Rattle.tough_signed.specs.Standing.{AllStanding}
 use Rattle.tough_edit.specs.Edits.{edits_doc}
-use Rattle.tough_edit.specs.Signed.{IsCreated}
+use Rattle.tough_edit.specs.Signed.{IsCreated, SomeUnstanding}
 use Rattle.tough_edit.proofs.edits.TargetEdits.sign.Goals as goal
 
 pub returns-in-Err-clause-refused : goal.returns-in-Err-clause-refused
-returns-in-Err-clause-refused g c = inr (inl (c.in_ok-document.document, c.in_ok-document.ensures.signed.created.built, c.in-Err.ensures.refused))
+returns-in-Err-clause-refused g c = inr (c.in_ok-document.document, c.in_ok-document.ensures.signed, inl c.in-Err.ensures.refused)
 
 pub returns-clause-signed : goal.returns-clause-signed
 returns-clause-signed g c =
@@ -19,3 +19,8 @@ returns-clause-signed g c =
       file = c.in-Ok.ensures.file;
       standing = subst (λ (rs : List DelegatedRole). AllStanding (map role_tree rs) c.in-Ok-all_standing.rest.items) c.deref.ensures.value c.in-Ok-all_standing.ensures.standing;
     }
+
+pub returns-in-Err-all_standing-clause-refused : goal.returns-in-Err-all_standing-clause-refused
+returns-in-Err-all_standing-clause-refused g c =
+    let standing = subst (λ (rs : List DelegatedRole). SomeUnstanding (map role_tree rs) c.in-Err-all_standing.error) c.deref.ensures.value c.in-Err-all_standing.ensures.refused in
+    inr (c.in_ok-document.document, c.in_ok-document.ensures.signed, inr standing)

@@ -3,4 +3,4 @@ use Rattle.tough_editor.proofs.targets.TargetsEditor.add_target_paths.Goals as g
 pub returns-in-Err-clause-refused : goal.returns-in-Err-clause-refused
 returns-in-Err-clause-refused g c = λ tells.
     let h = c.in-Err.ensures.refused tells in
-    (c.in-Err.error, (h.0, h.1, h.2, h.3, h.5), c.wide.ensures)
+    (c.in-Err.error, (_, h), c.wide.ensures)

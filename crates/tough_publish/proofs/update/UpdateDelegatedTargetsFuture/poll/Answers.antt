@@ -57,7 +57,7 @@ pub returns-in-Ok-clause-same : goal.returns-in-Ok-clause-same
 returns-in-Ok-clause-same g c =
     let m = c.args.self.now in
     let is : m.fetch ≡ None = search rules in
-    begun_same g.T.Transport.refuses g.T.Transport.serves g.T.Stream.Stream.yields (g.V.Verify.verifies (verifier_in m)) (editor_doc (editor_in m).now) (url_in m) (name_in m) c.in-Ok.fetch m.fetch (update_in m) (option_map update_doc c.replace.new.dest) is (ap (option_map update_doc) {x = c.replace.new.dest} c.replace.ensures.after) c.in-Ok.ensures.begun c.yield_now.result
+    begun_same g.T.Transport.refuses g.T.Transport.serves g.T.Stream.Stream.yields (g.V.Verify.verifies (verifier_in m)) (editor_doc (editor_in m).now) (url_in m) (name_in m) c.in-Ok.fetch m.fetch (update_in m) (option_map update_doc c.replace.new.dest) is (ap (option_map update_doc) {x = c.replace.new.dest} c.replace.ensures.after) c.in-Ok.ensures.there c.in-Ok.ensures.begun c.yield_now.result
 
 pub returns-in-Err-clause-value : goal.returns-in-Err-clause-value
 returns-in-Err-clause-value g c =
