@@ -1,6 +1,6 @@
 -- How a saving follows from where it stands.
 use Rattle.std.specs.Prelude.{◌≡◌, ℤ, ℕ, Bool, true, List, Option, Some, None, IsSomeAnd, Result, Ok, Err}
-use Rattle.std.proofs.Common.{refl, inl, inr, subst}
+use Rattle.std.proofs.Common.{refl, sym, inl, inr, subst, ◌∙◌}
 use Rattle.url.specs.Parts.{Parts}
 use Rattle.futures.specs.declared.task.Poll.{Poll}
 use Rattle.futures.specs.declared.task.Poll.TheVariants.{Ready, Pending}
@@ -75,6 +75,17 @@ module _ {T K C S R : Type 0} (refuses : T → Parts → TransportError → Type
     some_same o' done (Ready x) h = h
     some_same o' done Pending h = some_later o' done h
 
+    follow_some : (o' : Option (Saving (DigestCheck (MaxSize S)))) (done : List Told) → IsSomeAnd o' (Continues yields tells name s old done) → (x : Result (Unit {0}) Error) (calls : List Told) (k : Keeping K R)
+        → GoesOnSaving refuses serves yields can_poll keeps may_give tells o' r name outdir p done calls k x → GoesOnSaving refuses serves yields can_poll keeps may_give tells o r name outdir p old calls k x
+    follow_some None done w x calls k h = absurd w
+    follow_some (Some later) done w x calls k h = rw is (w x calls h.0, h.1)
+
+    -- the calls and the steps that follow the later one follow this one
+    pub some_follows : (o' : Option (Saving (DigestCheck (MaxSize S)))) (done : List Told) (result : Poll (Result (Unit {0}) Error)) → OnPending result (IsSomeAnd o' (Continues yields tells name s old done))
+        → OnPending result ((x : Result (Unit {0}) Error) (calls : List Told) (k : Keeping K R) → GoesOnSaving refuses serves yields can_poll keeps may_give tells o' r name outdir p done calls k x → GoesOnSaving refuses serves yields can_poll keeps may_give tells o r name outdir p old calls k x)
+    some_follows o' done (Ready x) h = h
+    some_follows o' done Pending h = follow_some o' done h
+
   -- it couldn't start
   pub none_failed : (new : List Told) (next : Keeping K R) (e : Error) → o ≡ None → Starts refuses serves yields can_poll keeps may_give tells r name outdir p old new next (Err e)
       → GoesOnSaving refuses serves yields can_poll keeps may_give tells o r name outdir p old new next (Err e)
@@ -105,3 +116,16 @@ module _ {T K C S R : Type 0} (refuses : T → Parts → TransportError → Type
         → OnPending result ((x : Result (Unit {0}) Error) → ((calls : List Told) × (k : Keeping K R) × GoesOnSaving refuses serves yields can_poll keeps may_give tells o' r' name outdir' p' done calls k x) → May x)
     none_same o' r' outdir' p' done (Ready x) h = h
     none_same o' r' outdir' p' done Pending h = none_later o' r' outdir' p' done h
+
+    follow_none : (o' : Option (Saving (DigestCheck (MaxSize S)))) (r' : Repository T K C R) (outdir' : List ℕ) (p' : Prefix) (done : List Told) → next ≡ keeping_of r'
+        → IsSomeAnd o' (Continues yields tells name s mid done) → (x : Result (Unit {0}) Error) (calls : List Told) (k : Keeping K R)
+        → GoesOnSaving refuses serves yields can_poll keeps may_give tells o' r' name outdir' p' done calls k x → GoesOnSaving refuses serves yields can_poll keeps may_give tells o r name outdir p old calls k x
+    follow_none None r' outdir' p' done same w x calls k h = absurd w
+    follow_none (Some later) r' outdir' p' done same w x calls k h =
+        subst (λ z. GoesOnSaving refuses serves yields can_poll keeps may_give tells o r name outdir p old calls z x) (same ∙ sym h.1) (whole calls x (w x calls h.0))
+
+    pub none_follows : (o' : Option (Saving (DigestCheck (MaxSize S)))) (r' : Repository T K C R) (outdir' : List ℕ) (p' : Prefix) (done : List Told) (result : Poll (Result (Unit {0}) Error)) → next ≡ keeping_of r'
+        → OnPending result (IsSomeAnd o' (Continues yields tells name s mid done))
+        → OnPending result ((x : Result (Unit {0}) Error) (calls : List Told) (k : Keeping K R) → GoesOnSaving refuses serves yields can_poll keeps may_give tells o' r' name outdir' p' done calls k x → GoesOnSaving refuses serves yields can_poll keeps may_give tells o r name outdir p old calls k x)
+    none_follows o' r' outdir' p' done (Ready x) same h = h
+    none_follows o' r' outdir' p' done Pending same h = follow_none o' r' outdir' p' done same h

@@ -167,6 +167,13 @@ module _ {T K C S R : Type 0} (refuses : T → Parts → TransportError → Type
       begun_same c h o' is' (Ready x) = tt
       begun_same c h o' is' Pending = begun c h o' is'
 
+      pub begun_follows : (c : Caching S) → HasBegun (makes old mid) plans (Ok c) → (o' : Option (Caching S)) → o' ≡ Some c → (result : Poll (Result (Unit {0}) Error))
+          → OnPending result ((x : Result (Unit {0}) Error) (calls : List Told) (k : Keeping K R) → GoesOnPlan refuses serves yields can_poll keeps may_give tells makes plans o' r dirs mid calls k x → GoesOnPlan refuses serves yields can_poll keeps may_give tells makes plans o r dirs old calls k x)
+      begun_follows c h o' is' (Ready x) = tt
+      begun_follows c h o' is' Pending = λ x calls k g.
+          let Q : Option (Caching S) → Type 0 = λ z. GoesOnPlan refuses serves yields can_poll keeps may_give tells makes plans z r dirs mid calls k x in
+          from_begun c h calls k x (subst Q is' g)
+
     module _ (c : Caching S) (is : o ≡ Some c) where
       pub goes : (new : List Told) (next : Keeping K R) (result : Result (Unit {0}) Error) → GoesOnCaching refuses serves yields can_poll keeps may_give tells c.work (left_in c.plan) r dirs old new next result
           → GoesOnPlan refuses serves yields can_poll keeps may_give tells makes plans o r dirs old new next result
@@ -189,3 +196,12 @@ module _ {T K C S R : Type 0} (refuses : T → Parts → TransportError → Type
           → OnPending result ((x : Result (Unit {0}) Error) → ((calls : List Told) × (k : Keeping K R) × GoesOnPlan refuses serves yields can_poll keeps may_give tells makes plans' o' later dirs mid calls k x) → May x)
       continues_same plans' later c' o' is' (Ready x) h = h
       continues_same plans' later c' o' is' Pending h = continues plans' later c' h o' is'
+
+      -- the calls and the steps that follow the later one follow this one
+      pub continues_follows : (plans' : List Turn → Type 0) (later : Repository T K C R) (c' : Caching S) (o' : Option (Caching S)) → o' ≡ Some c' → (result : Poll (Result (Unit {0}) Error))
+          → OnPending result (Continues refuses serves yields can_poll keeps may_give tells c r dirs old mid later c')
+          → OnPending result ((x : Result (Unit {0}) Error) (calls : List Told) (k : Keeping K R) → GoesOnPlan refuses serves yields can_poll keeps may_give tells makes plans' o' later dirs mid calls k x → GoesOnPlan refuses serves yields can_poll keeps may_give tells makes plans o r dirs old calls k x)
+      continues_follows plans' later c' o' is' (Ready x) h = h
+      continues_follows plans' later c' o' is' Pending h = λ x calls k g.
+          let Q : Option (Caching S) → Type 0 = λ z. GoesOnPlan refuses serves yields can_poll keeps may_give tells makes plans' z later dirs mid calls k x in
+          goes calls k x (h x calls k (subst Q is' g))

@@ -93,7 +93,7 @@ pub record IsUnlisted (l : LoadedDoc) (name : Named) (p : Prefix) (e : Error) : 
 -- that is listed
 abbrev pub IsSavedAs : LoadedDoc → Named → Prefix → List ℕ → Type 0
 IsSavedAs l name prefix.None file = file ≡ name.resolved
-IsSavedAs l name prefix.Digest file = (target : TargetDoc) → target_at l name ≡ Some target → file ≡ file_name name.resolved target.hashes.sha256.bytes true
+IsSavedAs l name prefix.Digest file = (target : TargetDoc) × (target_at l name ≡ Some target) × (file ≡ file_name name.resolved target.hashes.sha256.bytes true)
 
 -- the target has no place in the folder
 pub record IsUnplaced (l : LoadedDoc) (dir : List ℕ) (name : Named) (p : Prefix) (e : Error) : Type 0 where

@@ -478,10 +478,21 @@ impl<T: Transport, K: Keeper, C: Clock + Drop, F: Files, N: AsStr> Future
             F.tells (caching_in self.old) (cached_from self.old).now (folders_in self.old)
             (wanted_in N.text self.old) (chain_in self.old) (F.calls (cached_in self.old).now)
             calls next r)) }
+        ensures follows { OnPending result
+            ((r : _) (calls : List Told) (next : Keeping K K.Receipt)
+            → GoesOnWanted T.refuses T.serves T.Stream.yields T.Stream.can_poll K.keeps C.may_give
+            F.tells (caching_in self.new) (cached_from self.new).now (folders_in self.new)
+            (wanted_in N.text self.new) (chain_in self.new) (F.calls (cached_in self.new).now)
+            calls next r
+            → GoesOnWanted T.refuses T.serves T.Stream.yields T.Stream.can_poll K.keeps C.may_give
+            F.tells (caching_in self.old) (cached_from self.old).now (folders_in self.old)
+            (wanted_in N.text self.old) (chain_in self.old) (F.calls (cached_in self.old).now)
+            calls next r) }
         ensures registered { OnPending result (Covers cx.new (λ n. IsSomeAnd (caching_in self.new)
             (λ c. IsSomeAnd c.work (λ w. Needs T.Stream.needs w n)))) }
         ensures kept { Keeps cx.old cx.new }
         ensures lent { (cached_from self.new).ghost_name ≡ (cached_from self.old).ghost_name }
+        ensures files_lent { (cached_in self.new).ghost_name ≡ (cached_in self.old).ghost_name }
         ensures stays { IsKept (cached_from self.old).now (cached_from self.new).now }
     {
         match &mut self.caching {

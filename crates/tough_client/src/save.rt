@@ -306,11 +306,20 @@ impl<T: Transport, K: Keeper, C: Clock + Drop, F: Files> Future for SaveTarget<'
             × GoesOnSaving T.refuses T.serves T.Stream.yields T.Stream.can_poll K.keeps C.may_give
             F.tells self.old.saving self.old.repository.now self.old.name.now self.old.outdir.now
             self.old.prefix (F.calls self.old.files.now) calls next r)) }
+        ensures follows { OnPending result
+            ((r : _) (calls : List Told) (next : Keeping K K.Receipt)
+            → GoesOnSaving T.refuses T.serves T.Stream.yields T.Stream.can_poll K.keeps C.may_give
+            F.tells self.new.saving self.new.repository.now self.new.name.now self.new.outdir.now
+            self.new.prefix (F.calls self.new.files.now) calls next r
+            → GoesOnSaving T.refuses T.serves T.Stream.yields T.Stream.can_poll K.keeps C.may_give
+            F.tells self.old.saving self.old.repository.now self.old.name.now self.old.outdir.now
+            self.old.prefix (F.calls self.old.files.now) calls next r) }
         ensures registered { OnPending result
             (Covers cx.new (λ n. IsSomeAnd self.new.saving
             (λ s. T.Stream.needs (limited (checked (stream_of s))) n))) }
         ensures kept { Keeps cx.old cx.new }
         ensures lent { (saved_from self.new).ghost_name ≡ (saved_from self.old).ghost_name }
+        ensures files_lent { (files_in self.new).ghost_name ≡ (files_in self.old).ghost_name }
         ensures stays { IsKept (saved_from self.old).now (saved_from self.new).now }
     {
         match self.saving.take() {

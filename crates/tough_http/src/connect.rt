@@ -7,7 +7,7 @@ use crate::deadline::Deadline;
 use futures::Future;
 use futures::task::{Context, Poll};
 use std::alloc::{AllocGlobal, Global};
-use std::io;
+use std::io::{self, ErrorKind};
 use std::net::{IpAddr, Net, SocketAddr, ToSocketAddrs};
 use std::time::{Clock, Duration};
 use tokio::net::{ConnectFuture, TcpStream};
@@ -71,8 +71,9 @@ impl<R: Net + Clock + AllocGlobal + Drop> HttpConnect<R> {
         timeout: Duration,
         connect_timeout: Duration,
     ) -> Result<HttpConnect<R>, RequestFault> {
-        let Ok(mut addresses) = addresses_of(&rt, rt.alloc(), url) else {
-            return Err(RequestFault::NoSuchHost);
+        let mut addresses = match addresses_of(&rt, rt.alloc(), url) {
+            Ok(addresses) => addresses,
+            Err(error) => return Err(lookup_fault(&error)),
         };
         addresses.reverse();
         let count = u32::try_from(addresses.len()).unwrap_or(u32::MAX);
@@ -92,14 +93,18 @@ impl<R: Net + Clock + AllocGlobal + Drop> HttpConnect<R> {
         }
     }
 
-    // Begins with the next address, if one is left.
-    fn next_attempt(&mut self) -> Option<Attempt> {
-        let address = self.addresses.pop()?;
-        let limit = self.handle.time().sleep(&self.rt, self.share).ok()?;
-        Some(Attempt {
-            connect: TcpStream::connect(&self.rt, address, self.handle.reactor()),
-            limit: Deadline::new(limit),
-        })
+    // Begins with the next address, if one is left; `NoMemory` where its timer is refused.
+    fn next_attempt(&mut self) -> Result<Option<Attempt>, RequestFault> {
+        let Some(address) = self.addresses.pop() else {
+            return Ok(None);
+        };
+        match self.handle.time().sleep(&self.rt, self.share) {
+            Ok(limit) => Ok(Some(Attempt {
+                connect: TcpStream::connect(&self.rt, address, self.handle.reactor()),
+                limit: Deadline::new(limit),
+            })),
+            Err(_) => Err(RequestFault::NoMemory),
+        }
     }
 
     // Goes on to the next address, after this fault of the one before.
@@ -112,11 +117,12 @@ impl<R: Net + Clock + AllocGlobal + Drop> HttpConnect<R> {
         ensures kept { Keeps cx.old cx.new }
     {
         match self.next_attempt() {
-            Some(attempt) => {
+            Ok(Some(attempt)) => {
                 self.under_way = Some(attempt);
                 cx.yield_now()
             }
-            None => Poll::Ready(Err(fault)),
+            Ok(None) => Poll::Ready(Err(fault)),
+            Err(refused) => Poll::Ready(Err(refused)),
         }
     }
 }
@@ -140,6 +146,14 @@ impl<R: Net + Clock + AllocGlobal + Drop> Future for HttpConnect<R> {
             }
             Poll::Pending => Poll::Pending,
         }
+    }
+}
+
+// Why a look-up failed.
+fn lookup_fault(error: &io::Error) -> RequestFault {
+    match error.kind() {
+        ErrorKind::OutOfMemory => RequestFault::NoMemory,
+        _ => RequestFault::NoSuchHost,
     }
 }
 

@@ -1,5 +1,6 @@
 //! A transport over plain HTTP/1.1.
 ghost use Rattle.std.specs.Prelude.{◌≡◌, IfErr, IfSome, IfOk};
+ghost use Rattle.std.specs.Duration.{as_nanos};
 ghost use Rattle.url.specs.Parts.{serialize};
 ghost use Rattle.tough_http.specs.HttpUrls.{IsHttpScheme, RefusesHttp, ServesHttp};
 ghost use Rattle.tough_http.specs.Transports.{builder_of};
@@ -68,7 +69,14 @@ impl<R> HttpTransport<R> {
 
 impl<R: Clone> HttpTransport<R> {
     // What makes requests of a URL.
-    fn requests(&self, url: &Url) -> Result<HttpRequests<R>, AllocError> {
+    fn requests(&self, url: &Url) -> Result<HttpRequests<R>, AllocError>
+        ensures url { IfOk result (λ q. q.url ≡ url.now) }
+        ensures timeout { IfOk result
+            (λ q. as_nanos q.timeout ≡ (settings (builder_of self.now)).timeout) }
+        ensures connect_timeout { IfOk result
+            (λ q. as_nanos q.connect_timeout ≡ (settings (builder_of self.now)).connect_timeout) }
+        ensures unsent { IfOk result (λ q. q.sent ≡ 0) }
+    {
         Ok(HttpRequests {
             rt: self.rt.clone()?,
             handle: self.handle.clone()?,

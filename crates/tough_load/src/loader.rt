@@ -1,9 +1,9 @@
 //! What a load is made from.
 
-ghost use Rattle.std.specs.Prelude.{◌≡◌, ◌⊎◌, true, Ok, IfOk, IfErr};
+ghost use Rattle.std.specs.Prelude.{◌≡◌, true, Ok, IfOk, IfErr};
 ghost use Rattle.tough_checks.specs.Checks.{enforces};
 ghost use Rattle.tough_net.specs.Urls.{with_slash};
-ghost use Rattle.tough_load.specs.Base.{IsUnbegun};
+ghost use Rattle.tough_load.specs.Base.{IsUnbegun, AreUnbegun};
 
 use crate::load::Load;
 use std::alloc::Global;
@@ -215,9 +215,8 @@ impl<T: Transport, V: Verify + Drop, C: Clock + Drop, K: Keeper> RepositoryLoade
     /// where it then can't be parsed, that of the metadata first.
     pub fn load(self) -> Result<Load<T, K, C, V>, UpdateError>
         ensures begun { IfOk result (IsBegun self.entry) }
-        ensures refused { IfErr result
-            (λ e. IsUnbegun (settings_of self.entry).metadata_base e
-            ⊎ IsUnbegun (settings_of self.entry).targets_base e) }
+        ensures refused { IfErr result (AreUnbegun (settings_of self.entry).metadata_base
+            (settings_of self.entry).targets_base) }
     {
         let RepositoryLoader {
             settings,

@@ -8,7 +8,7 @@ use Rattle.futures.specs.Runs.{Runs, Within}
 use Rattle.tough_net.specs.declared.error.TransportError.{TransportError}
 use Rattle.tough_net.specs.declared.digest_check.DigestCheck.{DigestCheck}
 use Rattle.tough_net.specs.declared.max_size.MaxSize.{MaxSize}
-use Rattle.tough_net.specs.Checking.{checked, expected_of, failure_of, HasTaken}
+use Rattle.tough_net.specs.Checking.{checked, url_of, expected_of, failure_of, HasTaken}
 use Rattle.tough_net.specs.Digests.{Digests}
 use Rattle.tough_net.specs.Errors.{IsMemory, IsMismatch}
 use Rattle.tough_net.specs.Items.{Item}
@@ -31,6 +31,7 @@ module _ {T S : Type 0} (serves : T → Parts → Runs Item) (yields : S → Run
     pub url : Parts
     pub below : IsBelow base name url
     pub limit : limit_of (checked s) ≡ record { url = serialize url; max = size; specifier = codes "targets.json"; size = 0 }
+    pub url_is : url_of s ≡ serialize url
     pub expected : expected_of s ≡ digests
     pub fresh : HasTaken s []
     pub unfailed : failure_of s ≡ None
