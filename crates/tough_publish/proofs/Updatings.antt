@@ -127,7 +127,7 @@ module _ {T S : Type 0} (refuses : T → Parts → TransportError → Type 0) (s
 
   pub unbegun : (u : Option UpdateDoc) (w : Error) → IsUnbegun refuses serves yields e text name w → Updates refuses serves yields v e text name None u e.edits (Err w)
   unbegun u w (inl h) = inl (w, h, (refl, refl))
-  unbegun u w (inr (there, h)) = inr (there, (Err w, inl h, (refl, refl)))
+  unbegun u w (inr (there, h)) = inr (there, Err w, inl h, (refl, refl))
 
   pub updates_by : (f : Collect S) (u : Option UpdateDoc) (o : Result (Vec ℕ Global) TransportError) (new : ReleaseDoc) (r : Result (Unit {0}) Error) → Collects (bounds_of f) (yields (collected f)) (held_by f) o → GainsBy refuses serves yields v e text name u o new r
       → Updates refuses serves yields v e text name (Some f) u new r
@@ -138,7 +138,7 @@ module _ {T S : Type 0} (refuses : T → Parts → TransportError → Type 0) (s
   begun_same f o u later is none there begun (Ready x) = tt
   begun_same f o u later is none there begun Pending = λ r h.
       let m = subst (λ z. Updates refuses serves yields v e text name (Some f) z h.0 r) none h.1 in
-      (h.0, subst (λ z. Updates refuses serves yields v e text name z u h.0 r) (sym is) (inr (there, (m.0, begun_fetches refuses serves yields e text name f begun m.0 m.1, m.2))))
+      (h.0, subst (λ z. Updates refuses serves yields v e text name z u h.0 r) (sym is) (inr (there, m.0, begun_fetches refuses serves yields e text name f begun m.0 m.1, m.2)))
 
   -- ---- from where the future stands
 
