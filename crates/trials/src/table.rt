@@ -1,6 +1,4 @@
 //! The calls that the cases of `trials` try.
-#![tactic(auto)]
-
 use serde_json::Value;
 use std::alloc::{AllocError, Global};
 use trials_calls::case::text;
