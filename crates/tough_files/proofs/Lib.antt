@@ -2,3 +2,4 @@ pub mod Views
 pub mod Following
 pub mod Listing
 pub mod Folders
+mod Temps

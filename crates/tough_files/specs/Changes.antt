@@ -1,5 +1,5 @@
 -- What each call answers, and what it leaves (the calls of POSIX, section "System Interfaces", over nodes at paths).
-use Rattle.std.specs.Prelude.{◌≡◌, ◌≢◌, ◌⊎◌, ℕ, Bool, false, IsSome, Contains, List, [], ◌++◌, Option, Some, None, if◌then◌else◌, take, drop, bytes_eq, codes, decimal}
+use Rattle.std.specs.Prelude.{◌≡◌, ◌≢◌, ◌⊎◌, ⊤, ℕ, Bool, false, IsSome, Contains, List, [], ◌++◌, Option, Some, None, if◌then◌else◌, take, drop, bytes_eq, codes, decimal}
 use Rattle.std.specs.List.{IsDistinct}
 use Rattle.std.specs.Map.{update}
 use Rattle.std.specs.Path.{path_join, path_parent, path_file_name}
@@ -119,9 +119,14 @@ temp_in path contents (Some other) = answer_only (refused Failed) contents
 abbrev pub temp_outcome : List ℕ → List ℕ → Contents → Outcome
 temp_outcome dir path contents = temp_in path contents (node_at contents dir)
 
--- an empty file in the folder, at the path of some number
+-- nothing stood at the path of this number; where there was no memory, none was looked for
+abbrev pub IsFresh : List ℕ → ℕ → Contents → Answered → Type 0
+IsFresh dir number before (refused Memory) = ⊤
+IsFresh dir number before answered = node_at before (temp_path dir number) ≡ None
+
+-- an empty file in the folder, at the path of some number where nothing stood
 abbrev pub CreatesTemp : List ℕ → Contents → Answered → Contents → Type 0
-CreatesTemp dir before answered after = (number : ℕ) × Gives (temp_outcome dir (temp_path dir number) before) before answered after
+CreatesTemp dir before answered after = (number : ℕ) × Gives (temp_outcome dir (temp_path dir number) before) before answered after × IsFresh dir number before answered
 
 abbrev pub remove_over : List ℕ → Contents → Option Node → Outcome
 remove_over path contents None = answer_only (refused NotFound) contents

@@ -50,7 +50,8 @@ pub(crate) struct Log {
 
 impl Log {
     pub(crate) fn new(alloc: Global) -> Log
-        ensures { log_told result ≡ [] }
+        ensures told { log_told result ≡ [] }
+        ensures failures { result.failures ≡ 0 }
     {
         Log {
             calls: Vec::new(alloc),

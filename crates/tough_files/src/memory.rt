@@ -20,13 +20,15 @@ pub struct MemoryFiles {
 }
 
 impl MemoryFiles {
-    ghost use Rattle.std.specs.Prelude.{true};
-    ghost use Rattle.tough_files.specs.Memory.{memory_contents, memory_calls};
+    ghost use Rattle.tough_files.specs.Contents.{node_at};
+    ghost use Rattle.tough_files.specs.Changes as change;
+    ghost use Rattle.tough_files.specs.Memory.{memory_contents, memory_calls, memory_failures};
 
     /// No files.
     pub fn new(alloc: Global) -> MemoryFiles
         ensures empty { (path : List ℕ) → memory_contents result path ≡ None }
         ensures calls { memory_calls result ≡ [] }
+        ensures failures { memory_failures result ≡ 0 }
     {
         MemoryFiles {
             alloc,
@@ -40,6 +42,25 @@ impl MemoryFiles {
         ensures { all_told result.now ≡ memory_calls self.now }
     {
         self.log.calls()
+    }
+
+    // A number and its path in the folder, where nothing stands. All numbers are in use only if memory is.
+    fn fresh_path(&self, folder: &str) -> Result<(usize, String), FilesError>
+        ensures path { IfOk result
+            (λ numbered. string_bytes numbered.1 ≡ change.temp_path folder.now numbered.0) }
+        ensures fresh { IfOk result
+            (λ numbered. node_at (memory_contents self.now) (string_bytes numbered.1) ≡ None) }
+        ensures memory { IfErr result (λ e. e ≡ Memory) }
+    {
+        for number in self.log.calls().len()..usize::MAX {
+            let Ok(path) = temp_path(self.alloc, folder, number) else {
+                return Err(FilesError::Memory);
+            };
+            if !self.tree.has(path.as_str()) {
+                return Ok((number, path));
+            }
+        }
+        Err(FilesError::Memory)
     }
 }
 
@@ -119,10 +140,9 @@ impl Files for MemoryFiles {
         if self.log.reserve().is_err() {
             return Err(FilesError::Memory);
         }
-        let number = self.log.calls().len();
-        let path = match temp_path(self.alloc, folder, number) {
-            Ok(path) => path,
-            Err(_) => return Err(FilesError::Memory),
+        let (_, path) = match self.fresh_path(folder) {
+            Ok(numbered) => numbered,
+            Err(e) => return Err(e),
         };
         let answer = match copied(self.alloc, path.as_str()) {
             Ok(answer) => answer,

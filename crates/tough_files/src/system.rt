@@ -1,5 +1,6 @@
 //! The files of the operating system, which tell nothing.
-ghost use Rattle.std.specs.Prelude.{◌≡◌, ◌≤◌, ℕ, List, None, IfOk, length, option_copied};
+ghost use Rattle.std.specs.Prelude.{◌≡◌, ◌≢◌, ◌≤◌, ℕ, List, Some, None, IfOk, length, option_copied};
+ghost use Rattle.tough_files.specs.declared.files.FilesError.TheVariants.{Memory};
 ghost use Rattle.tough_files.specs.Calls.{refused, count_after};
 ghost use Rattle.tough_files.specs.System.{os_failures, last_fault};
 
@@ -25,8 +26,9 @@ struct Written {
 /// The files of the operating system, reached through a runtime.
 ///
 /// The empty path is the current folder. A path where nothing stands is `NotFound`; every other fault but out of memory is
-/// `Failed`, and counts. A temporary file has a name that can't be guessed. The file that was made last stays open until it is
-/// renamed or removed, so that what is appended reaches that file, whatever stands at its path by then.
+/// `Failed`, and counts. A fifo, a socket or a device is neither read nor copied: it is refused before it is opened. A
+/// temporary file has a name that can't be guessed. The file that was made last stays open until it is renamed or removed, so
+/// that what is appended reaches that file, whatever stands at its path by then.
 #[derive(Drop)]
 pub struct OsFiles<R> {
     rt: R,
@@ -56,13 +58,17 @@ impl<R: rt::Files<File = File> + RandomSource + AllocGlobal + Clone + Drop> OsFi
         self.fault.as_ref()
     }
 
-    // The refusal for a fault of the system, which is kept.
+    // The refusal for a fault of the system, which is kept. A request for memory that was refused is no fault of it; one
+    // that the system refused itself is, since the call may have begun by then.
     fn fail(&mut self, error: io::Error) -> FilesError
-        ensures { os_failures self.new ≡ count_after (refused result) (os_failures self.old) }
+        ensures failures { os_failures self.new
+            ≡ count_after (refused result) (os_failures self.old) }
+        ensures kept { result ≢ Memory → last_fault self.new ≡ Some error }
+        ensures memory { result ≡ Memory → last_fault self.new ≡ last_fault self.old }
     {
         let refusal = match error.kind() {
             ErrorKind::NotFound => FilesError::NotFound,
-            ErrorKind::OutOfMemory => return FilesError::Memory,
+            ErrorKind::OutOfMemory if error.raw_os_error().is_none() => return FilesError::Memory,
             _ => {
                 self.failures = self.failures.wrapping_add(1);
                 FilesError::Failed
@@ -87,9 +93,9 @@ impl<R: rt::Files<File = File> + RandomSource + AllocGlobal + Clone + Drop> OsFi
     fn make(&mut self, path: &str) -> io::Result<()>
         ensures { os_failures self.new ≡ os_failures self.old }
     {
+        let known = String::from_str(self.rt.alloc(), path)?;
         let file = fs::create(&self.rt, place(path))?;
-        let path = String::from_str(self.rt.alloc(), path)?;
-        self.written = Some(Written { path, file });
+        self.written = Some(Written { path: known, file });
         Ok(())
     }
 
@@ -97,9 +103,8 @@ impl<R: rt::Files<File = File> + RandomSource + AllocGlobal + Clone + Drop> OsFi
     fn make_temp(&mut self, folder: &str) -> io::Result<String>
         ensures { os_failures self.new ≡ os_failures self.old }
     {
-        let (path, file) = create_in(&self.rt, folder)?;
-        let given = path.clone()?;
-        self.written = Some(Written { path, file });
+        let (given, written) = create_in(&self.rt, folder)?;
+        self.written = Some(written);
         Ok(given)
     }
 
@@ -135,12 +140,28 @@ fn kind_of(metadata: &Metadata) -> FileKind {
     }
 }
 
+// Refuses a fifo, a socket and a device, which might never answer. The system itself refuses to read a folder.
+fn refuse_special(files: &impl rt::Files, path: &str) -> io::Result<()> {
+    let metadata = fs::metadata(files, path)?;
+    if metadata.is_file() || metadata.is_dir() {
+        Ok(())
+    } else {
+        Err(io::Error::new(ErrorKind::InvalidInput, "not a regular file"))
+    }
+}
+
 fn read_at(files: &impl rt::Files, path: &str, from: u64, buf: &mut [u8]) -> io::Result<usize>
     ensures { IfOk result (λ n. n ≤ length buf.new) }
 {
+    refuse_special(files, path)?;
     let mut file = fs::open(files, path)?;
     file.seek(SeekFrom::Start(from))?;
     read_some(&mut file, buf)
+}
+
+fn copy_to(files: &impl rt::Files, from: &str, to: &str) -> io::Result<u64> {
+    refuse_special(files, from)?;
+    fs::copy(files, from, to)
 }
 
 // Reads once, and again where a signal came between.
@@ -165,22 +186,23 @@ fn temp_name<R: RandomSource + AllocGlobal>(rt: &R) -> io::Result<String> {
     Ok(format!(in rt.alloc(); ".tmp{number:032x}")?)
 }
 
-// Makes a file under a name that nothing has.
+// Makes a file under a name that nothing has, and gives its path beside it.
 fn create_in<R: rt::Files<File = File> + RandomSource + AllocGlobal>(
     rt: &R,
     folder: &str,
-) -> io::Result<(String, File)> {
+) -> io::Result<(String, Written)> {
     for _ in 0..TEMP_TRIES {
         let name = temp_name(rt)?;
         let path = Path::new(folder)
             .join(rt.alloc(), name.as_str())?
             .into_string();
+        let given = path.clone()?;
         let made = OpenOptions::new()
             .write(true)
             .create_new(true)
             .open(rt, path.as_str());
         match made {
-            Ok(file) => return Ok((path, file)),
+            Ok(file) => return Ok((given, Written { path, file })),
             Err(e) if e.kind() == ErrorKind::AlreadyExists => {}
             Err(e) => return Err(e),
         }
@@ -263,7 +285,7 @@ impl<R: rt::Files<File = File> + RandomSource + AllocGlobal + Clone + Drop> File
     }
 
     fn copy(&mut self, from: &str, to: &str) -> Result<(), FilesError> {
-        match fs::copy(&self.rt, place(from), place(to)) {
+        match copy_to(&self.rt, place(from), place(to)) {
             Ok(_) => Ok(()),
             Err(e) => Err(self.fail(e)),
         }

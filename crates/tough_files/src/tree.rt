@@ -1,5 +1,5 @@
 //! What stands at each path, in memory.
-ghost use Rattle.std.specs.Prelude.{◌≡◌, bytes_eq, ℕ, List, [], Some, None, OnOk, IfOk, OnErr, IfErr, string_bytes, option_map, option_copied, ◌≢◌, ◌++◌, ◌≤◌, length, map, take, drop};
+ghost use Rattle.std.specs.Prelude.{◌≡◌, bytes_eq, ℕ, List, [], Some, None, is_some, OnOk, IfOk, OnErr, IfErr, string_bytes, option_map, option_copied, ◌≢◌, ◌++◌, ◌≤◌, length, map, take, drop};
 ghost use Rattle.std.specs.List.{list_any};
 ghost use Rattle.tough_files.specs.declared.files.FilesError.TheVariants.{Memory};
 ghost use Rattle.tough_files.specs.Calls.{done_or, found_or, got_or, named_if, listed_or, named, refused};
@@ -103,6 +103,13 @@ impl Tree {
             Some(Stored::Folder) => Some(Seen::Folder),
             Some(Stored::Link(target)) => Some(Seen::Link(target)),
         }
+    }
+
+    // Whether something stands at the path.
+    pub(crate) fn has(&self, path: &str) -> bool
+        ensures { result ≡ is_some (node_at (contents_of self.now) path.now) }
+    {
+        self.node(path).is_some()
     }
 
     // Whether things may stand here.
