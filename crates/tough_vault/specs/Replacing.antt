@@ -27,9 +27,9 @@ module _ {S : Type 0} (tells : Bool) (files : S → Files) (count : S → ℕ) w
   pub record FillsAndRemoves (file bytes first second : List ℕ) (old new : S) (one two : Result Unit StoreError) : Type 0 where
     pub filled : S
     pub removed : S
-    pub fills : Fills file bytes old filled (Ok tt)
-    pub first : Removes first filled removed one
-    pub second : Removes second removed new two
+    pub fills : Fills file bytes old filled (Ok (tt {0}))
+    pub tried_first : Removes first filled removed one
+    pub tried_second : Removes second removed new two
 
   -- A file is replaced and two others are removed; where it wasn't written, nothing is removed.
   abbrev pub Replaces : List ℕ → List ℕ → List ℕ → List ℕ → S → S → Replaced → Type 0

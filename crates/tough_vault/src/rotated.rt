@@ -63,7 +63,8 @@ fn end(
     requires room { vec_len journal.old < vec_capacity journal.old }
     requires names { IsOfBoth names }
     ensures { EndsRemoval (note_after root) timestamp snapshot
-        (parts tt journal.old.items tip.old) (parts tt journal.new.items tip.new) result }
+        (parts (tt {0}) journal.old.items tip.old)
+        (parts (tt {0}) journal.new.items tip.new) result }
 {
     let Names {
         timestamp: first,

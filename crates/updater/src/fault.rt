@@ -2,9 +2,9 @@
 
 ghost use Rattle.std.specs.Prelude.{⊤};
 
-use std::alloc::{AllocError, Global};
+use std::alloc::{AllocError, AllocGlobal, Global};
 use std::fmt::{self, Display, Formatter};
-use std::io;
+use std::{fs, io, rt};
 use tough::{Error, NameError, Url};
 
 /// Why nothing was saved.
@@ -21,9 +21,9 @@ pub enum Fault {
 }
 
 impl Fault {
-    /// The system failed at this file.
-    pub fn in_file(alloc: Global, path: &str, error: io::Error) -> Fault {
-        match format!(in alloc; "Failed to read {path}: {error}") {
+    /// The system failed to do this with a file or folder.
+    pub fn in_file(alloc: Global, what: &str, path: &str, error: io::Error) -> Fault {
+        match format!(in alloc; "Failed to {what} {path}: {error}") {
             Ok(text) => Fault::Told(text),
             Err(_) => Fault::Memory,
         }
@@ -43,6 +43,14 @@ impl Fault {
             Ok(text) => Fault::Told(text),
             Err(_) => Fault::Memory,
         }
+    }
+}
+
+/// The bytes of a file.
+pub fn read<R: rt::Files + AllocGlobal>(rt: &R, path: &str) -> Result<Vec<u8>, Fault> {
+    match fs::read(rt, path) {
+        Ok(bytes) => Ok(bytes),
+        Err(error) => Err(Fault::in_file(rt.alloc(), "read", path, error)),
     }
 }
 
