@@ -1,8 +1,8 @@
 //! The files of the operating system, which tell nothing.
 ghost use Rattle.std.specs.Prelude.{◌≡◌, ◌≢◌, ◌≤◌, ℕ, List, Some, None, IfOk, length, option_copied};
 ghost use Rattle.tough_files.specs.declared.files.FilesError.TheVariants.{Memory};
-ghost use Rattle.tough_files.specs.Calls.{refused, count_after};
-ghost use Rattle.tough_files.specs.System.{os_failures, last_fault};
+ghost use Rattle.tough_files.specs.Calls.{refused, count_after, found_or, got_or, done_or, named_or, listed_or};
+ghost use Rattle.tough_files.specs.System.{os_failures, last_fault, KeepsFault};
 
 use crate::files::{FileKind, Files, FilesError};
 use std::alloc::AllocGlobal;
@@ -80,7 +80,8 @@ impl<R: rt::Files<File = File> + RandomSource + AllocGlobal + Clone + Drop> OsFi
 
     // Closes the file that is being written, where it stands at this path.
     fn close(&mut self, path: &str)
-        ensures { os_failures self.new ≡ os_failures self.old }
+        ensures failures { os_failures self.new ≡ os_failures self.old }
+        ensures fault { last_fault self.new ≡ last_fault self.old }
     {
         if let Some(written) = &self.written {
             if written.path.as_str() == path {
@@ -91,7 +92,8 @@ impl<R: rt::Files<File = File> + RandomSource + AllocGlobal + Clone + Drop> OsFi
 
     // Makes a file for writing, which stays open.
     fn make(&mut self, path: &str) -> io::Result<()>
-        ensures { os_failures self.new ≡ os_failures self.old }
+        ensures failures { os_failures self.new ≡ os_failures self.old }
+        ensures fault { last_fault self.new ≡ last_fault self.old }
     {
         let known = String::from_str(self.rt.alloc(), path)?;
         let file = fs::create(&self.rt, place(path))?;
@@ -101,7 +103,8 @@ impl<R: rt::Files<File = File> + RandomSource + AllocGlobal + Clone + Drop> OsFi
 
     // Makes a file in the folder, which stays open, and gives its path.
     fn make_temp(&mut self, folder: &str) -> io::Result<String>
-        ensures { os_failures self.new ≡ os_failures self.old }
+        ensures failures { os_failures self.new ≡ os_failures self.old }
+        ensures fault { last_fault self.new ≡ last_fault self.old }
     {
         let (given, written) = create_in(&self.rt, folder)?;
         self.written = Some(written);
@@ -110,7 +113,8 @@ impl<R: rt::Files<File = File> + RandomSource + AllocGlobal + Clone + Drop> OsFi
 
     // Appends to the file that is open, or else to what stands at the path.
     fn write_at(&mut self, path: &str, bytes: &[u8]) -> io::Result<()>
-        ensures { os_failures self.new ≡ os_failures self.old }
+        ensures failures { os_failures self.new ≡ os_failures self.old }
+        ensures fault { last_fault self.new ≡ last_fault self.old }
     {
         if let Some(written) = &mut self.written {
             if written.path.as_str() == path {
@@ -234,7 +238,11 @@ impl<R: rt::Files<File = File> + RandomSource + AllocGlobal + Clone + Drop> File
 
     ghost count = { os_failures };
 
-    fn kind(&mut self, path: &str, follow: bool) -> Result<FileKind, FilesError> {
+    fn kind(&mut self, path: &str, follow: bool) -> Result<FileKind, FilesError>
+        ensures count { os_failures self.new
+            ≡ count_after (found_or result) (os_failures self.old) }
+        ensures kept { KeepsFault (last_fault self.old) (last_fault self.new) result }
+    {
         let found = if follow {
             fs::metadata(&self.rt, place(path))
         } else {
@@ -246,35 +254,56 @@ impl<R: rt::Files<File = File> + RandomSource + AllocGlobal + Clone + Drop> File
         }
     }
 
-    fn read(&mut self, path: &str, from: u64, buf: &mut [u8]) -> Result<usize, FilesError> {
+    fn read(&mut self, path: &str, from: u64, buf: &mut [u8]) -> Result<usize, FilesError>
+        ensures len { IfOk result (λ n. n ≤ length buf.new) }
+        ensures count { os_failures self.new
+            ≡ count_after (got_or buf.new result) (os_failures self.old) }
+        ensures kept { KeepsFault (last_fault self.old) (last_fault self.new) result }
+    {
         match read_at(&self.rt, place(path), from, buf) {
             Ok(count) => Ok(count),
             Err(e) => Err(self.fail(e)),
         }
     }
 
-    fn create(&mut self, path: &str) -> Result<(), FilesError> {
+    fn create(&mut self, path: &str) -> Result<(), FilesError>
+        ensures count { os_failures self.new
+            ≡ count_after (done_or result) (os_failures self.old) }
+        ensures kept { KeepsFault (last_fault self.old) (last_fault self.new) result }
+    {
         match self.make(path) {
             Ok(()) => Ok(()),
             Err(e) => Err(self.fail(e)),
         }
     }
 
-    fn create_temp(&mut self, folder: &str) -> Result<String, FilesError> {
+    fn create_temp(&mut self, folder: &str) -> Result<String, FilesError>
+        ensures count { os_failures self.new
+            ≡ count_after (named_or result) (os_failures self.old) }
+        ensures kept { KeepsFault (last_fault self.old) (last_fault self.new) result }
+    {
         match self.make_temp(folder) {
             Ok(path) => Ok(path),
             Err(e) => Err(self.fail(e)),
         }
     }
 
-    fn append(&mut self, path: &str, bytes: &[u8]) -> Result<(), FilesError> {
+    fn append(&mut self, path: &str, bytes: &[u8]) -> Result<(), FilesError>
+        ensures count { os_failures self.new
+            ≡ count_after (done_or result) (os_failures self.old) }
+        ensures kept { KeepsFault (last_fault self.old) (last_fault self.new) result }
+    {
         match self.write_at(path, bytes) {
             Ok(()) => Ok(()),
             Err(e) => Err(self.fail(e)),
         }
     }
 
-    fn rename(&mut self, from: &str, to: &str) -> Result<(), FilesError> {
+    fn rename(&mut self, from: &str, to: &str) -> Result<(), FilesError>
+        ensures count { os_failures self.new
+            ≡ count_after (done_or result) (os_failures self.old) }
+        ensures kept { KeepsFault (last_fault self.old) (last_fault self.new) result }
+    {
         match fs::rename(&self.rt, place(from), place(to)) {
             Ok(()) => {
                 self.close(from);
@@ -284,21 +313,33 @@ impl<R: rt::Files<File = File> + RandomSource + AllocGlobal + Clone + Drop> File
         }
     }
 
-    fn copy(&mut self, from: &str, to: &str) -> Result<(), FilesError> {
+    fn copy(&mut self, from: &str, to: &str) -> Result<(), FilesError>
+        ensures count { os_failures self.new
+            ≡ count_after (done_or result) (os_failures self.old) }
+        ensures kept { KeepsFault (last_fault self.old) (last_fault self.new) result }
+    {
         match copy_to(&self.rt, place(from), place(to)) {
             Ok(_) => Ok(()),
             Err(e) => Err(self.fail(e)),
         }
     }
 
-    fn link(&mut self, original: &str, path: &str) -> Result<(), FilesError> {
+    fn link(&mut self, original: &str, path: &str) -> Result<(), FilesError>
+        ensures count { os_failures self.new
+            ≡ count_after (done_or result) (os_failures self.old) }
+        ensures kept { KeepsFault (last_fault self.old) (last_fault self.new) result }
+    {
         match symlink(&self.rt, original, place(path)) {
             Ok(()) => Ok(()),
             Err(e) => Err(self.fail(e)),
         }
     }
 
-    fn remove(&mut self, path: &str) -> Result<(), FilesError> {
+    fn remove(&mut self, path: &str) -> Result<(), FilesError>
+        ensures count { os_failures self.new
+            ≡ count_after (done_or result) (os_failures self.old) }
+        ensures kept { KeepsFault (last_fault self.old) (last_fault self.new) result }
+    {
         match fs::remove_file(&self.rt, place(path)) {
             Ok(()) => {
                 self.close(path);
@@ -308,21 +349,33 @@ impl<R: rt::Files<File = File> + RandomSource + AllocGlobal + Clone + Drop> File
         }
     }
 
-    fn make_folders(&mut self, path: &str) -> Result<(), FilesError> {
+    fn make_folders(&mut self, path: &str) -> Result<(), FilesError>
+        ensures count { os_failures self.new
+            ≡ count_after (done_or result) (os_failures self.old) }
+        ensures kept { KeepsFault (last_fault self.old) (last_fault self.new) result }
+    {
         match fs::create_dir_all(&self.rt, place(path)) {
             Ok(()) => Ok(()),
             Err(e) => Err(self.fail(e)),
         }
     }
 
-    fn canonical(&mut self, path: &str) -> Result<String, FilesError> {
+    fn canonical(&mut self, path: &str) -> Result<String, FilesError>
+        ensures count { os_failures self.new
+            ≡ count_after (named_or result) (os_failures self.old) }
+        ensures kept { KeepsFault (last_fault self.old) (last_fault self.new) result }
+    {
         match fs::canonicalize(&self.rt, place(path)) {
             Ok(path) => Ok(path.into_string()),
             Err(e) => Err(self.fail(e)),
         }
     }
 
-    fn list(&mut self, path: &str) -> Result<Vec<String>, FilesError> {
+    fn list(&mut self, path: &str) -> Result<Vec<String>, FilesError>
+        ensures count { os_failures self.new
+            ≡ count_after (listed_or result) (os_failures self.old) }
+        ensures kept { KeepsFault (last_fault self.old) (last_fault self.new) result }
+    {
         match names_in(&self.rt, place(path)) {
             Ok(names) => Ok(names),
             Err(e) => Err(self.fail(e)),

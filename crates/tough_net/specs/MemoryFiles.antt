@@ -1,6 +1,7 @@
 -- What files in memory serve.
-use Rattle.std.specs.Prelude.{◌≡◌, ℕ, List, [], ◌∷◌, ◌++◌, Option, Some, None, Ok, Err, IsSomeAnd, ◌⊎◌}
+use Rattle.std.specs.Prelude.{◌≡◌, ◌<◌, ℕ, List, [], ◌∷◌, ◌++◌, length, min, Option, Some, None, Ok, Err, IsSomeAnd, ◌⊎◌}
 use Rattle.std.specs.BTreeMap.{get_by_text}
+use Rattle.std.specs.Int.NonZero.{non_zero_usize_get}
 use Rattle.tough_net.specs.declared.error.TransportError.{TransportError}
 use Rattle.tough_net.specs.declared.error.TransportErrorKind.TheVariants.{FileNotFound}
 use Rattle.tough_net.specs.declared.memory.MemoryTransport.{MemoryTransport}
@@ -16,16 +17,30 @@ file_at t = get_by_text t.files
 abbrev pub left_in : MemoryStream → List ℕ
 left_in s = s.left
 
+-- the most bytes of a piece of the stream
+abbrev pub piece_len_in : MemoryStream → ℕ
+piece_len_in s = non_zero_usize_get s.piece_len
+
+-- what a stream of pieces of at most so many bytes gives next where these are left, and what it leaves
+abbrev pub NextPiece : ℕ → List ℕ → Option Item → List ℕ → Type 0
+NextPiece most left None later = (left ≡ []) × (later ≡ left)
+NextPiece most left (Some (Ok piece)) later = (left ≡ piece ++ later) × (length piece ≡ min most (length left)) × (0 < length piece)
+NextPiece most left (Some (Err e)) later = IsMemory e × (later ≡ left)
+
+-- a piece that isn't empty, and what comes later
+abbrev pub IsCut : List ℕ → List ℕ → List ℕ → Type 0
+IsCut left piece later = (left ≡ piece ++ later) × (0 < length piece)
+
 -- what may come where these bytes are left
 abbrev pub CutsNow : List ℕ → Option Item → Type 0
 CutsNow left None = left ≡ []
-CutsNow left (Some (Ok piece)) = (later : List ℕ) × (left ≡ piece ++ later)
+CutsNow left (Some (Ok piece)) = (later : List ℕ) × IsCut left piece later
 CutsNow left (Some (Err e)) = IsMemory e
 
--- the bytes, cut in pieces. An error for want of memory may stand between two
+-- the bytes, cut in pieces, none of them empty. An error for want of memory may stand between two
 abbrev pub Cuts : List ℕ → List Item → Option Item → Type 0
 Cuts left [] last = CutsNow left last
-Cuts left (Ok piece ∷ xs) last = (later : List ℕ) × (left ≡ piece ++ later) × Cuts later xs last
+Cuts left (Ok piece ∷ xs) last = (later : List ℕ) × IsCut left piece later × Cuts later xs last
 Cuts left (Err e ∷ xs) last = IsMemory e × Cuts left xs last
 
 -- the file, if there is one, cut in pieces

@@ -3,7 +3,7 @@ ghost use Rattle.std.specs.Prelude.{◌≡◌, string_bytes, Some, None, IfOk};
 ghost use Rattle.std.specs.Option.{option_copied};
 ghost use Rattle.tough_net.specs.Errors.{IsExceeded, IsMemory, IsMismatch, error_kind, error_url, error_cause};
 
-use crate::HttpError;
+use crate::{HttpError, Printable, Shown};
 use std::alloc::{AllocError, Global};
 use std::error::Error;
 use std::fmt;
@@ -173,31 +173,6 @@ impl TransportError {
     }
 }
 
-/// The text of a URL for a reader: as it is, but with `***` in the place of a password (RFC 3986, section 3.2.1).
-#[derive(Clone, Copy, Drop)]
-pub struct Shown<'a>(pub &'a str);
-
-impl<'a> Shown<'a> {
-    // The scheme, the user, and all behind the password, where there is one.
-    fn parts(&self) -> Option<(&'a str, &'a str, &'a str)> {
-        let (scheme, rest) = self.0.split_once("://")?;
-        let authority = rest.split(['/', '?', '#']).next()?;
-        let (userinfo, _) = authority.rsplit_once('@')?;
-        let (user, _) = userinfo.split_once(':')?;
-        let behind = rest.strip_prefix(userinfo)?;
-        Some((scheme, user, behind))
-    }
-}
-
-impl Display for Shown<'_> {
-    fn fmt<W: fmt::Write>(&self, f: &mut Formatter<W>) -> fmt::Result {
-        match self.parts() {
-            Some((scheme, user, behind)) => write!(f, "{scheme}://{user}:***{behind}"),
-            None => f.write_str(self.0),
-        }
-    }
-}
-
 impl Display for TransportErrorKind {
     fn fmt<W: fmt::Write>(&self, f: &mut Formatter<W>) -> fmt::Result {
         f.write_str(match self {
@@ -228,12 +203,24 @@ impl Display for Cause {
                 write!(
                     f,
                     "Hash mismatch for {context}: calculated {calculated}, expected {expected}"
-                )
+                )?;
+                tell_length(f, calculated.len() / 2, expected.len() / 2)
             }
             Cause::Http(error) => write!(f, "{error}"),
-            Cause::Text(text) => f.write_str(text.as_str()),
+            Cause::Text(text) => {
+                let text = Printable(text.as_str());
+                write!(f, "{text}")
+            }
         }
     }
+}
+
+// Tells that a stated digest isn't as long as one of its kind, both in bytes.
+fn tell_length<W: fmt::Write>(f: &mut Formatter<W>, len: usize, stated: usize) -> fmt::Result {
+    if stated == len {
+        return Ok(());
+    }
+    write!(f, " ({stated} bytes in place of {len})")
 }
 
 impl Error for Cause {}

@@ -18,7 +18,8 @@ const PIECE_LEN: usize = 8192;
 
 /// Serves files by URLs of the scheme `file`, whose path is taken as it stands: no escape is decoded.
 ///
-/// A missing file is `FileNotFound`, another fault `Other`, and another scheme `UnsupportedUrlScheme`.
+/// A missing file is `FileNotFound`, another fault `Other`, and another scheme `UnsupportedUrlScheme`. A fifo, a socket or a
+/// device is refused before it is opened.
 #[derive(Drop)]
 pub struct FilesystemTransport<R> {
     rt: R,
@@ -62,13 +63,23 @@ fn open_file<R: Files + AllocGlobal>(
         return Err(TransportError::new(alloc, kind, url)?);
     }
     let text = String::from_str(alloc, url)?;
-    match fs::open(rt, path) {
+    match open_regular(rt, path) {
         Ok(file) => Ok(FileStream {
             alloc,
             file: Some(file),
             url: text,
         }),
         Err(e) => Err(file_fault(alloc, url, &e)),
+    }
+}
+
+// Opens what is no fifo, socket or device, which might never answer. The system itself refuses to read a folder.
+fn open_regular<R: Files>(rt: &R, path: &str) -> io::Result<R::File> {
+    let metadata = fs::metadata(rt, path)?;
+    if metadata.is_file() || metadata.is_dir() {
+        fs::open(rt, path)
+    } else {
+        Err(io::Error::new(io::ErrorKind::InvalidInput, "not a regular file"))
     }
 }
 

@@ -4,7 +4,7 @@ ghost use Rattle.std.specs.BTreeMap.{get_by_text};
 ghost use Rattle.std.specs.Map.{update};
 ghost use Rattle.std.specs.Str.{bytes_eq};
 ghost use Rattle.url.specs.Parts.{serialize};
-ghost use Rattle.tough_net.specs.MemoryFiles.{file_at, left_in, Cuts, CutsFile, RefusesFile};
+ghost use Rattle.tough_net.specs.MemoryFiles.{file_at, left_in, piece_len_in, Cuts, CutsFile, RefusesFile, NextPiece};
 
 use crate::{Transport, TransportError, TransportErrorKind};
 use bytes::Bytes;
@@ -12,6 +12,7 @@ use futures::Stream;
 use futures::task::{Context, Poll};
 use std::alloc::{AllocError, Global};
 use std::collections::BTreeMap;
+use std::num::NonZeroUsize;
 use url::Url;
 
 /// Serves the files that it holds, by the texts of their URLs. To any other URL it answers `FileNotFound`.
@@ -19,8 +20,7 @@ use url::Url;
 pub struct MemoryTransport {
     alloc: Global,
     files: BTreeMap<String, Bytes>,
-    // Not 0, or no stream would end.
-    piece_len: usize,
+    piece_len: NonZeroUsize,
 }
 
 impl MemoryTransport {
@@ -28,12 +28,21 @@ impl MemoryTransport {
     pub fn new(alloc: Global) -> MemoryTransport
         ensures { (url : List ℕ) → file_at result url ≡ None }
     {
-        MemoryTransport::in_pieces(alloc, usize::MAX)
+        MemoryTransport::cut(alloc, NonZeroUsize::MAX)
     }
 
     /// A transport without files, which gives each file in pieces of at most `piece_len` bytes.
     pub fn in_pieces(alloc: Global, piece_len: usize) -> MemoryTransport
         requires { 0 < piece_len }
+        ensures { (url : List ℕ) → file_at result url ≡ None }
+    {
+        let Some(piece_len) = NonZeroUsize::new(piece_len) else {
+            unreachable!();
+        };
+        MemoryTransport::cut(alloc, piece_len)
+    }
+
+    fn cut(alloc: Global, piece_len: NonZeroUsize) -> MemoryTransport
         ensures { (url : List ℕ) → file_at result url ≡ None }
     {
         MemoryTransport {
@@ -88,7 +97,23 @@ impl Transport for MemoryTransport {
 #[derive(Drop)]
 pub struct MemoryStream {
     left: Bytes,
-    piece_len: usize,
+    piece_len: NonZeroUsize,
+}
+
+impl MemoryStream {
+    // The next piece, as long as may be. None where nothing is left.
+    fn next_piece(&mut self) -> Option<Result<Bytes, TransportError>>
+        ensures { NextPiece (piece_len_in self.old) (left_in self.old) result (left_in self.new) }
+    {
+        if self.left.is_empty() {
+            return None;
+        }
+        let len = self.left.len().min(self.piece_len.get());
+        match self.left.split_to(len) {
+            Ok(piece) => Some(Ok(piece)),
+            Err(e) => Some(Err(e.into())),
+        }
+    }
 }
 
 impl Stream for MemoryStream {
@@ -97,13 +122,6 @@ impl Stream for MemoryStream {
     ghost yields = { λ m. Cuts (left_in m) };
 
     fn poll_next(&mut self, _cx: &mut Context<'_>) -> Poll<Option<Self::Item>> {
-        if self.left.is_empty() {
-            return Poll::Ready(None);
-        }
-        let len = self.left.len().min(self.piece_len);
-        match self.left.split_to(len) {
-            Ok(piece) => Poll::Ready(Some(Ok(piece))),
-            Err(e) => Poll::Ready(Some(Err(e.into()))),
-        }
+        Poll::Ready(self.next_piece())
     }
 }

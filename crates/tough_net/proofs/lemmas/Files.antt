@@ -11,15 +11,15 @@ use Rattle.tough_net.specs.MemoryFiles.{Cuts, CutsFile}
 -- the pieces up to the end are the whole
 pub Cuts_whole : (left : List ℕ) (pieces : List (List ℕ)) → Cuts left (map Ok pieces) None → joined_pieces pieces ≡ left
 Cuts_whole left [] h = sym h
-Cuts_whole left (piece ∷ pieces) h = ap (λ later. piece ++ later) (Cuts_whole h.0 pieces h.2) ∙ sym h.1
+Cuts_whole left (piece ∷ pieces) h = ap (λ later. piece ++ later) (Cuts_whole h.0 pieces h.2) ∙ sym h.1.0
 
 -- the pieces up to a piece are a beginning
 pub Cuts_part : (left : List ℕ) (pieces : List (List ℕ)) (piece : List ℕ) → Cuts left (map Ok pieces) (Some (Ok piece))
     → (later : List ℕ) × (left ≡ (joined_pieces pieces ++ piece) ++ later)
-Cuts_part left [] piece h = h
+Cuts_part left [] piece h = (h.0, h.1.0)
 Cuts_part left (first ∷ pieces) piece h =
     let more = Cuts_part h.0 pieces piece h.2 in
-    let whole = h.1 in (
+    let whole = h.1.0 in (
       more.0,
       whole ∙ (ap (λ later. first ++ later) more.1 ∙ sym (append_assoc first (joined_pieces pieces ++ piece) more.0)
           ∙ ap (λ l. l ++ more.0) (sym (append_assoc first (joined_pieces pieces) piece))),
