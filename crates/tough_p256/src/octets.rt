@@ -1,0 +1,20 @@
+//! Numbers of 32 bytes.
+
+ghost use Rattle.std.specs.Prelude.{◌≡◌, length};
+ghost use Rattle.tough_modular.specs.Number.{number};
+ghost use Rattle.tough_p256.specs.Octets.{octets_number};
+
+use byteorder::{BigEndian, ByteOrder};
+
+/// The words of the number of 32 bytes, the highest first.
+pub fn words_of(bytes: &[u8]) -> [u64; 4]
+    requires { length bytes.now ≡ 32 }
+    ensures { number result ≡ octets_number bytes.now }
+{
+    [
+        BigEndian::read_u64(&bytes[24..32]),
+        BigEndian::read_u64(&bytes[16..24]),
+        BigEndian::read_u64(&bytes[8..16]),
+        BigEndian::read_u64(&bytes[..8]),
+    ]
+}
