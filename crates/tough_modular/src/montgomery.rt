@@ -1,6 +1,6 @@
 //! Products modulo an odd number, without division (Koç, Acar, Kaliski 1996, CIOS).
 
-ghost use Rattle.std.specs.Prelude.{◌≡◌, ℕ, ◌+◌, ◌-◌, ◌*◌, ◌/◌, ◌%◌, ◌^◌, ◌<◌, ◌≤◌, length, slice_index};
+ghost use Rattle.std.specs.Prelude.{◌≡◌, ℕ, ◌+◌, ◌*◌, ◌%◌, ◌^◌, ◌<◌, length, slice_index};
 ghost use Rattle.tough_modular.specs.Number.{number, weight, number_with, IsModulus};
 
 use crate::sums::{add_product, double, is_below, subtract};

@@ -1,6 +1,6 @@
 //! Powers modulo an odd number.
 
-ghost use Rattle.std.specs.Prelude.{◌≡◌, ℕ, ◌+◌, ◌-◌, ◌*◌, ◌/◌, ◌%◌, ◌^◌, ◌<◌, ◌≤◌, length, slice_index, cond, ◌==◌};
+ghost use Rattle.std.specs.Prelude.{◌≡◌, ℕ, ◌-◌, ◌*◌, ◌/◌, ◌%◌, ◌^◌, ◌<◌, ◌≤◌, length, cond, ◌==◌};
 ghost use Rattle.tough_modular.specs.Number.{number, weight, IsModulus, IsForm};
 
 use crate::inverse::inverse_of;
@@ -120,7 +120,8 @@ fn raise(total: &mut [u64], base: &[u64], exponent: u64, modulus: &[u64], invers
     requires modulus_length { length total.old ≡ length modulus.now }
     requires modulus { IsModulus modulus.now inverse }
     requires below { number total.old < number modulus.now }
-    ensures form { (v : ℕ) → IsForm v total.old modulus.now → IsForm (v ^ exponent) total.new modulus.now }
+    ensures form { (v : ℕ) → IsForm v total.old modulus.now
+        → IsForm (v ^ exponent) total.new modulus.now }
     ensures below { number total.new < number modulus.now }
 {
     let highest = highest_bit(exponent);

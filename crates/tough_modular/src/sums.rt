@@ -1,6 +1,6 @@
 //! Sums, differences and comparison of numbers in words.
 
-ghost use Rattle.std.specs.Prelude.{◌≡◌, ◌+◌, ◌-◌, ◌*◌, ◌/◌, ◌%◌, ◌^◌, ◌<◌, ◌≤◌, length, nat_lt, nat_eq, cond};
+ghost use Rattle.std.specs.Prelude.{◌≡◌, ◌+◌, ◌-◌, ◌*◌, ◌^◌, ◌<◌, ◌≤◌, length, nat_lt, nat_eq, cond};
 ghost use Rattle.tough_modular.specs.Number.{number, weight};
 
 // The lowest 64 bits.

@@ -1,6 +1,6 @@
 //! The bits of numbers in words, and which numbers are the same.
 
-ghost use Rattle.std.specs.Prelude.{◌≡◌, ◌*◌, ◌/◌, ◌%◌, ◌^◌, ◌<◌, nat_eq};
+ghost use Rattle.std.specs.Prelude.{◌≡◌, ◌/◌, ◌%◌, ◌^◌, ◌<◌, nat_eq};
 ghost use Rattle.tough_modular.specs.Number.{number};
 
 use tough_modular::is_below;

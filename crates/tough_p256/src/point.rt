@@ -5,7 +5,7 @@ ghost use Rattle.tough_modular.specs.Number.{number};
 ghost use Rattle.tough_p256.specs.Ecdsa.{has_x};
 ghost use Rattle.tough_p256.specs.Field.{times};
 ghost use Rattle.tough_p256.specs.Order.{order};
-ghost use Rattle.tough_p256.specs.Curve.{curve_b, base, affine, neutral, cross, is_on_curve, add, double, add_if, multiple};
+ghost use Rattle.tough_p256.specs.Curve.{base, affine, neutral, cross, is_on_curve, add, double, add_if, multiple};
 
 use crate::bits::bit;
 use crate::element::{Element, room};
@@ -170,7 +170,8 @@ fn cross(
     product: &Element,
     more_product: &Element,
 ) -> Element
-    ensures { result ≡ cross left.now more_left.now right.now more_right.now product.now more_product.now }
+    ensures { result ≡ cross left.now more_left.now right.now more_right.now product.now
+        more_product.now }
 {
     left.add(more_left)
         .mul(&right.add(more_right))

@@ -1,6 +1,6 @@
 //! Sums, differences and products of numbers of 256 bits modulo an odd number.
 
-ghost use Rattle.std.specs.Prelude.{◌≡◌, ℕ, ◌+◌, ◌-◌, ◌*◌, ◌%◌, ◌^◌, ◌<◌};
+ghost use Rattle.std.specs.Prelude.{◌≡◌, ℕ, ◌+◌, ◌-◌, ◌*◌, ◌%◌, ◌<◌};
 ghost use Rattle.tough_modular.specs.Number.{number, weight, IsModulus};
 
 use crate::rows::{add_row, reduce, step, sub_row};

@@ -1,6 +1,6 @@
 //! Signatures that verify.
 
-ghost use Rattle.std.specs.Prelude.{◌≡◌, ◌%◌, ◌<◌, true, length};
+ghost use Rattle.std.specs.Prelude.{◌≡◌, ◌<◌, true};
 ghost use Rattle.tough_modular.specs.Number.{number};
 ghost use Rattle.tough_p256.specs.Field.{prime};
 ghost use Rattle.tough_p256.specs.Order.{order};

@@ -1,6 +1,6 @@
 //! Numbers in words from bytes and back, the highest byte first.
 
-ghost use Rattle.std.specs.Prelude.{◌≡◌, ℕ, ◌+◌, ◌-◌, ◌*◌, ◌/◌, ◌%◌, ◌^◌, ◌<◌, ◌≤◌, length};
+ghost use Rattle.std.specs.Prelude.{◌≡◌, ◌+◌, ◌*◌, ◌/◌, ◌%◌, ◌^◌, ◌<◌, ◌≤◌, length};
 ghost use Rattle.tough_modular.specs.Number.{number};
 ghost use Rattle.tough_rsa.specs.Bytes.{os2ip, i2osp};
 ghost use Rattle.tough_rsa.specs.Places.{low_byte};

@@ -1,6 +1,6 @@
 //! Signatures that verify (RFC 8017, 8.1.2).
 
-ghost use Rattle.std.specs.Prelude.{◌≡◌, ℕ, ◌+◌, ◌-◌, ◌*◌, ◌/◌, ◌%◌, ◌^◌, ◌<◌, ◌≤◌, true, nat_lt, length};
+ghost use Rattle.std.specs.Prelude.{◌≡◌, ◌+◌, ◌-◌, ◌/◌, ◌%◌, ◌^◌, ◌<◌, ◌≤◌, true, nat_lt, length};
 ghost use Rattle.tough_modular.specs.Number.{number};
 ghost use Rattle.tough_rsa.specs.Bytes.{os2ip};
 ghost use Rattle.tough_rsa.specs.Rsa.{bits_of, bytes_for, is_modulus, is_exponent, is_encoding, is_root, rsavp1, rsa_verifies};
