@@ -5,7 +5,7 @@ use Rattle.std.proofs.lemmas.Nat.{pow-add}
 use Rattle.std.specs.Prelude.{slice_index}
 use Rattle.byteorder.specs.Endian.{big_from, big_number}
 use Rattle.tough_modular.specs.Number.{number}
-use Rattle.tough_p256.specs.Octets.{octets_number}
+use Rattle.tough_modular.specs.Octets.{octets_number}
 
 octets_number-append : (xs ys : List ℕ) → octets_number (xs ++ ys) ≡ octets_number xs * 256 ^ length ys + octets_number ys
 unfolding octets_number

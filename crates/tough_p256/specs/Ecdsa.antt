@@ -4,7 +4,7 @@ use Rattle.sha2.specs.Sha256.{sha256}
 use Rattle.tough_p256.specs.Field.{prime, times}
 use Rattle.tough_p256.specs.Order.{order, product, inverse}
 use Rattle.tough_p256.specs.Curve.{Coordinates, affine, base, is_on_curve, add, multiple}
-use Rattle.tough_p256.specs.Octets.{octets_number}
+use Rattle.tough_modular.specs.Octets.{octets_number}
 
 -- the coordinates of a point of the curve
 abbrev pub is_key : ℕ → ℕ → Bool

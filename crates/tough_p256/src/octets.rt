@@ -2,7 +2,7 @@
 
 ghost use Rattle.std.specs.Prelude.{◌≡◌, length};
 ghost use Rattle.tough_modular.specs.Number.{number};
-ghost use Rattle.tough_p256.specs.Octets.{octets_number};
+ghost use Rattle.tough_modular.specs.Octets.{octets_number};
 
 use byteorder::{BigEndian, ByteOrder};
 

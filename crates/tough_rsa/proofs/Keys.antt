@@ -6,10 +6,10 @@ use Rattle.std.proofs.lemmas.Nat.{pow-add, pow_pos, div_below, leading_top}
 use Rattle.std.proofs.lemmas.Bool.Decides.{nat_tests}
 use Rattle.std.specs.Int.Count.{count_leading_zeros}
 use Rattle.tough_modular.specs.Number.{weight}
-use Rattle.tough_rsa.specs.Bytes.{os2ip, i2osp}
+use Rattle.tough_modular.specs.Octets.{octets_number, number_octets}
 use Rattle.tough_rsa.specs.Pss.{emsa_pss_verify}
 use Rattle.tough_rsa.specs.Rsa.{bits_of, bytes_for, is_modulus, is_exponent, is_encoding, is_root, rsavp1}
-use Rattle.tough_rsa.proofs.Octets.{weight_bytes, os2ip_none, os2ip_first}
+use Rattle.tough_modular.proofs.OctetNumbers.{weight_bytes, octets_number_none, octets_number_first}
 
 pow_bytes : (k : ℕ) → 256 ^ k ≡ 2 ^ (8 * k)
 pow_bytes zero = refl
@@ -36,7 +36,7 @@ too_large m k n = ⊎_elim (λ l. absurd (n (none m k l))) (λ l. l) (cases_lt m
     none : (m k : ℕ) → m < 256 ^ k → m / 256 ^ k % 256 ≡ 0
     none m k l = rw (div-eq_of_lt l) refl
 
-pub encoding_is : (message em : List ℕ) (m bits : ℕ) (r : Bool) → r ≡ emsa_pss_verify message em bits → em ≡ i2osp m (bytes_for bits) → m < 2 ^ (bits + 1) → m / 256 ^ bytes_for bits % 256 ≡ 0 → r ≡ is_encoding message m bits
+pub encoding_is : (message em : List ℕ) (m bits : ℕ) (r : Bool) → r ≡ emsa_pss_verify message em bits → em ≡ number_octets m (bytes_for bits) → m < 2 ^ (bits + 1) → m / 256 ^ bytes_for bits % 256 ≡ 0 → r ≡ is_encoding message m bits
 unfolding is_encoding
 encoding_is message em m bits r e f h z =
     let l : m < 256 ^ bytes_for bits = fits_in m (bytes_for bits) bits (omega arith) h z in
@@ -60,43 +60,43 @@ top_below k n w v e f l odd h =
     let b : 256 ^ (k - 1) % 2 ≡ 0 = even_power (k - 1) (omega arith) in
     rw (weight_bytes (v - 1)) (omega arith)
 
-os2ip_below : (bs : List ℕ) → ((i : ℕ) → Fits w8 (get_or bs i 0)) → os2ip bs < 256 ^ length bs
-os2ip_below [] f = rw os2ip_none (omega arith)
-os2ip_below (b ∷ bs) f =
+octets_number_below : (bs : List ℕ) → ((i : ℕ) → Fits w8 (get_or bs i 0)) → octets_number bs < 256 ^ length bs
+octets_number_below [] f = rw octets_number_none (omega arith)
+octets_number_below (b ∷ bs) f =
     let h : b < 2 ^ 8 = (f 0).fits in
-    let r : os2ip bs < 256 ^ length bs = os2ip_below bs (λ i. f (suc i)) in
+    let r : octets_number bs < 256 ^ length bs = octets_number_below bs (λ i. f (suc i)) in
     let m : b * 256 ^ length bs ≤ 255 * 256 ^ length bs = mul-le-mul_right (256 ^ length bs) (omega arith) in
-    rw (os2ip_first b bs, pow-suc) (omega arith)
+    rw (octets_number_first b bs, pow-suc) (omega arith)
 
-pub os2ip_least : (bs : List ℕ) → 0 < length bs → 0 < get_or bs 0 0 → 256 ^ (length bs - 1) ≤ os2ip bs
-os2ip_least [] h l = absurd (omega arith)
-os2ip_least (b ∷ bs) h l =
+pub octets_number_least : (bs : List ℕ) → 0 < length bs → 0 < get_or bs 0 0 → 256 ^ (length bs - 1) ≤ octets_number bs
+octets_number_least [] h l = absurd (omega arith)
+octets_number_least (b ∷ bs) h l =
     let e : suc (length bs) - 1 ≡ length bs = omega arith in
     let m : 1 * 256 ^ length bs ≤ b * 256 ^ length bs = mul-le-mul_right (256 ^ length bs) l in
-    rw (e, os2ip_first b bs) (omega arith)
+    rw (e, octets_number_first b bs) (omega arith)
 
 -- a number is below 2 to its bits
-pub os2ip_most : (bs : List ℕ) → ((i : ℕ) → Fits w8 (get_or bs i 0)) → 0 < length bs → 0 < get_or bs 0 0 → os2ip bs < 2 ^ bits_of bs
-os2ip_most [] f h l = absurd (omega arith)
-os2ip_most (b ∷ bs) f h l =
+pub octets_number_most : (bs : List ℕ) → ((i : ℕ) → Fits w8 (get_or bs i 0)) → 0 < length bs → 0 < get_or bs 0 0 → octets_number bs < 2 ^ bits_of bs
+octets_number_most [] f h l = absurd (omega arith)
+octets_number_most (b ∷ bs) f h l =
     let t = leading_top 8 b l (f 0).fits in
-    let r : os2ip bs < 256 ^ length bs = os2ip_below bs (λ i. f (suc i)) in
+    let r : octets_number bs < 256 ^ length bs = octets_number_below bs (λ i. f (suc i)) in
     let e : 8 * suc (length bs) - count_leading_zeros 8 b ≡ suc t.0 + 8 * length bs = omega (arith, t.1) in
     let d : b + 1 ≤ 2 ^ suc t.0 = omega (arith, t.3) in
     let m : (b + 1) * 256 ^ length bs ≤ 2 ^ suc t.0 * 256 ^ length bs = mul-le-mul_right (256 ^ length bs) d in
-    rw (e, pow-add 2 (suc t.0) (8 * length bs), ← pow_bytes (length bs), os2ip_first b bs) (omega arith)
+    rw (e, pow-add 2 (suc t.0) (8 * length bs), ← pow_bytes (length bs), octets_number_first b bs) (omega arith)
 
 -- the last byte says whether a number is odd
-pub odd_last : (bs : List ℕ) → 0 < length bs → os2ip bs % 2 ≡ get_or bs (length bs - 1) 0 % 2
+pub odd_last : (bs : List ℕ) → 0 < length bs → octets_number bs % 2 ≡ get_or bs (length bs - 1) 0 % 2
 odd_last [] h = absurd (omega arith)
-odd_last (b ∷ []) h = rw (os2ip_first b [], os2ip_none) (omega arith)
+odd_last (b ∷ []) h = rw (octets_number_first b [], octets_number_none) (omega arith)
 odd_last (b ∷ c ∷ bs) h =
     let e : suc (suc (length bs)) - 1 ≡ suc (length bs) = omega arith in
     let f : suc (length bs) - 1 ≡ length bs = omega arith in
     let p : 256 ^ suc (length bs) % 2 ≡ 0 = even_power (suc (length bs)) (omega arith) in
-    let q : (b * 256 ^ suc (length bs) + os2ip (c ∷ bs)) % 2 ≡ os2ip (c ∷ bs) % 2 = even_times b (256 ^ suc (length bs)) (os2ip (c ∷ bs)) p in
-    let i : os2ip (c ∷ bs) % 2 ≡ get_or (c ∷ bs) (length bs) 0 % 2 = rw f at (odd_last (c ∷ bs) (omega arith)) in
-    rw (e, os2ip_first b (c ∷ bs)) (q ∙ i)
+    let q : (b * 256 ^ suc (length bs) + octets_number (c ∷ bs)) % 2 ≡ octets_number (c ∷ bs) % 2 = even_times b (256 ^ suc (length bs)) (octets_number (c ∷ bs)) p in
+    let i : octets_number (c ∷ bs) % 2 ≡ get_or (c ∷ bs) (length bs) 0 % 2 = rw f at (odd_last (c ∷ bs) (omega arith)) in
+    rw (e, octets_number_first b (c ∷ bs)) (q ∙ i)
   where
     even_times : (b p x : ℕ) → p % 2 ≡ 0 → (b * p + x) % 2 ≡ x % 2
     even_times b p x e =
@@ -127,16 +127,16 @@ exponent_some e h = some (nat_eq (e % 2) 1) e (nat_lt e (2 ^ 33)) h
     some : (a : Bool) (e : ℕ) (b : Bool) → (a && nat_le 65537 e && b) ≡ true → 0 < e
     some a e b h = grind (arith, nat_tests)
 
-pub not_root : (n : List ℕ) (e : ℕ) (message signature : List ℕ) (t : Bool) → t ≡ nat_lt (os2ip signature) (os2ip n) → t ≡ false → false ≡ is_root n e message signature
+pub not_root : (n : List ℕ) (e : ℕ) (message signature : List ℕ) (t : Bool) → t ≡ nat_lt (octets_number signature) (octets_number n) → t ≡ false → false ≡ is_root n e message signature
 unfolding is_root
-not_root n e message signature t f g = let h : nat_lt (os2ip signature) (os2ip n) ≡ false = sym f ∙ g in rw h refl
+not_root n e message signature t f g = let h : nat_lt (octets_number signature) (octets_number n) ≡ false = sym f ∙ g in rw h refl
 
-pub root_is : (n : List ℕ) (e : ℕ) (message signature : List ℕ) (t r : Bool) (m b : ℕ) → t ≡ nat_lt (os2ip signature) (os2ip n) → t ≡ true → m ≡ rsavp1 n e signature → b ≡ bits_of n → r ≡ is_encoding message m (b - 1) → r ≡ is_root n e message signature
+pub root_is : (n : List ℕ) (e : ℕ) (message signature : List ℕ) (t r : Bool) (m b : ℕ) → t ≡ nat_lt (octets_number signature) (octets_number n) → t ≡ true → m ≡ rsavp1 n e signature → b ≡ bits_of n → r ≡ is_encoding message m (b - 1) → r ≡ is_root n e message signature
 unfolding is_root
-root_is n e message signature t r m b f g h i j = let k : nat_lt (os2ip signature) (os2ip n) ≡ true = sym f ∙ g in rw (k, ← h, ← i) j
+root_is n e message signature t r m b f g h i j = let k : nat_lt (octets_number signature) (octets_number n) ≡ true = sym f ∙ g in rw (k, ← h, ← i) j
 
-pub all_bits : (n : List ℕ) (b m : ℕ) → ModulusFacts n → ((i : ℕ) → Fits w8 (get_or n i 0)) → b ≡ bits_of n → m < os2ip n → m < 2 ^ (b - 1 + 1)
+pub all_bits : (n : List ℕ) (b m : ℕ) → ModulusFacts n → ((i : ℕ) → Fits w8 (get_or n i 0)) → b ≡ bits_of n → m < octets_number n → m < 2 ^ (b - 1 + 1)
 all_bits n b m f fits e h =
     let d : b - 1 + 1 ≡ bits_of n = omega (arith, f.bits) in
-    let l : os2ip n < 2 ^ bits_of n = os2ip_most n fits (omega (arith, f.least)) f.first in
+    let l : octets_number n < 2 ^ bits_of n = octets_number_most n fits (omega (arith, f.least)) f.first in
     rw d (omega arith)

@@ -4,11 +4,11 @@ use Rattle.std.proofs.lemmas.Nat.{and_mask}
 use Rattle.std.proofs.lemmas.Bool.{cases_lt}
 use Rattle.std.proofs.lemmas.List.{ext_get_or, get_or_append_left, get_or-append_right, get_or-take, length-take-le}
 use Rattle.sha2.proofs.Facts256.{length-sha256}
-use Rattle.tough_rsa.specs.Bytes.{i2osp, xor_all}
-use Rattle.tough_rsa.specs.Pss.{mask_block, mask_blocks, mgf1, clear_bits}
+use Rattle.tough_modular.specs.Octets.{number_octets}
+use Rattle.tough_rsa.specs.Pss.{xor_all, mask_block, mask_blocks, mgf1, clear_bits}
 
-pub counter_bytes : (c : ℕ) → c < 256 → i2osp c 4 ≡ 0 ∷ 0 ∷ 0 ∷ c ∷ []
-unfolding i2osp
+pub counter_bytes : (c : ℕ) → c < 256 → number_octets c 4 ≡ 0 ∷ 0 ∷ 0 ∷ c ∷ []
+unfolding number_octets
 counter_bytes c h =
     let e3 : c / 256 ^ 3 % 256 ≡ 0 = omega arith in
     let e2 : c / 256 ^ 2 % 256 ≡ 0 = omega arith in
@@ -22,7 +22,7 @@ mask_at seed k = get_or (mask_block seed (k / 32)) (k % 32) 0
 length-blocks : (seed : List ℕ) (c n : ℕ) → length (mask_blocks seed c n) ≡ 32 * n
 unfolding mask_blocks
 length-blocks seed c zero = refl
-length-blocks seed c (suc n) = length-append (mask_block seed c) (mask_blocks seed (suc c) n) ∙ omega (arith, length-sha256 (seed ++ i2osp c 4), length-blocks seed (suc c) n)
+length-blocks seed c (suc n) = length-append (mask_block seed c) (mask_blocks seed (suc c) n) ∙ omega (arith, length-sha256 (seed ++ number_octets c 4), length-blocks seed (suc c) n)
 
 get_blocks : (seed : List ℕ) (c n k : ℕ) → k < 32 * n → get_or (mask_blocks seed c n) k 0 ≡ get_or (mask_block seed (c + k / 32)) (k % 32) 0
 unfolding mask_blocks
@@ -31,7 +31,7 @@ get_blocks seed c (suc n) k h = ⊎_elim (here seed c n k) (later seed c n k h (
   where
     here : (seed : List ℕ) (c n k : ℕ) → k < 32 → get_or (mask_block seed c ++ mask_blocks seed (suc c) n) k 0 ≡ get_or (mask_block seed (c + k / 32)) (k % 32) 0
     here seed c n k l =
-        let s : length (mask_block seed c) ≡ 32 = length-sha256 (seed ++ i2osp c 4) in
+        let s : length (mask_block seed c) ≡ 32 = length-sha256 (seed ++ number_octets c 4) in
         let d : c + k / 32 ≡ c = omega arith in
         let r : k % 32 ≡ k = omega arith in
         rw (d, r) (get_or_append_left (mask_block seed c) (mask_blocks seed (suc c) n) 0 k (omega arith))
@@ -39,7 +39,7 @@ get_blocks seed c (suc n) k h = ⊎_elim (here seed c n k) (later seed c n k h (
     later : (seed : List ℕ) (c n k : ℕ) → k < 32 * suc n → ((j : ℕ) → j < 32 * n → get_or (mask_blocks seed (suc c) n) j 0 ≡ get_or (mask_block seed (suc c + j / 32)) (j % 32) 0) → 32 ≤ k
         → get_or (mask_block seed c ++ mask_blocks seed (suc c) n) k 0 ≡ get_or (mask_block seed (c + k / 32)) (k % 32) 0
     later seed c n k h f l =
-        let s : length (mask_block seed c) ≡ 32 = length-sha256 (seed ++ i2osp c 4) in
+        let s : length (mask_block seed c) ≡ 32 = length-sha256 (seed ++ number_octets c 4) in
         let d : suc c + (k - 32) / 32 ≡ c + k / 32 = omega arith in
         let r : (k - 32) % 32 ≡ k % 32 = omega arith in
         get_or-append_right (mask_block seed c) (mask_blocks seed (suc c) n) 32 k 0 s l ∙ (rw (d, r) at (f (k - 32) (omega arith)))

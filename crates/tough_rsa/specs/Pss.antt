@@ -1,13 +1,13 @@
 -- EMSA-PSS with SHA-256, MGF1 over SHA-256 and a salt of 32 bytes (RFC 8017, 9.1.2 and B.2.1).
-use Rattle.std.specs.Prelude.{ℕ, zero, suc, ◌+◌, ◌-◌, ◌*◌, ◌/◌, ◌%◌, ◌^◌, Bool, ◌&&◌, nat_eq, nat_lt, nat_le, List, [], ◌∷◌, ◌++◌, length, take, drop, replicate, slice_index}
+use Rattle.std.specs.Prelude.{ℕ, zero, suc, ◌+◌, ◌-◌, ◌*◌, ◌/◌, ◌%◌, ◌^◌, Bool, ◌&&◌, nat_eq, nat_lt, nat_le, List, [], ◌∷◌, ◌++◌, length, take, drop, replicate, slice_index, bit_xor}
 use Rattle.std.specs.List.{list_all}
 use Rattle.std.specs.Str.{bytes_eq}
 use Rattle.sha2.specs.Sha256.{sha256}
-use Rattle.tough_rsa.specs.Bytes.{i2osp, xor_all}
+use Rattle.tough_modular.specs.Octets.{number_octets}
 
 -- the hash of the seed and a counter
 abbrev pub mask_block : List ℕ → ℕ → List ℕ
-mask_block seed counter = sha256 (seed ++ i2osp counter 4)
+mask_block seed counter = sha256 (seed ++ number_octets counter 4)
 
 -- T (B.2.1, 3): so many of them, from this counter on
 unfoldable pub mask_blocks : List ℕ → ℕ → ℕ → List ℕ
@@ -22,6 +22,12 @@ mgf1 seed len = take len (mask_blocks seed 0 ((len + 31) / 32))
 unfoldable pub clear_bits : ℕ → List ℕ → List ℕ
 clear_bits free [] = []
 clear_bits free (b ∷ bs) = (b % 2 ^ (8 - free)) ∷ bs
+
+-- byte by byte
+unfoldable pub xor_all : List ℕ → List ℕ → List ℕ
+xor_all [] ys = []
+xor_all (x ∷ xs) [] = []
+xor_all (x ∷ xs) (y ∷ ys) = bit_xor x y ∷ xor_all xs ys
 
 -- DB (7, 8, 9)
 abbrev pub unmasked : List ℕ → List ℕ → ℕ → List ℕ

@@ -1,7 +1,7 @@
 -- RSASSA-PSS-VERIFY (RFC 8017, 8.1.2), for a key of 2,048 to 8,192 bits.
 use Rattle.std.specs.Prelude.{ℕ, ◌+◌, ◌-◌, ◌*◌, ◌/◌, ◌%◌, ◌^◌, Bool, ◌&&◌, nat_eq, nat_lt, nat_le, List, length, slice_index}
 use Rattle.std.specs.Int.Count.{count_leading_zeros}
-use Rattle.tough_rsa.specs.Bytes.{os2ip, i2osp}
+use Rattle.tough_modular.specs.Octets.{octets_number, number_octets}
 use Rattle.tough_rsa.specs.Pss.{emsa_pss_verify}
 
 -- the bits of the number of bytes of which the first is not 0
@@ -24,17 +24,17 @@ is_exponent e = nat_eq (e % 2) 1 && nat_le 65537 e && nat_lt e (2 ^ 33)
 
 -- RSAVP1 (5.2.2): s ^ e mod n
 abbrev pub rsavp1 : List ℕ → ℕ → List ℕ → ℕ
-rsavp1 n e signature = os2ip signature ^ e % os2ip n
+rsavp1 n e signature = octets_number signature ^ e % octets_number n
 
 -- EM is m as so many bytes, where it is not too large (2, c)
 unfoldable pub is_encoding : List ℕ → ℕ → ℕ → Bool
 is_encoding message m bits =
-    nat_lt m (256 ^ bytes_for bits) && emsa_pss_verify message (i2osp m (bytes_for bits)) bits
+    nat_lt m (256 ^ bytes_for bits) && emsa_pss_verify message (number_octets m (bytes_for bits)) bits
 
 -- s is below n, and m is an encoding of the message in one bit less than n has
 unfoldable pub is_root : List ℕ → ℕ → List ℕ → List ℕ → Bool
 is_root n e message signature =
-    nat_lt (os2ip signature) (os2ip n) && is_encoding message (rsavp1 n e signature) (bits_of n - 1)
+    nat_lt (octets_number signature) (octets_number n) && is_encoding message (rsavp1 n e signature) (bits_of n - 1)
 
 unfoldable pub rsa_verifies : List ℕ → ℕ → List ℕ → List ℕ → Bool
 rsa_verifies n e message signature =

@@ -3,7 +3,6 @@
 //! Not here: signing, which needs a secret kept apart. Not promised: that nobody without the secret can sign.
 #![tactic(auto)]
 
-mod bytes;
 mod pss;
 mod signature;
 

@@ -3,8 +3,7 @@
 ghost use Rattle.std.specs.Prelude.{◌≡◌, ◌≢◌, ◌+◌, ◌-◌, ◌*◌, ◌/◌, ◌%◌, ◌^◌, ◌<◌, ◌≤◌, nat_eq, length, ◌++◌};
 ghost use Rattle.std.specs.List.{list_all};
 ghost use Rattle.sha2.specs.Sha256.{sha256};
-ghost use Rattle.tough_rsa.specs.Bytes.{xor_all};
-ghost use Rattle.tough_rsa.specs.Pss.{mask_block, mgf1, clear_bits, is_padded, salted_hash, is_consistent, halves_match, emsa_pss_verify};
+ghost use Rattle.tough_rsa.specs.Pss.{mask_block, xor_all, mgf1, clear_bits, is_padded, salted_hash, is_consistent, halves_match, emsa_pss_verify};
 
 use sha2::{Digest, Sha256};
 

@@ -2,12 +2,11 @@
 
 ghost use Rattle.std.specs.Prelude.{◌≡◌, ◌+◌, ◌-◌, ◌/◌, ◌%◌, ◌^◌, ◌<◌, ◌≤◌, true, nat_lt, length};
 ghost use Rattle.tough_modular.specs.Number.{number};
-ghost use Rattle.tough_rsa.specs.Bytes.{os2ip};
+ghost use Rattle.tough_modular.specs.Octets.{octets_number};
 ghost use Rattle.tough_rsa.specs.Rsa.{bits_of, bytes_for, is_modulus, is_exponent, is_encoding, is_root, rsavp1, rsa_verifies};
 
-use crate::bytes::{byte_of, set_bytes, set_number};
 use crate::pss::emsa_pss_verify;
-use tough_modular::{is_below, power};
+use tough_modular::{byte_of, is_below, power, set_bytes, set_number};
 
 // The bits of the number.
 fn bits_of(n: &[u8]) -> usize
@@ -66,12 +65,12 @@ fn set_power(root: &mut [u64], modulus: &mut [u64], n: &[u8], e: u64, signature:
     requires signature_length { length signature.now ≡ length n.now }
     requires least { 256 ≤ length n.now }
     requires most { length n.now ≤ 1024 }
-    requires odd { os2ip n.now % 2 ≡ 1 }
-    requires top { 256 ^ (length n.now - 1) ≤ os2ip n.now }
+    requires odd { octets_number n.now % 2 ≡ 1 }
+    requires top { 256 ^ (length n.now - 1) ≤ octets_number n.now }
     requires exponent { 0 < e }
-    ensures below { result ≡ nat_lt (os2ip signature.now) (os2ip n.now) }
+    ensures below { result ≡ nat_lt (octets_number signature.now) (octets_number n.now) }
     ensures power { result ≡ true → number root.new ≡ rsavp1 n.now e signature.now }
-    ensures least { result ≡ true → number root.new < os2ip n.now }
+    ensures least { result ≡ true → number root.new < octets_number n.now }
 {
     set_number(modulus, n);
     set_number(root, signature);

@@ -3,7 +3,7 @@ use Rattle.sha2.specs.Sha256.{sha256, first_words, schedule, rounds, compress, h
 use Rattle.tough_p256.specs.Field.{plus, minus, times}
 use Rattle.tough_p256.specs.Order.{product, power, inverse}
 use Rattle.tough_p256.specs.Curve.{is_on_curve, add, double, multiple}
-use Rattle.tough_p256.specs.Octets.{octets_number}
+use Rattle.tough_modular.specs.Octets.{octets_number}
 use Rattle.tough_p256.specs.Ecdsa.{has_x, ecdsa_verifies}
 use Rattle.tough_p256.proofs.laws.wrong_vector.Goals as goal
 

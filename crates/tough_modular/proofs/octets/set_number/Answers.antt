@@ -1,6 +1,6 @@
 use Rattle.std.proofs.Common.{arith}
-use Rattle.tough_rsa.proofs.Octets.{set_none, set_more, set_all}
-use Rattle.tough_rsa.proofs.bytes.set_number.Goals as goal
+use Rattle.tough_modular.proofs.OctetNumbers.{set_none, set_more, set_all}
+use Rattle.tough_modular.proofs.octets.set_number.Goals as goal
 
 pub loop-i-init : goal.loop-i-init
 loop-i-init c = set_none c.args.bytes.now

@@ -10,8 +10,8 @@ use Rattle.std.proofs.lemmas.List.{ext_get_or, get_or-drop}
 use Rattle.tough_modular.specs.Number.{number, weight}
 use Rattle.tough_modular.proofs.Numbers.{number_none, number_written, number_all, number-append, number_below, all_below, weight_none, weight_more}
 use Rattle.tough_modular.proofs.Products.{number_low}
-use Rattle.tough_rsa.specs.Bytes.{os2ip, i2osp}
-use Rattle.tough_rsa.specs.Places.{low_byte}
+use Rattle.tough_modular.specs.Octets.{octets_number, number_octets}
+use Rattle.tough_modular.specs.Places.{low_byte}
 
 pub weight_bytes : (i : ℕ) → weight i ≡ 256 ^ (8 * i)
 weight_bytes zero = weight_none
@@ -19,13 +19,13 @@ weight_bytes (suc i) =
     let e : 8 * suc i ≡ 8 + 8 * i = omega arith in
     rw (e, pow-add 256 8 (8 * i), ← add-one i, weight_more i, weight_bytes i) refl
 
-pub os2ip_none : os2ip [] ≡ 0
-unfolding os2ip
-os2ip_none = refl
+pub octets_number_none : octets_number [] ≡ 0
+unfolding octets_number
+octets_number_none = refl
 
-pub os2ip_first : (b : ℕ) (bs : List ℕ) → os2ip (b ∷ bs) ≡ b * 256 ^ length bs + os2ip bs
-unfolding os2ip
-os2ip_first b bs = refl
+pub octets_number_first : (b : ℕ) (bs : List ℕ) → octets_number (b ∷ bs) ≡ b * 256 ^ length bs + octets_number bs
+unfolding octets_number
+octets_number_first b bs = refl
 
 low_byte-is : (bs : List ℕ) (p : ℕ) → p < length bs → low_byte bs p ≡ get_or bs (length bs - 1 - p) 0
 unfolding low_byte
@@ -36,19 +36,19 @@ unfolding low_byte
 low_byte-past bs p h = let e : nat_lt p (length bs) ≡ false = grind (arith, nat_tests) in rw e refl
 
 -- the lowest bytes, one more
-low_more : (bs : List ℕ) (p q : ℕ) → q ≡ p + 1 → os2ip (drop (length bs - q) bs) ≡ os2ip (drop (length bs - p) bs) + 256 ^ p * low_byte bs p
+low_more : (bs : List ℕ) (p q : ℕ) → q ≡ p + 1 → octets_number (drop (length bs - q) bs) ≡ octets_number (drop (length bs - p) bs) + 256 ^ p * low_byte bs p
 low_more bs p q e = ⊎_elim (within bs p q e) (past bs p q e) (cases_lt p (length bs))
   where
-    within : (bs : List ℕ) (p q : ℕ) → q ≡ p + 1 → p < length bs → os2ip (drop (length bs - q) bs) ≡ os2ip (drop (length bs - p) bs) + 256 ^ p * low_byte bs p
+    within : (bs : List ℕ) (p q : ℕ) → q ≡ p + 1 → p < length bs → octets_number (drop (length bs - q) bs) ≡ octets_number (drop (length bs - p) bs) + 256 ^ p * low_byte bs p
     within bs p q e h =
         let i : ℕ = length bs - 1 - p in
         let j : length bs - q ≡ i = omega arith in
         let k : length bs - p ≡ suc i = omega arith in
         let l : length (drop (suc i) bs) ≡ p = omega (arith, length-drop (suc i) bs) in
         let m : i < length bs = omega arith in
-        rw (j, k, drop-cons bs i 0, os2ip_first (get_or bs i 0) (drop (suc i) bs), l, low_byte-is bs p h) (omega arith)
+        rw (j, k, drop-cons bs i 0, octets_number_first (get_or bs i 0) (drop (suc i) bs), l, low_byte-is bs p h) (omega arith)
 
-    past : (bs : List ℕ) (p q : ℕ) → q ≡ p + 1 → length bs ≤ p → os2ip (drop (length bs - q) bs) ≡ os2ip (drop (length bs - p) bs) + 256 ^ p * low_byte bs p
+    past : (bs : List ℕ) (p q : ℕ) → q ≡ p + 1 → length bs ≤ p → octets_number (drop (length bs - q) bs) ≡ octets_number (drop (length bs - p) bs) + 256 ^ p * low_byte bs p
     past bs p q e h =
         let j : length bs - q ≡ 0 = omega arith in
         let k : length bs - p ≡ 0 = omega arith in
@@ -63,7 +63,7 @@ eight_words P l0 l1 l2 l3 l4 l5 l6 l7 l8 b0 b1 b2 b3 b4 b5 b6 b7 e1 e2 e3 e4 e5 
 -- the lowest bytes, a word of them more
 pub word_more : (bs : List ℕ) (p w q : ℕ) → q ≡ p + 8
     → w ≡ low_byte bs p + 256 * (low_byte bs (p + 1) + 256 * (low_byte bs (p + 2) + 256 * (low_byte bs (p + 3) + 256 * (low_byte bs (p + 4) + 256 * (low_byte bs (p + 5) + 256 * (low_byte bs (p + 6) + 256 * low_byte bs (p + 7)))))))
-    → os2ip (drop (length bs - q) bs) ≡ os2ip (drop (length bs - p) bs) + 256 ^ p * w
+    → octets_number (drop (length bs - q) bs) ≡ octets_number (drop (length bs - p) bs) + 256 ^ p * w
 word_more bs p w q e f =
     let g1 : 256 ^ (p + 1) ≡ 256 ^ p * 256 = pow-add 256 p 1 in
     let g2 : 256 ^ (p + 2) ≡ 256 ^ p * 256 ^ 2 = pow-add 256 p 2 in
@@ -77,15 +77,15 @@ word_more bs p w q e f =
     (rw g3 at (low_more bs (p + 3) (p + 4) (omega arith))) (rw g4 at (low_more bs (p + 4) (p + 5) (omega arith))) (rw g5 at (low_more bs (p + 5) (p + 6) (omega arith)))
     (rw g6 at (low_more bs (p + 6) (p + 7) (omega arith))) (rw g7 at (low_more bs (p + 7) (p + 8) (omega arith))))
 
-pub set_none : (bs : List ℕ) → number [] ≡ os2ip (drop (length bs - 0) bs)
-set_none bs = rw (drop_all (length bs - 0) bs (omega arith), os2ip_none) number_none
+pub set_none : (bs : List ℕ) → number [] ≡ octets_number (drop (length bs - 0) bs)
+set_none bs = rw (drop_all (length bs - 0) bs (omega arith), octets_number_none) number_none
 
-pub set_more : (ws bs : List ℕ) (i w : ℕ) → i < length ws → number (take i ws) ≡ os2ip (drop (length bs - 8 * i) bs)
+pub set_more : (ws bs : List ℕ) (i w : ℕ) → i < length ws → number (take i ws) ≡ octets_number (drop (length bs - 8 * i) bs)
     → w ≡ low_byte bs (8 * i) + 256 * (low_byte bs (8 * i + 1) + 256 * (low_byte bs (8 * i + 2) + 256 * (low_byte bs (8 * i + 3) + 256 * (low_byte bs (8 * i + 4) + 256 * (low_byte bs (8 * i + 5) + 256 * (low_byte bs (8 * i + 6) + 256 * low_byte bs (8 * i + 7)))))))
-    → number (take (i + 1) (set ws i w)) ≡ os2ip (drop (length bs - 8 * (i + 1)) bs)
+    → number (take (i + 1) (set ws i w)) ≡ octets_number (drop (length bs - 8 * (i + 1)) bs)
 set_more ws bs i w h e f = number_written ws i w h ∙ (rw (e, weight_bytes i) (sym (word_more bs (8 * i) w (8 * (i + 1)) (omega arith) f)))
 
-pub set_all : (ws bs : List ℕ) (i : ℕ) → length ws ≤ i → length bs ≤ 8 * length ws → number (take i ws) ≡ os2ip (drop (length bs - 8 * i) bs) → number ws ≡ os2ip bs
+pub set_all : (ws bs : List ℕ) (i : ℕ) → length ws ≤ i → length bs ≤ 8 * length ws → number (take i ws) ≡ octets_number (drop (length bs - 8 * i) bs) → number ws ≡ octets_number bs
 set_all ws bs i h k e =
     let z : length bs - 8 * i ≡ 0 = omega arith in
     sym (number_all ws i h) ∙ (rw z at e)
@@ -134,17 +134,17 @@ byte_past xs p f h =
     let s : number xs < 256 ^ p = omega arith in
     rw (div-eq_of_lt s) refl
 
-get_i2osp : (n len k : ℕ) → k < len → get_or (i2osp n len) k 0 ≡ n / 256 ^ (len - 1 - k) % 256
-unfolding i2osp
-get_i2osp n zero k h = absurd (omega arith)
-get_i2osp n (suc len) zero h = let e : suc len - 1 - 0 ≡ len = omega arith in rw e refl
-get_i2osp n (suc len) (suc k) h = let e : suc len - 1 - suc k ≡ len - 1 - k = omega arith in rw e (get_i2osp n len k (omega arith))
+get_number_octets : (n len k : ℕ) → k < len → get_or (number_octets n len) k 0 ≡ n / 256 ^ (len - 1 - k) % 256
+unfolding number_octets
+get_number_octets n zero k h = absurd (omega arith)
+get_number_octets n (suc len) zero h = let e : suc len - 1 - 0 ≡ len = omega arith in rw e refl
+get_number_octets n (suc len) (suc k) h = let e : suc len - 1 - suc k ≡ len - 1 - k = omega arith in rw e (get_number_octets n len k (omega arith))
 
-pub length-i2osp : (n len : ℕ) → length (i2osp n len) ≡ len
-unfolding i2osp
-length-i2osp n zero = refl
-length-i2osp n (suc len) = ap suc (length-i2osp n len)
+pub length-number_octets : (n len : ℕ) → length (number_octets n len) ≡ len
+unfolding number_octets
+length-number_octets n zero = refl
+length-number_octets n (suc len) = ap suc (length-number_octets n len)
 
-pub bytes_all : (bs : List ℕ) (n i len : ℕ) → length bs ≡ len → len ≤ i → ((k : ℕ) → k < i → get_or bs k 0 ≡ n / 256 ^ (len - 1 - k) % 256) → bs ≡ i2osp n len
+pub bytes_all : (bs : List ℕ) (n i len : ℕ) → length bs ≡ len → len ≤ i → ((k : ℕ) → k < i → get_or bs k 0 ≡ n / 256 ^ (len - 1 - k) % 256) → bs ≡ number_octets n len
 bytes_all bs n i len e h f =
-    ext_get_or 0 bs (i2osp n len) (e ∙ sym (length-i2osp n len)) (λ k l. f k (omega arith) ∙ sym (get_i2osp n len k (omega arith)))
+    ext_get_or 0 bs (number_octets n len) (e ∙ sym (length-number_octets n len)) (λ k l. f k (omega arith) ∙ sym (get_number_octets n len k (omega arith)))

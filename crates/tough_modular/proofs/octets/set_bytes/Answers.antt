@@ -1,7 +1,7 @@
 use Rattle.std.proofs.Common.{◌≢◌, ◌<◌, length, arith, below_more, get_or-set_other, get_or-set_same}
 use Rattle.tough_modular.specs.Number.{number}
-use Rattle.tough_rsa.proofs.Octets.{bytes_all}
-use Rattle.tough_rsa.proofs.bytes.set_bytes.Goals as goal
+use Rattle.tough_modular.proofs.OctetNumbers.{bytes_all}
+use Rattle.tough_modular.proofs.octets.set_bytes.Goals as goal
 
 pub loop-i-preserved : goal.loop-i-preserved
 loop-i-preserved c =

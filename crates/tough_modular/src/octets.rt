@@ -2,8 +2,8 @@
 
 ghost use Rattle.std.specs.Prelude.{◌≡◌, ◌+◌, ◌*◌, ◌/◌, ◌%◌, ◌^◌, ◌<◌, ◌≤◌, length};
 ghost use Rattle.tough_modular.specs.Number.{number};
-ghost use Rattle.tough_rsa.specs.Bytes.{os2ip, i2osp};
-ghost use Rattle.tough_rsa.specs.Places.{low_byte};
+ghost use Rattle.tough_modular.specs.Octets.{octets_number, number_octets};
+ghost use Rattle.tough_modular.specs.Places.{low_byte};
 
 // The byte at this place from the end, and 0 before the first.
 #[tactic(auto, unfolding(crate::specs::Places::low_byte))]
@@ -40,7 +40,7 @@ fn word_from_end(bytes: &[u8], place: usize) -> u64
 pub fn set_number(words: &mut [u64], bytes: &[u8])
     requires room { length bytes.now ≤ 8 * length words.old }
     requires most { length words.old ≤ 128 }
-    ensures { number words.new ≡ os2ip bytes.now }
+    ensures { number words.new ≡ octets_number bytes.now }
 {
     for i in 0..words.len() {
         words[i] = word_from_end(bytes, 8 * i);
@@ -60,7 +60,7 @@ pub fn byte_of(words: &[u64], place: usize) -> u8
 
 /// Sets the lowest bytes of the number.
 pub fn set_bytes(bytes: &mut [u8], words: &[u64])
-    ensures { bytes.new ≡ i2osp (number words.now) (length bytes.old) }
+    ensures { bytes.new ≡ number_octets (number words.now) (length bytes.old) }
 {
     let len = bytes.len();
     for i in 0..len {
