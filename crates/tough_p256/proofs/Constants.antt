@@ -35,3 +35,7 @@ order_form = refl
 pub room_words : number (0xc46353d039cdaae ∷ 0x4319055358e8617b ∷ 0x0 ∷ 0x0 ∷ []) ≡ prime - order
 unfolding number
 room_words = refl
+
+pub less_two_words : number (0xffff_ffff_ffff_fffd ∷ 0xffff_ffff ∷ 0 ∷ 0xffff_ffff_0000_0001 ∷ []) ≡ prime - 2
+unfolding number
+less_two_words = refl

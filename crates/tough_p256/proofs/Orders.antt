@@ -2,12 +2,16 @@
 use Rattle.std.proofs.Common.{◌≡◌, ℕ, ◌+◌, ◌-◌, ◌*◌, ◌/◌, ◌%◌, ◌^◌, ◌<◌, [], ◌∷◌, nat_eq, refl, arith, add-one}
 use Rattle.std.proofs.lemmas.Nat.{shr-shr}
 use Rattle.tough_modular.specs.Number.{number, weight, IsModulus}
-use Rattle.tough_p256.specs.Order.{order, order_unit, product, product_if, power}
+use Rattle.tough_p256.specs.Order.{order, order_unit, sum, product, product_if, power}
 use Rattle.tough_p256.proofs.Products.{product_of}
 
 pub product_in : (z l r : ℕ) → z ≡ (l * r * order_unit) % order → (z * order_unit) % order ≡ product ((l * order_unit) % order) ((r * order_unit) % order)
 unfolding product
 product_in z l r e = product_of z l r order_unit order e
+
+pub sum_in : (z l r : ℕ) → z ≡ (l + r) % order → (z * order_unit) % order ≡ sum ((l * order_unit) % order) ((r * order_unit) % order)
+unfolding sum
+sum_in z l r e = omega arith
 
 pub order_words : number (0xf3b9cac2fc632551 ∷ 0xbce6faada7179e84 ∷ 0xffffffffffffffff ∷ 0xffffffff00000000 ∷ []) ≡ order
 unfolding number

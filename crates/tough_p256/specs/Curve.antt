@@ -1,6 +1,6 @@
 -- The curve P-256, y² = x³ - 3x + b, and the sums of its points (SP 800-186, 3.2.1.3).
 use Rattle.std.specs.Prelude.{ℕ, zero, suc, ◌/◌, ◌%◌, Bool, true, false, nat_eq}
-use Rattle.tough_p256.specs.Field.{plus, minus, times}
+use Rattle.tough_p256.specs.Field.{plus, minus, times, inverse}
 
 -- a point: x / z and y / z are its coordinates, and z is 0 at infinity
 pub record Coordinates : Type 0 where
@@ -92,3 +92,10 @@ add_if true p q = add q p
 unfoldable pub multiple : ℕ → ℕ → Coordinates → Coordinates
 multiple zero n p = neutral
 multiple (suc k) n p = add_if (nat_eq (n % 2) 1) p (double (multiple k (n / 2) p))
+
+-- the coordinates of its own, for a point that isn't at infinity
+abbrev pub affine_x : Coordinates → ℕ
+affine_x p = times p.x (inverse p.z)
+
+abbrev pub affine_y : Coordinates → ℕ
+affine_y p = times p.y (inverse p.z)

@@ -5,7 +5,7 @@ ghost use Rattle.tough_modular.specs.Number.{number};
 ghost use Rattle.tough_p256.specs.Ecdsa.{has_x};
 ghost use Rattle.tough_p256.specs.Field.{times};
 ghost use Rattle.tough_p256.specs.Order.{order};
-ghost use Rattle.tough_p256.specs.Curve.{base, affine, neutral, cross, is_on_curve, add, double, add_if, multiple};
+ghost use Rattle.tough_p256.specs.Curve.{base, affine, neutral, cross, affine_x, affine_y, is_on_curve, add, double, add_if, multiple};
 
 use crate::bits::bit;
 use crate::element::{Element, room};
@@ -66,6 +66,15 @@ impl Point {
             y: Element::one(),
             z: Element::zero(),
         }
+    }
+
+    /// Its coordinates of its own, `x / z` and `y / z`.
+    pub fn to_affine(&self) -> (Element, Element)
+        ensures x { result.0 ≡ affine_x self.now }
+        ensures y { result.1 ≡ affine_y self.now }
+    {
+        let inverse = self.z.invert();
+        (self.x.mul(&inverse), self.y.mul(&inverse))
     }
 
     // Whether the number is its first coordinate.

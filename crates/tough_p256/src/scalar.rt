@@ -1,11 +1,11 @@
 //! Numbers modulo the order.
 
-ghost use Rattle.std.specs.Prelude.{◌≡◌, ◌-◌, ◌*◌, ◌%◌, ◌<◌};
+ghost use Rattle.std.specs.Prelude.{◌≡◌, ◌+◌, ◌-◌, ◌*◌, ◌%◌, ◌<◌};
 ghost use Rattle.tough_modular.specs.Number.{number};
-ghost use Rattle.tough_p256.specs.Order.{order, order_unit, product, product_if, power, inverse};
+ghost use Rattle.tough_p256.specs.Order.{order, order_unit, sum, product, product_if, power, inverse};
 
 use crate::bits::bit;
-use crate::residues::times_of;
+use crate::residues::{plus_of, times_of};
 use std::marker::Model;
 
 /// A number modulo the order, as words that stand for 2^256 times it.
@@ -39,6 +39,16 @@ pub fn order() -> [u64; 4]
     ensures { number result ≡ order }
 {
     ORDER
+}
+
+// The sum of the words.
+fn plus_words(left: &[u64; 4], right: &[u64; 4]) -> [u64; 4]
+    requires left { number left.now < order }
+    requires right { number right.now < order }
+    ensures sum { number result ≡ (number left.now + number right.now) % order }
+    ensures below { number result < order }
+{
+    plus_of(left, right, &ORDER)
 }
 
 // The product of the words, divided by 2^256.
@@ -114,6 +124,15 @@ impl Scalar {
     {
         Scalar {
             words: [0x0c46_353d_039c_daaf, 0x4319_0552_58e8_617b, 0, 0xffff_ffff],
+        }
+    }
+
+    /// The sum modulo the order.
+    pub fn add(&self, other: &Scalar) -> Scalar
+        ensures { result ≡ sum self.now other.now }
+    {
+        Scalar {
+            words: plus_words(&self.words, &other.words),
         }
     }
 

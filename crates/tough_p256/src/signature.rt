@@ -32,8 +32,8 @@ fn no_words() -> [u64; 4]
     [0, 0, 0, 0]
 }
 
-// Whether the number is in the range of a half of a signature.
-fn is_scalar(words: &[u64; 4]) -> bool
+/// Whether the number is in the range of a half of a signature.
+pub fn is_scalar(words: &[u64; 4]) -> bool
     ensures test { result ≡ is_scalar (number words.now) }
     ensures below { result ≡ true → number words.now < order }
 {
@@ -43,8 +43,8 @@ fn is_scalar(words: &[u64; 4]) -> bool
     is_below(words, &order())
 }
 
-// The number that is signed.
-fn message_number(message: &[u8]) -> Scalar
+/// The number that is signed.
+pub fn message_number(message: &[u8]) -> Scalar
     ensures { result ≡ message_number message.now }
 {
     Scalar::reduce(&words_of(&Sha256::digest(message)))
