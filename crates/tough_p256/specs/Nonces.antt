@@ -1,5 +1,6 @@
 -- The candidates for the nonce of a signature (RFC 6979, 3.2), with HMAC over SHA-256.
 use Rattle.std.specs.Prelude.{ℕ, List, ◌∷◌, ◌++◌, replicate}
+use Rattle.tough_modular.specs.Octets.{octets_number}
 use Rattle.tough_p256.specs.Hmac.{hmac}
 
 -- K and V
@@ -22,3 +23,7 @@ blank = record { key = replicate 32 0; value = replicate 32 1 }
 -- b to g, of int2octets(x) and bits2octets(h1)
 abbrev pub generator : List ℕ → List ℕ → Generator
 generator x h = reseeded (reseeded blank (0 ∷ x ++ h)) (1 ∷ x ++ h)
+
+-- bits2int(V) (h.3)
+abbrev pub candidate : Generator → ℕ
+candidate g = octets_number g.value

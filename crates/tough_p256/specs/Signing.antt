@@ -4,7 +4,7 @@ use Rattle.tough_modular.specs.Octets.{octets_number, number_octets}
 use Rattle.tough_p256.specs.Order.{order, sum, product, inverse}
 use Rattle.tough_p256.specs.Curve.{Coordinates, base, multiple, affine_x, affine_y}
 use Rattle.tough_p256.specs.Ecdsa.{is_scalar, message_number, is_signature}
-use Rattle.tough_p256.specs.Nonces.{Generator, generator, next, reseeded}
+use Rattle.tough_p256.specs.Nonces.{Generator, generator, next, reseeded, candidate}
 
 -- d is in [1, n - 1] (6.2)
 abbrev pub is_secret : List ℕ → Bool
@@ -48,7 +48,7 @@ or_else (Some h) o = Some h
 -- by the first candidate of so many that gives some (RFC 6979, 3.2, h)
 unfoldable pub halves_from : ℕ → ℕ → ℕ → Generator → Option Halves
 halves_from zero d e g = None
-halves_from (suc tries) d e g = or_else (halves_by d e (octets_number (next g).value)) (halves_from tries d e (reseeded (next g) (0 ∷ [])))
+halves_from (suc tries) d e g = or_else (halves_by d e (candidate (next g))) (halves_from tries d e (reseeded (next g) (0 ∷ [])))
 
 -- of the secret and e, with 16 candidates
 abbrev pub halves_of : List ℕ → ℕ → Option Halves

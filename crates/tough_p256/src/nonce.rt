@@ -2,8 +2,7 @@
 
 ghost use Rattle.std.specs.Prelude.{◌≡◌, ◌∷◌, ◌++◌};
 ghost use Rattle.tough_modular.specs.Number.{number};
-ghost use Rattle.tough_modular.specs.Octets.{octets_number};
-ghost use Rattle.tough_p256.specs.Nonces.{generator, blank, next, reseeded};
+ghost use Rattle.tough_p256.specs.Nonces.{generator, blank, next, reseeded, candidate};
 
 use crate::hmac::{hmac, hmac_of_pieces};
 use crate::octets::words_of;
@@ -65,7 +64,7 @@ impl Generator {
 
     /// The candidate.
     pub fn candidate(&self) -> [u64; 4]
-        ensures { number result ≡ octets_number self.now.value }
+        ensures { number result ≡ candidate self.now }
     {
         words_of(&self.value)
     }
