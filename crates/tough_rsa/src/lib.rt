@@ -3,6 +3,7 @@
 //! Not here: signing, which needs a secret kept apart. Not promised: that nobody without the secret can sign.
 #![tactic(auto)]
 
+pub mod laws;
 mod pss;
 mod signature;
 
