@@ -10,4 +10,4 @@ mod sums;
 
 pub use octets::{byte_of, set_bytes, set_number};
 pub use raising::power;
-pub use sums::is_below;
+pub use sums::{add_product_to, is_below, sub_with_borrow};

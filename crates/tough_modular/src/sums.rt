@@ -14,16 +14,16 @@ fn mul_wide(left: u64, right: u64) -> u128
     left as u128 * right as u128
 }
 
-// The sum of a word, a product and a carry, and what is carried on.
-fn add_product_to(word: u64, left: u64, right: u64, carry: u64) -> (u64, u64)
+/// The sum of a word, a product and a carry, and what is carried on.
+pub fn add_product_to(word: u64, left: u64, right: u64, carry: u64) -> (u64, u64)
     ensures { result.0 + 2 ^ 64 * result.1 ≡ word + left * right + carry }
 {
     let sum = mul_wide(left, right) + word as u128 + carry as u128;
     ((sum & LOW) as u64, (sum >> 64) as u64)
 }
 
-// The difference of two words and a borrow, and what is borrowed from the next.
-fn sub_with_borrow(left: u64, right: u64, borrow: u64) -> (u64, u64)
+/// The difference of two words and a borrow, and what is borrowed from the next.
+pub fn sub_with_borrow(left: u64, right: u64, borrow: u64) -> (u64, u64)
     requires { borrow < 2 }
     ensures difference { result.0 + right + borrow ≡ left + 2 ^ 64 * result.1 }
     ensures borrow { result.1 < 2 }

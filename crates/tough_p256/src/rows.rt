@@ -1,36 +1,12 @@
 //! Steps of sums and products of numbers in four words, each written out.
 
-ghost use Rattle.std.specs.Prelude.{◌≡◌, ℕ, ◌+◌, ◌-◌, ◌*◌, ◌%◌, ◌^◌, ◌<◌, ◌≤◌, length, slice_index};
+ghost use Rattle.std.specs.Prelude.{◌≡◌, ℕ, ◌+◌, ◌*◌, ◌%◌, ◌^◌, ◌<◌, length, slice_index};
 ghost use Rattle.tough_modular.specs.Number.{number, number_with, weight, IsModulus};
+
+use tough_modular::{add_product_to, sub_with_borrow};
 
 // The lowest 64 bits.
 const LOW: u128 = 0xffff_ffff_ffff_ffff;
-
-// The whole product.
-fn mul_wide(left: u64, right: u64) -> u128
-    ensures product { result ≡ left * right }
-    ensures most { result ≤ (2 ^ 64 - 1) * (2 ^ 64 - 1) }
-{
-    left as u128 * right as u128
-}
-
-// The sum of a word, a product and a carry, and what is carried on.
-fn add_product_to(word: u64, left: u64, right: u64, carry: u64) -> (u64, u64)
-    ensures { result.0 + 2 ^ 64 * result.1 ≡ word + left * right + carry }
-{
-    let sum = mul_wide(left, right) + word as u128 + carry as u128;
-    ((sum & LOW) as u64, (sum >> 64) as u64)
-}
-
-// The difference of two words and a borrow, and what is borrowed from the next.
-fn sub_with_borrow(left: u64, right: u64, borrow: u64) -> (u64, u64)
-    requires { borrow < 2 }
-    ensures difference { result.0 + right + borrow ≡ left + 2 ^ 64 * result.1 }
-    ensures borrow { result.1 < 2 }
-{
-    let difference = left as u128 + (1 << 64) - right as u128 - borrow as u128;
-    ((difference & LOW) as u64, 1 - (difference >> 64) as u64)
-}
 
 // The lower and the higher word of the sum of three.
 fn sum_of_three(first: u64, second: u64, third: u64) -> (u64, u64)
