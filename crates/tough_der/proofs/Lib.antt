@@ -1,0 +1,6 @@
+pub mod Options
+pub mod Lengths
+pub mod Elements
+pub mod Integers
+pub mod Read
+pub mod Fixed

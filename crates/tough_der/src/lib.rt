@@ -1,0 +1,13 @@
+//! Distinguished encodings (X.690) of keys and signatures, read exactly: a reader answers a value where the bytes are its encoding, and none
+//! where they are the encoding of none.
+#![tactic(auto)]
+
+mod element;
+mod integer;
+mod public;
+mod secret;
+mod signature;
+
+pub use public::{read_ed25519, read_p256, read_rsa};
+pub use secret::{read_ed25519_secret, read_p256_secret};
+pub use signature::read_signature;
