@@ -4,3 +4,4 @@ pub mod Elements
 pub mod Integers
 pub mod Read
 pub mod Fixed
+pub mod Pems

@@ -4,6 +4,7 @@
 
 mod element;
 mod integer;
+mod pem;
 mod public;
 mod secret;
 mod signature;
