@@ -8,7 +8,7 @@ use Rattle.std.proofs.lemmas.Slice.Eq.{bytes_eq-Decides}
 use Rattle.tough_der.specs.Der.{length_octets, der}
 use Rattle.tough_der.specs.Reading.{length_at, split, element, if_last, whole, after, of_length}
 use Rattle.tough_der.proofs.Options.{if_some, unless_some, and_then_some}
-use Rattle.tough_der.proofs.Lengths.{IsBytes, same, yes, length_sound, length_complete}
+use Rattle.tough_der.proofs.Lengths.{IsBytes, same, yes, zero_octets, length_sound, length_complete}
 
 -- ---- bytes
 
@@ -125,3 +125,15 @@ length_some n bs c e =
 
 pub some_length : (bs : List ℕ) (n : ℕ) → length bs ≡ n → of_length n bs ≡ Some bs
 some_length bs n h = rw (h, yes n) refl
+
+-- ---- short elements
+
+short : (tag : ℕ) (c : List ℕ) → length c < 128 → der tag c ≡ tag ∷ length c ∷ c
+short tag c h = ap (λ (z : List ℕ). tag ∷ (z ++ c)) (zero_octets (length c) h)
+
+-- a tag, a length and contents that were appended are the element
+pub appended : (old a b c bytes : List ℕ) (tag n : ℕ) → a ≡ old ++ tag ∷ [] → b ≡ a ++ n ∷ [] → c ≡ b ++ bytes → n ≡ length bytes → length bytes < 128 → c ≡ old ++ der tag bytes
+appended old a b c bytes tag n p q r e h =
+    let x : c ≡ ((old ++ tag ∷ []) ++ n ∷ []) ++ bytes = r ∙ ap (λ (z : List ℕ). z ++ bytes) (q ∙ ap (λ (z : List ℕ). z ++ n ∷ []) p) in
+    let y : ((old ++ tag ∷ []) ++ n ∷ []) ++ bytes ≡ old ++ (tag ∷ n ∷ bytes) = append_assoc (old ++ tag ∷ []) (n ∷ []) bytes ∙ append_assoc old (tag ∷ []) (n ∷ bytes) in
+    x ∙ (y ∙ ap (λ (z : List ℕ). old ++ z) (ap (λ (m : ℕ). tag ∷ m ∷ bytes) e ∙ sym (short tag bytes h)))

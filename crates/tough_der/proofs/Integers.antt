@@ -185,3 +185,20 @@ bytes_shortened (c ∷ cs) b h = step (nat_eq b 0 && nat_lt c 128) refl (bytes_s
         let z : b ≡ 0 = is_0 b (and_left (nat_eq b 0) (nat_lt c 128) e) in
         (omega arith, ih (rw e at h))
     step false e ih = rw e at h
+
+-- ---- shortening step by step
+
+pub without_first : (x y : ℕ) (zs : List ℕ) → x ≡ 0 → y < 128 → shorten (x ∷ y ∷ zs) ≡ shorten (y ∷ zs)
+unfolding shorten
+without_first x y zs e h = rw (e, lt-ltb y 128 h) refl
+
+pub rest_kept : (xs : List ℕ) → (1 < length xs → slice_index xs 0 ≡ 0 → 128 ≤ slice_index xs 1) → shorten xs ≡ xs
+unfolding shorten
+rest_kept [] h = refl
+rest_kept (x ∷ []) h = refl
+rest_kept (x ∷ y ∷ zs) h = step (nat_eq x 0) (nat_lt y 128) refl refl
+  where
+    step : (s t : Bool) → nat_eq x 0 ≡ s → nat_lt y 128 ≡ t → shorten (x ∷ y ∷ zs) ≡ x ∷ y ∷ zs
+    step true true e f = absurd (let l = h (omega arith) (is_0 x e) in let m = ltb-true y 128 f in omega arith)
+    step true false e f = rw (e, f) refl
+    step false t e f = rw e refl

@@ -25,7 +25,7 @@ not_zero : (a : ℕ) → 0 < a → nat_eq a 0 ≡ false
 not_zero zero h = absurd (omega arith)
 not_zero (suc a) h = eqb-suc-zero a
 
-zero_octets : (n : ℕ) → n < 128 → length_octets n ≡ n ∷ []
+pub zero_octets : (n : ℕ) → n < 128 → length_octets n ≡ n ∷ []
 unfolding length_octets
 zero_octets n h = rw (lt-ltb n 128 h) refl
 

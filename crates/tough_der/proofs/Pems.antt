@@ -1,6 +1,6 @@
 -- Textual encodings: what is read is what was written.
-use Rattle.std.proofs.Common.{◌≡◌, ℕ, zero, suc, ◌+◌, ◌-◌, ◌*◌, ◌/◌, ◌%◌, ◌<◌, ◌≤◌, Bool, true, false, cond, not, ◌&&◌, nat_lt, nat_eq, List, [], ◌∷◌, ◌++◌, length, get_or, take, drop, replicate, slice_index, Some, None, Result, Ok, Err, refl, sym, ap, ◌∙◌, subst, arith, length-append, append_assoc, take-append-drop}
-use Rattle.std.specs.Prelude.{Option, option_and_then, if◌then◌else◌, codes, filter}
+use Rattle.std.proofs.Common.{◌≡◌, ℕ, zero, suc, ◌+◌, ◌*◌, ◌/◌, ◌%◌, ◌<◌, ◌≤◌, Bool, true, false, not, ◌&&◌, nat_lt, List, [], ◌∷◌, ◌++◌, length, take, drop, replicate, slice_index, Some, None, Result, Ok, Err, refl, sym, ap, ◌∙◌, subst, arith, length-append, append_assoc, take-append-drop}
+use Rattle.std.specs.Prelude.{codes}
 use Rattle.std.specs.List.{list_all, position, position_or_len}
 use Rattle.std.proofs.lemmas.Bool.{lt-ltb, le-ltb, eqb-true}
 use Rattle.std.proofs.lemmas.List.{length-replicate}
@@ -190,3 +190,28 @@ pem_sound label text bytes b e =
     decoded : {E : Type 0} (r : Result (List ℕ) E) → bytes_or_none r ≡ Some bytes → r ≡ Ok bytes
     decoded (Ok x) e = let q : x ≡ bytes = cc (e) in ap (λ (z : List ℕ). Ok z) q
     decoded (Err x) e = absurd (cc)
+
+-- ---- writing
+
+lines_step : (room : ℕ) (cs : List ℕ) → list_all (λ b. is_symbol b && not (is_dash b)) cs ≡ true → squeezed (in_lines room cs) ≡ cs
+lines_step room [] h = refl
+lines_step zero (c ∷ cs) h =
+    let a : (is_symbol c && not (is_dash c)) ≡ true = and_left (is_symbol c && not (is_dash c)) (list_all (λ b. is_symbol b && not (is_dash b)) cs) h in
+    let b : is_symbol c ≡ true = and_left (is_symbol c) (not (is_dash c)) a in
+    let d = and_right (is_symbol c && not (is_dash c)) (list_all (λ b. is_symbol b && not (is_dash b)) cs) h in
+    rw b (ap (λ (z : List ℕ). c ∷ z) (lines_step 63 cs d))
+lines_step (suc room) (c ∷ cs) h =
+    let a : (is_symbol c && not (is_dash c)) ≡ true = and_left (is_symbol c && not (is_dash c)) (list_all (λ b. is_symbol b && not (is_dash b)) cs) h in
+    let b : is_symbol c ≡ true = and_left (is_symbol c) (not (is_dash c)) a in
+    let d = and_right (is_symbol c && not (is_dash c)) (list_all (λ b. is_symbol b && not (is_dash b)) cs) h in
+    rw b (ap (λ (z : List ℕ). c ∷ z) (lines_step room cs d))
+
+pub pem_written : (label bytes : List ℕ) → IsPem label (pem_text label bytes) bytes
+unfolding pem_text
+pem_written label bytes = record {
+  inner = 10 ∷ in_lines 64 (encode_of standard bytes);
+  rest = 10 ∷ [];
+  is = refl;
+  symbols = lines_step 64 (encode_of standard bytes) (encode_clean bytes);
+  spaces = refl;
+}

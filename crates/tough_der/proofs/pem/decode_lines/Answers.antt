@@ -1,7 +1,7 @@
-use Rattle.std.proofs.Common.{◌≡◌, ◌<◌, ◌≤◌, List, ℕ, length, take, Option, Some, None, arith, ◌∙◌}
+use Rattle.std.proofs.Common.{◌≡◌, ℕ, take, Option, Some, None, arith, ◌∙◌}
 use Rattle.std.specs.Prelude.{IfSome, IfNone}
 use Rattle.std.proofs.lemmas.List.{length-take-le}
-use Rattle.tough_der.specs.Pem.{squeezed, symbols_of, bytes_or_none}
+use Rattle.tough_der.specs.Pem.{symbols_of}
 use Rattle.tough_der.proofs.Pems.{symbols_none, symbols_is}
 use Rattle.tough_der.proofs.pem.decode_lines.Goals as goal
 

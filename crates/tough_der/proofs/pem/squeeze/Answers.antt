@@ -1,6 +1,6 @@
 use Rattle.std.proofs.Common.{◌≡◌, ℕ, ◌+◌, ◌<◌, Bool, true, cond, List, [], ◌∷◌, ◌++◌, length, get_or, take, drop, ap, sym, ◌∙◌, arith, rules, length-append, take-append-drop}
 use Rattle.std.proofs.lemmas.List.Elements.{filter_more, filter-append}
-use Rattle.tough_der.specs.Pem.{is_space, is_symbol, squeezed}
+use Rattle.tough_der.specs.Pem.{is_symbol, squeezed}
 use Rattle.tough_der.proofs.pem.squeeze.Goals as goal
 
 -- a symbol that comes makes one more
