@@ -162,3 +162,19 @@ rsa_complete n e h k l =
 pub rsa_some : (bs : List ℕ) (o : Option (Bor (List ℕ) × ℕ)) → IsBytes bs → key_view o ≡ rsa_key_of bs → IfSome o (λ k. bs ≡ spki_rsa k.0.now k.1)
 rsa_some bs None h e = tt
 rsa_some bs (Some k) h e = rsa_sound bs k.0.now k.1 h (sym e)
+
+pub rsa_fits : (n : List ℕ) (e : ℕ) → length n ≤ 1024 → length (spki_rsa n e) ≤ 3072
+unfolding spki_rsa
+rsa_fits n e h =
+    let x : List ℕ = to_be_bytes w64 e in
+    let a = shorter (0 ∷ n) in
+    let b : length (shorten (0 ∷ x)) ≤ 9 = shorter (0 ∷ x) in
+    let c = der_few 2 (shorten (0 ∷ n)) in
+    let d = der_few 2 (shorten (0 ∷ x)) in
+    let f = length-append (der 2 (shorten (0 ∷ n))) (der 2 (shorten (0 ∷ x))) in
+    let g = der_few 0x30 (der 2 (shorten (0 ∷ n)) ++ der 2 (shorten (0 ∷ x))) in
+    let i = der_few 3 (0 ∷ rsa_public_key n e) in
+    let j = length-append (der_sequence (der_oid rsa_encryption ++ der_null)) (der 3 (0 ∷ rsa_public_key n e)) in
+    let k = der_few 0x30 (der_sequence (der_oid rsa_encryption ++ der_null) ++ der 3 (0 ∷ rsa_public_key n e)) in
+    let l = algorithm_few in
+    omega arith

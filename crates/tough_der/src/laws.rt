@@ -2,6 +2,7 @@
 
 ghost use Rattle.std.specs.Prelude.{◌≡◌, ◌≤◌, ℕ, List, length, Some};
 ghost use Rattle.base64.specs.GeneralPurpose.{IsBytes};
+ghost use Rattle.tough_der.specs.Der.{spki_rsa};
 ghost use Rattle.tough_der.specs.Pem.{IsPem, pem_of, pem_text};
 
 /// A text that is read is the text of the bytes.
@@ -19,4 +20,9 @@ pub fn pem_is_read()
 /// What is written is the text of the bytes, and is read back.
 pub fn written_is_pem()
     ensures { (label bytes : List ℕ) → IsPem label (pem_text label bytes) bytes }
+{}
+
+/// The key of a modulus of 1,024 bytes or fewer has a text that is read.
+pub fn rsa_key_fits()
+    ensures { (n : List ℕ) (e : ℕ) → length n ≤ 1024 → length (spki_rsa n e) ≤ 3072 }
 {}

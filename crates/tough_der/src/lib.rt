@@ -10,6 +10,8 @@ mod pem;
 mod public;
 mod secret;
 mod signature;
+#[cfg(test)]
+mod tests;
 mod write;
 
 pub use lines::write_pem;
