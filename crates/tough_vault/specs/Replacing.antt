@@ -41,6 +41,16 @@ abbrev pub removals_after : Replaced → ℕ → ℕ
 removals_after (Unwritten e) before = before
 removals_after (Written one two) before = (before + 2) % 2 ^ 64
 
+-- the count of a device's failures after a call with this outcome
+abbrev pub count_after : Result Unit StoreError → ℕ → ℕ
+count_after (Err Failed) before = (before + 1) % 2 ^ 64
+count_after (Err Memory) before = before
+count_after (Ok u) before = before
+
+abbrev pub failures_after : Replaced → ℕ → ℕ
+failures_after (Unwritten e) before = count_after (Err e) before
+failures_after (Written one two) before = count_after two (count_after one before)
+
 -- the device failed at the write, or at a removal
 abbrev pub HasFailed : Replaced → Type 0
 HasFailed (Unwritten e) = e ≡ Failed

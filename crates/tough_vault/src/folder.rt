@@ -1,7 +1,7 @@
 //! A store over a folder.
-ghost use Rattle.std.specs.Prelude.{◌≡◌, ℕ, List, false, ◌+◌, ◌%◌, ◌^◌, ◌<◌, ◌≤◌, ◌↔◌, length, Some, None, IsTrue, string_bytes};
+ghost use Rattle.std.specs.Prelude.{◌≡◌, ℕ, false, ◌+◌, ◌%◌, ◌^◌, ◌<◌, ◌≤◌, ◌↔◌, length, Some, None, IsTrue, string_bytes};
 ghost use Rattle.tough_vault.specs.Stored.{HasCause};
-ghost use Rattle.tough_vault.specs.Replacing.{Replaces, removals_after};
+ghost use Rattle.tough_vault.specs.Replacing.{Replaces, removals_after, failures_after};
 ghost use Rattle.tough_vault.specs.Folder.{folder_of, no_files, runtime_of, store_failures, removals_of, changes_of, last_fault, KeepsFault, KeepsFaultOf, IsFileName};
 
 use crate::held::{
@@ -114,9 +114,8 @@ impl<R: rt::Files<File = File> + AllocGlobal + Clone + Drop> DirStore<R> {
 
     // What a change answers that was noted.
     fn told(&mut self, done: Finished) -> Replaced
-        ensures replaced { (file bytes first second : List ℕ)
-            → Replaces false no_files store_failures file bytes first second self.old self.new
-            result }
+        ensures counts { store_failures self.new
+            ≡ failures_after result (store_failures self.old) }
         ensures counted { removals_of self.new ≡ removals_after result (removals_of self.old) }
         ensures kept { KeepsFaultOf (last_fault self.old) (last_fault self.new) result }
         ensures changes { changes_of self.new ≡ changes_of self.old }
@@ -212,6 +211,26 @@ impl<R: rt::Files<File = File> + AllocGlobal + Clone + Drop> DirStore<R> {
         }
     }
 
+    // Writes a file and removes two others, in one change.
+    fn change(&mut self, names: &[&str; 3], bytes: &[u8]) -> Replaced
+        ensures counts { store_failures self.new
+            ≡ failures_after result (store_failures self.old) }
+        ensures counted { removals_of self.new ≡ removals_after result (removals_of self.old) }
+        ensures kept { KeepsFaultOf (last_fault self.old) (last_fault self.new) result }
+        ensures changes { changes_of self.new ≡ changes_of self.old }
+    {
+        if !is_plain(names[0]) || !is_plain(names[1]) || !is_plain(names[2]) {
+            return Replaced::Unwritten(self.fail(io::Error::from(ErrorKind::InvalidInput)));
+        }
+        match self.carry_out(names, bytes) {
+            Ok(done) => self.told(done),
+            Err(e) if e.kind() == ErrorKind::OutOfMemory => {
+                Replaced::Unwritten(StoreError::Memory)
+            }
+            Err(e) => Replaced::Unwritten(self.fail(e)),
+        }
+    }
+
     // Notes a change that writes a file and removes two others, and carries it out. Where it isn't finished, the folder is let go
     // of: the next call finishes it, of this store or of another.
     fn carry_out(&mut self, names: &[&str; 3], bytes: &[u8]) -> io::Result<Finished>
@@ -259,6 +278,7 @@ impl<R: rt::Files<File = File> + AllocGlobal + Clone + Drop> Store for DirStore<
     fn read(&mut self, alloc: Global, name: &str) -> Result<Option<Vec<u8>>, StoreError>
         ensures none { (IsFileName name.now → ⊥) → result ≡ Ok None }
         ensures unchanged { changes_of self.new ≡ changes_of self.old }
+        ensures unremoved { removals_of self.new ≡ removals_of self.old }
         ensures cause { HasCause (store_failures self.old) (store_failures self.new) result }
         ensures kept { KeepsFault (last_fault self.old) (last_fault self.new) result }
     {
@@ -313,21 +333,14 @@ impl<R: rt::Files<File = File> + AllocGlobal + Clone + Drop> Store for DirStore<
     }
 
     fn replace(&mut self, name: &str, bytes: &[u8], first: &str, second: &str) -> Replaced
+        ensures replaced { Replaces false no_files store_failures name.now bytes.now first.now
+            second.now self.old self.new result }
         ensures once { changes_of self.new ≡ (changes_of self.old + 1) % 2 ^ 64 }
         ensures counted { removals_of self.new ≡ removals_after result (removals_of self.old) }
         ensures kept { KeepsFaultOf (last_fault self.old) (last_fault self.new) result }
     {
         self.changes = self.changes.wrapping_add(1);
-        if !is_plain(name) || !is_plain(first) || !is_plain(second) {
-            return Replaced::Unwritten(self.fail(io::Error::from(ErrorKind::InvalidInput)));
-        }
-        match self.carry_out(&[name, first, second], bytes) {
-            Ok(done) => self.told(done),
-            Err(e) if e.kind() == ErrorKind::OutOfMemory => {
-                Replaced::Unwritten(StoreError::Memory)
-            }
-            Err(e) => Replaced::Unwritten(self.fail(e)),
-        }
+        self.change(&[name, first, second], bytes)
     }
 
     fn failures(&self) -> u64 {

@@ -281,14 +281,14 @@ fn finish_noted<R: rt::Files<File = File> + AllocGlobal>(
     let Some(bytes) = read_file(files, alloc, note.as_str())? else {
         return Ok(());
     };
-    let Some([fresh, file, first, second]) = noted_names(bytes.as_slice()) else {
+    let Some(noted) = noted_in(bytes.as_slice()) else {
         return forget_note(files, held, note.as_str());
     };
     let change = Change {
-        fresh: path_in(alloc, folder, fresh)?,
-        file: path_in(alloc, folder, file)?,
-        first: path_in(alloc, folder, first)?,
-        second: path_in(alloc, folder, second)?,
+        fresh: path_in(alloc, folder, noted.fresh)?,
+        file: path_in(alloc, folder, noted.file)?,
+        first: path_in(alloc, folder, noted.first)?,
+        second: path_in(alloc, folder, noted.second)?,
         note,
     };
     let written = match fs::rename(files, change.fresh.as_str(), change.file.as_str()) {
@@ -302,19 +302,29 @@ fn finish_noted<R: rt::Files<File = File> + AllocGlobal>(
     done.second
 }
 
-// The names that a note tells, with a zero byte between them: of the new file, of the one whose place it takes, and of the two
-// that are removed.
-fn noted_names(bytes: &[u8]) -> Option<[&str; 4]> {
+// The names that a note tells: of the new file, of the one whose place it takes, and of the two that are removed.
+#[derive(Clone, Copy)]
+struct Noted<'a> {
+    fresh: &'a str,
+    file: &'a str,
+    first: &'a str,
+    second: &'a str,
+}
+
+// What a note tells, with a zero byte between the names; none where no store wrote it.
+fn noted_in(bytes: &[u8]) -> Option<Noted<'_>> {
     let text = str::from_utf8(bytes).ok()?;
     let (fresh, rest) = text.split_once('\0')?;
     let (file, rest) = rest.split_once('\0')?;
     let (first, second) = rest.split_once('\0')?;
-    let all_plain = is_part(fresh) && is_part(file) && is_part(first) && is_part(second);
-    if all_plain {
-        Some([fresh, file, first, second])
-    } else {
-        None
-    }
+    let are_parts = is_part(fresh) && is_part(file) && is_part(first) && is_part(second);
+    let noted = Noted {
+        fresh,
+        file,
+        first,
+        second,
+    };
+    if are_parts { Some(noted) } else { None }
 }
 
 // Whether a file of a folder may have this name.

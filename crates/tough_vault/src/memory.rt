@@ -1,7 +1,7 @@
 //! A store in memory, which tells its files.
 
-ghost use Rattle.std.specs.Prelude.{◌≡◌, ◌+◌, ◌%◌, ◌^◌, ℕ, List, None, Ok, is_some, true};
-ghost use Rattle.tough_vault.specs.Replacing.{Fills, Removes};
+ghost use Rattle.std.specs.Prelude.{◌≡◌, ◌+◌, ◌%◌, ◌^◌, ℕ, List, None, OnOk, IsErrOf, is_some, true};
+ghost use Rattle.tough_vault.specs.Stored.{Is, SameFiles, SameElsewhere, HasCause};
 ghost use Rattle.tough_vault.specs.Memory.{memory_files, memory_removals, memory_changes};
 
 use crate::store::{Replaced, Store, StoreError};
@@ -39,8 +39,12 @@ impl MemoryStore {
 
     // Puts the bytes into the file of the name.
     fn fill(&mut self, name: &str, bytes: &[u8]) -> Result<(), StoreError>
-        ensures fills { Fills true memory_files (λ s. 0) name.now bytes.now self.old self.new
-            result }
+        ensures written { OnOk result (memory_files self.new name.now ≡ Is bytes.now) }
+        ensures elsewhere { SameElsewhere name.now (memory_files self.old)
+            (memory_files self.new) }
+        ensures memory { IsErrOf result StoreError.Memory
+            → SameFiles (memory_files self.old) (memory_files self.new) }
+        ensures cause { HasCause 0 0 result }
         ensures changes { memory_changes self.new ≡ memory_changes self.old }
         ensures removals { memory_removals self.new ≡ memory_removals self.old }
     {
@@ -58,7 +62,9 @@ impl MemoryStore {
 
     // Takes the file of the name away, if there is one.
     fn take_away(&mut self, name: &str)
-        ensures removes { Removes true memory_files (λ s. 0) name.now self.old self.new (Ok tt) }
+        ensures removed { memory_files self.new name.now ≡ None }
+        ensures elsewhere { SameElsewhere name.now (memory_files self.old)
+            (memory_files self.new) }
         ensures changes { memory_changes self.new ≡ memory_changes self.old }
         ensures counted { memory_removals self.new ≡ (memory_removals self.old + 1) % 2 ^ 64 }
     {

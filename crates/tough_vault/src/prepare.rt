@@ -50,6 +50,7 @@ pub(crate) fn read_file<S: Store>(
         (λ found. Finds S.tells (S.files store.old) name.now (content found)) }
     ensures same { S.tells ≡ true → SameFiles (S.files store.old) (S.files store.new) }
     ensures unchanged { S.changes store.new ≡ S.changes store.old }
+    ensures unremoved { S.removals store.new ≡ S.removals store.old }
     ensures quiet { OnOk result (S.count store.new ≡ S.count store.old) }
     ensures fault { IfErr result
         (IsReadFault S.tells S.files S.count name.now store.old store.new) }

@@ -31,6 +31,7 @@ pub trait Store {
             (λ found. tells ≡ true → content found ≡ files self.old name.now) }
         ensures same { tells ≡ true → SameFiles (files self.old) (files self.new) }
         ensures unchanged { changes self.new ≡ changes self.old }
+        ensures unremoved { removals self.new ≡ removals self.old }
         ensures cause { HasCause (count self.old) (count self.new) result };
 
     /// Replaces the whole file. After `Failed` it may hold anything or be missing; after `Memory` nothing has changed.

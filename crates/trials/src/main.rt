@@ -16,9 +16,9 @@ mod program;
 mod script;
 mod table;
 
+use crate::table::{CALLS, fault_of, place_of};
 use anyhow::{Result, anyhow};
 use serde_json::Value;
-use crate::table::{CALLS, fault_of, place_of};
 use std::alloc::AllocGlobal;
 use std::fs::File;
 use std::net::Net;

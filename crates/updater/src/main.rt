@@ -104,7 +104,14 @@ where
             };
             let mut runtime = LocalRuntime::new(rt)?;
             let transport = DefaultTransport::new(rt.clone()?, runtime.handle().clone()?)?;
-            update(rt, &mut runtime, transport, asked.store, asked.outdir, wanted)
+            update(
+                rt,
+                &mut runtime,
+                transport,
+                asked.store,
+                asked.outdir,
+                wanted,
+            )
         }
     }
 }
@@ -163,7 +170,9 @@ where
     let folder = String::from_str(alloc, store)?;
     let mut vault = Vault::new(alloc, DirStore::new(rt.clone()?, folder));
     let mut files = OsFiles::new(rt.clone()?);
-    match load_and_save(rt, runtime, transport, &mut vault, &mut files, outdir, wanted) {
+    match load_and_save(
+        rt, runtime, transport, &mut vault, &mut files, outdir, wanted,
+    ) {
         Err(Fault::Refused(error)) if error.kind() == ErrorKind::File => {
             Err(Fault::with_cause(alloc, error, outdir, files.last_fault()))
         }

@@ -35,8 +35,10 @@ returns g c = λ signers e r outdir before after outcome released well fills beg
     let path = path_join outdir q.name in
     let none : files_of r q.name ≡ None → before path ≡ None = free.others answers q honest asked in
     reads path (asked-plain outdir q.name before (written r) free.plain none)
-    ∙ latest outdir q.name (files_of r) relative (written r) found (written-relative r) (content_at before path) (λ e. nothing-read before path (none e) ∙ sym e) in
-    (all.0, λ answers q honest asked.
-    subst (ServesName g.T.Transport.refuses g.T.Transport.serves (transport_of from) (part.base_of l) q.name) (same answers q honest asked)
-    (all.1.1 answers q (honest-same v (files_of r) (files_in outdir after) now core same answers honest) asked)))
+    ∙ latest outdir q.name (files_of r) relative (written r) found (written-relative r) (content_at before path) (λ e. nothing-read before path (none e) ∙ sym e) in (
+      all.0,
+      λ answers q honest asked.
+          subst (ServesName g.T.Transport.refuses g.T.Transport.serves (transport_of from) (part.base_of l) q.name) (same answers q honest asked)
+          (all.1.1 answers q (honest-same v (files_of r) (files_in outdir after) now core same answers honest) asked),
+    ))
     finishes fine

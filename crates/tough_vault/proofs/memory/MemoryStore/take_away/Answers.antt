@@ -1,15 +1,10 @@
-use Rattle.std.proofs.Common.{◌≡◌, ap, arith, refl}
+use Rattle.std.proofs.Common.{◌≡◌, ap, arith}
 use Rattle.std.specs.BTreeMap.{get_by_text}
 use Rattle.std.proofs.lemmas.Map.Text.{text_keys}
 use Rattle.tough_checks.specs.StoredDocuments.{content}
 use Rattle.tough_vault.proofs.memory.MemoryStore.take_away.Goals as goal
 
-pub returns-clause-removes : goal.returns-clause-removes
-returns-clause-removes c = record {
-  removed = search;
-  elsewhere = λ t cs ne.
+pub returns-clause-elsewhere : goal.returns-clause-elsewhere
+returns-clause-elsewhere c = λ cs ne.
     let same : get_by_text c.remove.new.self cs ≡ get_by_text c.args.self.now.files cs = grind (arith, text_keys) in
-    ap content same;
-  memory = search;
-  cause = search;
-}
+    ap content same

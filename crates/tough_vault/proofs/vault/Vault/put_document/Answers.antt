@@ -6,8 +6,8 @@ use Rattle.tough_vault.proofs.Taking.{takes}
 use Rattle.tough_vault.proofs.Fitting.{after_step, fits_document}
 use Rattle.tough_vault.proofs.vault.Vault.put_document.Goals as goal
 
-pub returns : goal.returns
-returns g c = takes _ _ _ _ _ _ _ _ _ c.prepare_document-prepared.ensures.step (rw c.as_str.ensures at c.conclude.ensures.concludes)
+pub returns-clause-takes : goal.returns-clause-takes
+returns-clause-takes g c = takes _ _ _ _ _ _ _ _ _ c.prepare_document-prepared.ensures.step (rw c.as_str.ensures at c.conclude.ensures.concludes)
 
 pub invariant_of-self : goal.invariant_of-self
 invariant_of-self g c =
