@@ -1,5 +1,5 @@
 -- A signature of 2,048 bits verified by computing: the power is squared 16 times, each time modulo the modulus.
-use Rattle.std.proofs.Common.{◌≡◌, ℕ, suc, ◌+◌, ◌-◌, ◌*◌, ◌%◌, ◌^◌, true, nat_eq, nat_lt, List, length, refl, sym, ◌∙◌, arith, pow-suc}
+use Rattle.std.proofs.Common.{◌≡◌, ℕ, ◌+◌, ◌-◌, ◌*◌, ◌%◌, ◌^◌, true, nat_eq, nat_lt, List, length, refl, sym, ◌∙◌, arith, pow-suc}
 use Rattle.std.proofs.Math.Nat.{pow-zero}
 use Rattle.std.proofs.lemmas.Nat.{pow-add, mul-mod}
 use Rattle.std.specs.Int.Count.{count_leading_zeros}
