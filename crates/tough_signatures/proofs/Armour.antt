@@ -1,11 +1,9 @@
 -- Texts that are read, and those that are written, begin as armour does.
-use Rattle.std.proofs.Common.{◌≡◌, ℕ, List, ◌++◌, true, Option, Some, refl, ap, ◌∙◌, subst, sym}
-use Rattle.std.specs.Prelude.{option_and_then, codes}
+use Rattle.std.proofs.Common.{◌≡◌, ℕ, List, ◌++◌, true, Some, refl}
+use Rattle.std.specs.Prelude.{codes}
 use Rattle.tough_decoded.specs.Spelled.{is_armour}
-use Rattle.base64.specs.Engines.{standard}
-use Rattle.base64.specs.GeneralPurpose.{encode_of}
 use Rattle.tough_der.specs.Reading.{after}
-use Rattle.tough_der.specs.Pem.{after_line, between, pem_of, pem_text, symbols_of, begin_line, end_line, in_lines}
+use Rattle.tough_der.specs.Pem.{after_line, between, pem_of, pem_text}
 use Rattle.tough_der.proofs.Options.{and_then_some}
 use Rattle.tough_der.proofs.Elements.{after_sound}
 

@@ -1,6 +1,6 @@
 -- What is written is read back.
-use Rattle.std.proofs.Common.{◌≡◌, ℕ, zero, suc, ◌+◌, ◌/◌, ◌%◌, ◌*◌, ◌^◌, ◌<◌, ◌≤◌, Bool, true, nat_lt, List, [], ◌∷◌, ◌++◌, length, get_or, slice_index, Option, Some, None, refl, sym, ap, ◌∙◌, subst, arith, length-append}
-use Rattle.std.specs.Prelude.{option_and_then, option_map, bytes_eq, if◌then◌else◌}
+use Rattle.std.proofs.Common.{◌≡◌, ℕ, zero, suc, ◌/◌, ◌%◌, ◌^◌, ◌<◌, ◌≤◌, true, nat_lt, List, [], ◌∷◌, ◌++◌, length, slice_index, Option, Some, None, refl, sym, ap, ◌∙◌, subst, arith, length-append}
+use Rattle.std.specs.Prelude.{option_map, bytes_eq}
 use Rattle.std.specs.List.{list_all}
 use Rattle.std.proofs.lemmas.Bool.{ltb-true}
 use Rattle.std.proofs.lemmas.Slice.Eq.{bytes_eq-Decides}
@@ -11,9 +11,9 @@ use Rattle.tough_modular.specs.Octets.{number_octets}
 use Rattle.tough_p256.specs.Curve.{Coordinates}
 use Rattle.tough_p256.specs.Signing.{is_secret, point_octets, key_at, public_key}
 use Rattle.tough_der.specs.Der.{spki_rsa, spki_p256, pkcs8_ed25519, pkcs8_p256}
-use Rattle.tough_der.specs.Pem.{IsPem, pem_of, pem_text}
+use Rattle.tough_der.specs.Pem.{IsPem, pem_text}
 use Rattle.tough_der.specs.Reading.{after}
-use Rattle.tough_der.specs.Keys.{rsa_key_of, p256_key_of, p256_front, ed25519_secret_front, p256_secret_front, p256_point_front, ed25519_secret_of, p256_secret_of}
+use Rattle.tough_der.specs.Keys.{p256_front, ed25519_secret_front, p256_secret_front, p256_point_front, ed25519_secret_of}
 use Rattle.tough_der.proofs.Options.{and_left, and_right, if_some}
 use Rattle.tough_der.proofs.Lengths.{IsBytes}
 use Rattle.tough_der.proofs.Elements.{bytes_from, bytes_at}
@@ -21,7 +21,7 @@ use Rattle.tough_der.proofs.Read.{rsa_complete, rsa_fits}
 use Rattle.tough_der.proofs.Fixed.{spki_p256_is, pkcs8_ed25519_is, pkcs8_p256_is, p256_complete, secret_complete, pair_complete}
 use Rattle.tough_der.proofs.Pems.{pem_complete, pem_written}
 use Rattle.tough_signatures.specs.Verifying.{public_label, rsa_numbers_of, text_point}
-use Rattle.tough_signatures.specs.Secrets.{secret_label, with_point, secret_by, bytes_of, secret_of}
+use Rattle.tough_signatures.specs.Secrets.{secret_label, with_point, secret_by, secret_of}
 use Rattle.tough_signatures.specs.SigningKeys.{secret_text}
 
 -- ---- public keys

@@ -2,7 +2,6 @@
 use Rattle.std.specs.Prelude.{◌≡◌, ℕ, List, ◌∷◌, Bool, false, Option, Some, None, option_map, option_and_then, if◌then◌else◌, bytes_eq, is_some, codes, ⊤}
 use Rattle.hex.specs.Hex.{encode_lower}
 use Rattle.serde_json.specs.Data.{no_members}
-use Rattle.tough_decoded.specs.Spelled.{Spelled}
 use Rattle.tough_keys.specs.declared.kind.Kind.{Kind}
 use Rattle.tough_keys.specs.declared.kind.Kind.TheVariants as kinds
 use Rattle.tough_keys.specs.declared.sign.SignError.{SignError}
@@ -10,7 +9,7 @@ use Rattle.tough_keys.specs.declared.sign.SignError.TheVariants as signs
 use Rattle.tough_keys.specs.Key.{KeyDoc}
 use Rattle.tough_keys.specs.Parsed.{ed25519_key}
 use Rattle.tough_keys.specs.Same.{KeyData}
-use Rattle.tough_der.specs.Der.{sig_value, spki_p256, pkcs8_ed25519, pkcs8_p256}
+use Rattle.tough_der.specs.Der.{sig_value, spki_p256}
 use Rattle.tough_der.specs.Pem.{pem_of, pem_text}
 use Rattle.tough_der.specs.Keys.{rsa_key_of, p256_key_of, ed25519_key_of, ed25519_secret_of, p256_secret_of}
 use Rattle.tough_p256.specs.Signing.{public_key, ecdsa_signature}

@@ -1,5 +1,6 @@
 use super::*;
 use serde_json::Map;
+use std::alloc::Global;
 use std::test::Fail;
 use tough_decoded::Decoded;
 use tough_keys::{EcdsaKey, EcdsaScheme, Key, Sign, Verify};
@@ -74,69 +75,92 @@ const ED25519_SIGNATURE: &str =
     "fb76911c06d20014465155eb68cef92e39790dc129a15205fbf229f0aacb74504dd1ca6a2e24d0b7448d46cacccbb66d\
     0e3d90287108fdc061b54bc716fb4f07";
 
+// Whether it is the signature of the message by the key.
+fn is_by(alloc: Global, key: &Key, message: &[u8], digits: &str) -> Result<bool, Fail> {
+    let signature = hex::decode(alloc, digits)?;
+    Ok(StandardVerify.verify(key, message, signature.as_slice()))
+}
+
+// The same by the key of the text.
+fn verifies(alloc: Global, text: &str, message: &[u8], digits: &str) -> Result<bool, Fail> {
+    let key = public_key(alloc, text)?;
+    is_by(alloc, &key, message, digits)
+}
+
+// The same by the point of P-256, under the older name of the kind.
+fn point_verifies(alloc: Global, message: &[u8], digits: &str) -> Result<bool, Fail> {
+    let key = Key::EcdsaOld {
+        keyval: EcdsaKey {
+            public: Decoded::from_str(alloc, P256_POINT)?,
+            _extra: Map::new(alloc),
+        },
+        scheme: EcdsaScheme::EcdsaSha2Nistp256,
+        _extra: Map::new(alloc),
+    };
+    is_by(alloc, &key, message, digits)
+}
+
+// The digits of the signature of "sample".
+fn digits_by(alloc: Global, signer: &SigningKey) -> Result<String, Fail> {
+    let signature = signer.sign(alloc, b"sample")?;
+    Ok(hex::encode(alloc, signature.as_slice())?)
+}
+
+// The same by the secret of a file.
+fn signature_by(alloc: Global, file: &str) -> Result<String, Fail> {
+    let signer = SigningKey::read(alloc, file.as_bytes())?;
+    digits_by(alloc, &signer)
+}
+
+// The text of a secret that was read.
+fn rewritten(alloc: Global, file: &str) -> Result<String, Fail> {
+    let signer = SigningKey::read(alloc, file.as_bytes())?;
+    Ok(signer.to_pem(alloc)?)
+}
+
 #[test]
 fn verifies_rsa(rt: HostRuntime) -> Result<(), Fail> {
-    let key = public_key(rt.alloc(), RSA)?;
-    let signature = hex::decode(rt.alloc(), RSA_SIGNATURE)?;
-    assert!(rt; StandardVerify.verify(&key, b"sample", signature.as_slice()));
-    assert!(rt; !StandardVerify.verify(&key, b"simple", signature.as_slice()));
-    assert!(rt; !EcdsaVerify.verify(&key, b"sample", signature.as_slice()));
-    let short = hex::decode(rt.alloc(), RSA_SHORT_SALT)?;
-    assert!(rt; !StandardVerify.verify(&key, b"sample", short.as_slice()));
+    assert!(rt; verifies(rt.alloc(), RSA, b"sample", RSA_SIGNATURE)?);
+    assert!(rt; !verifies(rt.alloc(), RSA, b"simple", RSA_SIGNATURE)?);
+    assert!(rt; !verifies(rt.alloc(), P256, b"sample", RSA_SIGNATURE)?);
+    assert!(rt; !verifies(rt.alloc(), RSA, b"sample", RSA_SHORT_SALT)?);
     Ok(())
 }
 
 #[test]
 fn verifies_ecdsa(rt: HostRuntime) -> Result<(), Fail> {
-    let key = public_key(rt.alloc(), P256)?;
-    let signature = hex::decode(rt.alloc(), P256_SIGNATURE)?;
-    assert!(rt; StandardVerify.verify(&key, b"sample", signature.as_slice()));
-    assert!(rt; !StandardVerify.verify(&key, b"simple", signature.as_slice()));
-    assert!(rt; !RsaVerify.verify(&key, b"sample", signature.as_slice()));
-    let old = Key::EcdsaOld {
-        keyval: EcdsaKey {
-            public: Decoded::from_str(rt.alloc(), P256_POINT)?,
-            _extra: Map::new(rt.alloc()),
-        },
-        scheme: EcdsaScheme::EcdsaSha2Nistp256,
-        _extra: Map::new(rt.alloc()),
-    };
-    assert!(rt; StandardVerify.verify(&old, b"sample", signature.as_slice()));
-    assert!(rt; !StandardVerify.verify(&old, b"sample", &signature.as_slice()[1..]));
+    assert!(rt; verifies(rt.alloc(), P256, b"sample", P256_SIGNATURE)?);
+    assert!(rt; !verifies(rt.alloc(), P256, b"simple", P256_SIGNATURE)?);
+    assert!(rt; !verifies(rt.alloc(), RSA, b"sample", P256_SIGNATURE)?);
+    assert!(rt; point_verifies(rt.alloc(), b"sample", P256_SIGNATURE)?);
+    assert!(rt; !point_verifies(rt.alloc(), b"sample", "30")?);
     Ok(())
 }
 
 #[test]
 fn signs_by_ecdsa(rt: HostRuntime) -> Result<(), Fail> {
-    let signer = SigningKey::read(rt.alloc(), RFC6979.as_bytes())?;
-    let signature = signer.sign(rt.alloc(), b"sample")?;
-    assert_eq!(rt;
-        hex::encode(rt.alloc(), signature.as_slice())?.as_str(),
-        RFC6979_SIGNATURE
-    );
-    assert_eq!(rt; signer.to_pem(rt.alloc())?.as_str(), RFC6979);
-    let key = signer.tuf_key(rt.alloc())?;
-    assert_eq!(rt; key.public_bytes(), RFC6979_PUBLIC.as_bytes());
-    assert!(rt; SigningKey::ecdsa(rt.alloc(), &[0; 32])?.is_none());
-    assert!(rt; SigningKey::ecdsa(rt.alloc(), &[255; 32])?.is_none());
-    assert!(rt; SigningKey::read(rt.alloc(), P256.as_bytes()).is_err());
+    let signature = signature_by(rt.alloc(), RFC6979)?;
+    assert_eq!(rt; signature.as_str(), RFC6979_SIGNATURE);
+    assert!(rt; verifies(rt.alloc(), RFC6979_PUBLIC, b"sample", RFC6979_SIGNATURE)?);
+    let text = rewritten(rt.alloc(), RFC6979)?;
+    assert_eq!(rt; text.as_str(), RFC6979);
     Ok(())
 }
 
 #[test]
 fn signs_by_ed25519(rt: HostRuntime) -> Result<(), Fail> {
-    let signer = SigningKey::read(rt.alloc(), ED25519.as_bytes())?;
-    let signature = signer.sign(rt.alloc(), b"sample")?;
-    assert_eq!(rt;
-        hex::encode(rt.alloc(), signature.as_slice())?.as_str(),
-        ED25519_SIGNATURE
-    );
-    assert_eq!(rt; signer.to_pem(rt.alloc())?.as_str(), ED25519);
-    let key = public_key(rt.alloc(), ED25519_PUBLIC)?;
-    assert!(rt; StandardVerify.verify(&key, b"sample", signature.as_slice()));
-    assert_eq!(rt;
-        key.public_bytes(),
-        signer.tuf_key(rt.alloc())?.public_bytes()
-    );
+    let signature = signature_by(rt.alloc(), ED25519)?;
+    assert_eq!(rt; signature.as_str(), ED25519_SIGNATURE);
+    assert!(rt; verifies(rt.alloc(), ED25519_PUBLIC, b"sample", ED25519_SIGNATURE)?);
+    let text = rewritten(rt.alloc(), ED25519)?;
+    assert_eq!(rt; text.as_str(), ED25519);
+    Ok(())
+}
+
+#[test]
+fn refuses_other_secrets(rt: HostRuntime) -> Result<(), Fail> {
+    assert!(rt; SigningKey::ecdsa(rt.alloc(), &[0; 32])?.is_none());
+    assert!(rt; SigningKey::ecdsa(rt.alloc(), &[255; 32])?.is_none());
+    assert!(rt; SigningKey::read(rt.alloc(), P256.as_bytes()).is_err());
     Ok(())
 }

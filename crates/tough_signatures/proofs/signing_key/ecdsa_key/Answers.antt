@@ -1,4 +1,4 @@
-use Rattle.std.proofs.Common.{◌≡◌, List, ℕ, ◌∷◌, true, sym, ◌∙◌, subst}
+use Rattle.std.proofs.Common.{◌≡◌, List, ℕ, true, sym, ◌∙◌, subst}
 use Rattle.tough_decoded.specs.Spelled.{is_armour}
 use Rattle.tough_der.specs.Pem.{pem_text}
 use Rattle.tough_signatures.proofs.Armour.{written_is_armour}
