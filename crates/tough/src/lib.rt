@@ -64,6 +64,7 @@ pub use tough_client::ReadTarget;
 pub use tough_client::Receipt;
 pub use tough_client::Received;
 pub use tough_client::Refusal;
+pub use tough_client::Replaced;
 pub use tough_client::Repository;
 pub use tough_client::RepositoryLoader;
 pub use tough_client::RepositoryParts;

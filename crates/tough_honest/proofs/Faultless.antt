@@ -1,5 +1,5 @@
 -- A fault of a device, and want of memory, end an update, which tells it.
-use Rattle.std.specs.Prelude.{◌≡◌, ◌≤◌, ℕ, ℤ, List, [], ◌∷◌, Option, Some, Result, Ok, Err, Bool, false, not}
+use Rattle.std.specs.Prelude.{◌≡◌, ◌≤◌, ℕ, ℤ, List, [], ◌∷◌, Option, Some, Result, Ok, Err, Bool, false, not, ⊤}
 use Rattle.std.proofs.Common.{refl, sym, ap, ◌∙◌, subst, inl, inr, arith}
 use Rattle.url.specs.Parts.{Parts as Urls}
 use Rattle.futures.specs.Runs.{Runs}
@@ -30,7 +30,6 @@ use Rattle.tough_update.specs.Machine.{question, question_at, stage_after, settl
 use Rattle.tough_update.specs.Promises.{ended}
 use Rattle.tough_load.specs.Fetching.{Fetches}
 use Rattle.tough_load.specs.Loading.{Held, Allows, Leads}
-use Rattle.tough_honest.specs.Loads.{ShowsOnly}
 use Rattle.tough_honest.specs.Serves.{FaultHasMemory}
 use Rattle.tough_honest.specs.Fresh.{phase, wanted_phase, IsNoFault, IsFine, AllFine, IsFineOutcome}
 use Rattle.tough_honest.proofs.Phases.{next_phase, fetched-least, read_root-least, after-least}
@@ -127,9 +126,9 @@ module _ {T K C Y : Type 0} (refuses : T → Urls → TransportError → Type 0)
   read-fine s w (Ok o) fine = tt
   read-fine s w (Err f) fine = fine f refl
 
-  fine-of : (s : SettingDoc) (stage : StageDoc) (k : Held K Receipt C) (a : AnswerDoc) (next : Held K Receipt C) → (stage ≡ at.Moment → ShowsOnly may_give k.clock now) → May (question_at s.enforced stage) k a next
+  fine-of : (s : SettingDoc) (stage : StageDoc) (k : Held K Receipt C) (a : AnswerDoc) (next : Held K Receipt C) → (stage ≡ at.Moment → a ≡ got.Moment now) → May (question_at s.enforced stage) k a next
       → EndsFine (stage_after verifies s stage a) → IsFine now a
-  fine-of s at.Moment k a next shows (time, is, may, same) fine = subst (IsFine now) (sym is) (shows refl time may)
+  fine-of s at.Moment k a next shows h fine = subst (IsFine now) (sym (shows refl)) refl
   fine-of s (at.ReadRoot w) k a next shows (x, is, h, put, still) fine =
       subst (IsFine now) (sym is) (read-fine s w (read_doc x) (subst (λ (b : AnswerDoc). EndsFine (stage_after verifies s (at.ReadRoot w) b)) is fine))
   fine-of s (at.Fetch w r) k (got.Stored x) next shows h fine = absurd (no-stored r x h.0)
@@ -158,8 +157,13 @@ module _ {T K C Y : Type 0} (refuses : T → Urls → TransportError → Type 0)
       let outcome : o ≡ Err f = cc (same) in
       subst IsFineOutcome outcome fine
 
+  -- the first answer is this moment
+  abbrev pub Begins : List AnswerDoc → Type 0
+  Begins [] = ⊤
+  Begins (a ∷ rest) = a ≡ got.Moment now
+
   pub all-fine : (answers : List AnswerDoc) (c : CoreDoc) (k : Held K Receipt C) (last : CoreDoc) (kept : Held K Receipt C) (o : Result LoadedDoc Failure)
-      → Leads refuses serves keeps reads may_give yields verifies base t c k answers last kept → (c.stage ≡ at.Moment → ShowsOnly may_give k.clock now) → ended last.stage ≡ Some o → IsFineOutcome o → AllFine now answers
+      → Leads refuses serves keeps reads may_give yields verifies base t c k answers last kept → (c.stage ≡ at.Moment → Begins answers) → ended last.stage ≡ Some o → IsFineOutcome o → AllFine now answers
   all-fine [] c k last kept o h shows end fine = tt
   all-fine (a ∷ rest) c k last kept o (mid, next, may, inl goes, led) shows end fine = (
     fine-of c.setting c.stage k a next shows may (λ f is. told-fine f last o (spent f rest mid next last kept (ap (λ (m : CoreDoc). m.stage) goes ∙ is) led) end fine),
@@ -167,3 +171,12 @@ module _ {T K C Y : Type 0} (refuses : T → Urls → TransportError → Type 0)
   )
   all-fine (a ∷ rest) c k last kept o (mid, next, may, inr goes, led) shows end fine =
       absurd (told-fine Memory last o (spent Memory rest mid next last kept (ap (λ (m : CoreDoc). m.stage) goes) led) end fine)
+
+  -- an update that has ended was answered its moment first, which the clock may show
+  pub first-moment : (answers : List AnswerDoc) (c : CoreDoc) (k : Held K Receipt C) (last : CoreDoc) (kept : Held K Receipt C) (o : Result LoadedDoc Failure) → c.stage ≡ at.Moment
+      → Leads refuses serves keeps reads may_give yields verifies base t c k answers last kept → ended last.stage ≡ Some o
+      → (time : ℤ) × may_give k.clock time × ((rest : List AnswerDoc) × (answers ≡ got.Moment time ∷ rest))
+  first-moment [] c k last kept o is h end = absurd (cc (sym end ∙ ap (λ (m : CoreDoc). ended m.stage) h.0 ∙ ap ended is))
+  first-moment (a ∷ rest) c k last kept o is (mid, next, may, goes, led) end =
+      let m = subst (λ (x : StageDoc). May (question_at c.setting.enforced x) k a next) is may in
+      (m.0, m.2.1, rest, ap (λ (x : AnswerDoc). x ∷ rest) m.1)

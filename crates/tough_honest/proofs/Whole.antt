@@ -130,16 +130,16 @@ module _ {T K S C Y : Type 0} (refuses : T → Urls → TransportError → Type 
   -- every answer is honest, and the last machine is that of the run, unless memory was wanting
   pub all : (answers : List AnswerDoc) (c : CoreDoc) (k : Held K Receipt C) (last : CoreDoc) (kept : Held K Receipt C) (trusted : root_in c.setting.trusted ≡ Some root)
       (no_next : served (root_request c.setting.limits (root.role.head.version + 1)).name ≡ None) → Alone verifies c.setting served now root trusted no_next c.stage → Untouched files (phase c.stage) (seen k)
-      → ((before : List AnswerDoc) (r : RequestDoc) → question (run verifies c before) ≡ ask.Fetch r → ServesName refuses serves t base r.name (served r.name))
+      → ((before : List AnswerDoc) (r : RequestDoc) → AllHonest verifies served now c before → question (run verifies c before) ≡ ask.Fetch r → ServesName refuses serves t base r.name (served r.name))
       → Leads refuses serves keeps reads may_give yields verifies base t c k answers last kept → AllFine now answers
       → AllHonest verifies served now c answers × ((last ≡ run verifies c answers) ⊎ (last.stage ≡ at.Done (Err Memory)))
   all [] c k last kept trusted no_next alone u there h fine = (tt, inl h.0)
   all (a ∷ rest) c k last kept trusted no_next alone u there (mid, next, may, inl goes, led) (fine, fines) =
-      let here = one c.setting c.stage k next a u (there []) may (is-alone verifies c.setting served now root trusted no_next c.stage alone) fine in
-      let onward = all rest (answered verifies c a) next last kept trusted no_next (turn-alone verifies c.setting served now root trusted no_next c.stage a alone here.0) here.1 (λ before. there (a ∷ before)) (subst (λ (m : CoreDoc). Leads refuses serves keeps reads may_give yields verifies base t m next rest last kept) goes led) fines in
+      let here = one c.setting c.stage k next a u (λ r asked. there [] r tt asked) may (is-alone verifies c.setting served now root trusted no_next c.stage alone) fine in
+      let onward = all rest (answered verifies c a) next last kept trusted no_next (turn-alone verifies c.setting served now root trusted no_next c.stage a alone here.0) here.1 (λ before r honest asked. there (a ∷ before) r (here.0, honest) asked) (subst (λ (m : CoreDoc). Leads refuses serves keeps reads may_give yields verifies base t m next rest last kept) goes led) fines in
       ((here.0, onward.0), onward.1)
   all (a ∷ rest) c k last kept trusted no_next alone u there (mid, next, may, inr goes, led) (fine, fines) =
-      let here = one c.setting c.stage k next a u (there []) may (is-alone verifies c.setting served now root trusted no_next c.stage alone) fine in
+      let here = one c.setting c.stage k next a u (λ r asked. there [] r tt asked) may (is-alone verifies c.setting served now root trusted no_next c.stage alone) fine in
       let over = spent mid next rest last kept (ap (λ (m : CoreDoc). m.stage) goes) led in
       ((here.0, subst (AllHonest verifies served now (answered verifies c a)) (sym over.1) tt), inr over.0)
 

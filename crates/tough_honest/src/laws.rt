@@ -1,43 +1,41 @@
 //! A load of files that are served.
 
-ghost use Rattle.std.specs.Prelude.{◌≡◌, Ok, true, Result};
+ghost use Rattle.std.specs.Prelude.{◌≡◌, ℤ, true, Result};
 ghost use Rattle.tough_trust.specs.Failure.{Failure};
 ghost use Rattle.tough_trust.specs.Vaults.{vault_keeps, vault_reads};
 ghost use Rattle.tough_vault.specs.Vault.{parts_of};
 ghost use Rattle.tough_update.specs.Stages.{LoadedDoc};
-ghost use Rattle.tough_update.specs.Loadable.{Files, Loadable};
+ghost use Rattle.tough_update.specs.Loadable.{Files};
 ghost use Rattle.tough_load.specs.Loader.{IsBegun, first_core, settings_of, transport_of, verifier_of, clock_of, keeper_of};
 ghost use Rattle.tough_load.specs.Advancing.{Finishes};
 ghost use Rattle.tough_load.specs.Words as part;
 ghost use Rattle.tough_honest.specs.Fresh.{Untouched, IsFineOutcome};
-ghost use Rattle.tough_honest.specs.Loads.{ServesAll, ShowsOnly};
+ghost use Rattle.tough_honest.specs.Loads.{LoadsAt, EndsWith};
 
 use tough_load::{Clock, Load, RepositoryLoader, Store, Vault};
 use tough_net::Transport;
 use tough_roles::Verify;
 
-/// Files that are loadable load. The load is one that a loader made: over a transport that serves these files under their names and refuses
-/// what isn't there, as `MemoryTransport` does; by a lent vault over a store that tells its files and held none of a time, a root, a timestamp or a
-/// snapshot; by a clock that shows the moment at which the files are loadable, as `FixedClock` does. Where it ends, its outcome is the
-/// documents that the files serve, unless it tells that the store's device failed or that a request for memory was refused (TUF
-/// specification 5).
+/// Files that are loadable load. The load is one that a loader made: over a transport that serves the files that an update asks for which is
+/// answered honestly, and refuses what isn't there, as `MemoryTransport` does; by a lent vault over a store that tells its files and held
+/// none of a time, a root, a timestamp or a snapshot; by a clock each of whose moments is one at which the files are loadable. Where it ends, its
+/// outcome is the documents that the files serve, unless it tells that the store's device failed or that a request for memory was
+/// refused (TUF specification 5).
 pub fn honest_loads<T: Transport, V: Verify + Drop, C: Clock + Drop, S: Store>(
     loader: &RepositoryLoader<'_, T, V, C, &mut Vault<S>>,
     load: &Load<T, &mut Vault<S>, C, V>,
     ended: &Load<T, &mut Vault<S>, C, V>,
 )
-    ensures { (files : Files) (d : LoadedDoc) (outcome : Result LoadedDoc Failure)
+    ensures { (files : Files) (d : ℤ → LoadedDoc) (outcome : Result LoadedDoc Failure)
         → IsBegun loader.now load.now → S.tells ≡ true
         → Untouched S.files 0 (parts_of (keeper_of loader.now).now)
-        → ShowsOnly C.may_give (clock_of loader.now) d.known.start
-        → ServesAll T.refuses T.serves (V.verifies (verifier_of loader.now))
+        → ((now : ℤ) → C.may_give (clock_of loader.now) now
+        → LoadsAt T.refuses T.serves (V.verifies (verifier_of loader.now))
         (part.base_of load.now) (transport_of loader.now)
-        (first_core (settings_of loader.now)) files
-        → Loadable (V.verifies (verifier_of loader.now)) files
-        (first_core (settings_of loader.now)).setting d
+        (first_core (settings_of loader.now)) files now (d now))
         → Finishes T.refuses T.serves (vault_keeps S.tells S.files S.count) (vault_reads S.tells
         S.files S.count) C.may_give T.Stream.yields V.verifies load.now outcome ended.now
-        → IsFineOutcome outcome → outcome ≡ Ok d }
+        → IsFineOutcome outcome → EndsWith C.may_give (clock_of loader.now) d outcome }
 {
     tough_update::laws::loads();
 }

@@ -19,6 +19,6 @@ pub use tough_update::{
 };
 pub use tough_vault::{
     Clock, DirStore, DocumentName, Entry, ExpirationEnforcement, FixedClock, ListedVersion,
-    MemoryStore, Receipt, Refusal, SnapshotVersions, StepError, Store, StoreError, SystemClock,
-    TimestampVersions, Tip, Vault,
+    MemoryStore, Receipt, Refusal, Replaced, SnapshotVersions, StepError, Store, StoreError,
+    SystemClock, TimestampVersions, Tip, Vault,
 };

@@ -1,3 +1,4 @@
 mod RelativeNames
 mod AskedNames
 mod LatestFiles
+mod SameAnswers

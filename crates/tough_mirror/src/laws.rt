@@ -1,6 +1,6 @@
 //! A repository that was written into a folder, and a load of that folder's files.
 
-ghost use Rattle.std.specs.Prelude.{◌≡◌, ℕ, ℤ, List, Ok, true, Result};
+ghost use Rattle.std.specs.Prelude.{◌≡◌, ℕ, ℤ, List, true, Result};
 ghost use Rattle.tough_files.specs.Contents.{Contents};
 ghost use Rattle.tough_sign.specs.Making.{SignWell};
 ghost use Rattle.tough_signed.specs.Standing.{is_consistent};
@@ -12,7 +12,7 @@ ghost use Rattle.tough_load.specs.Loader.{IsBegun, first_core, settings_of, tran
 ghost use Rattle.tough_load.specs.Advancing.{Finishes};
 ghost use Rattle.tough_load.specs.Words as part;
 ghost use Rattle.tough_honest.specs.Fresh.{Untouched, IsFineOutcome};
-ghost use Rattle.tough_honest.specs.Loads.{ServesAll, ShowsOnly};
+ghost use Rattle.tough_honest.specs.Loads.{ServesAll, EndsWith};
 ghost use Rattle.tough_release.specs.Edits.{ReleaseDoc};
 ghost use Rattle.tough_release.specs.Release.{IsReleased};
 ghost use Rattle.tough_release.specs.Repository.{delegated_of};
@@ -37,33 +37,34 @@ pub fn files_are_the_same()
 
 /// What was signed and written is loaded equal: root, timestamp, snapshot, and the targets with the documents of all delegated roles. The
 /// repository is one that `RepositoryEdits::sign` made; its files were written into a folder as `WriteSigned::write` does where it answers
-/// `Ok` and the files tell their contents; no link stood at the path of one of them, and nothing at that of another file that a client may
-/// ask for. The load is one that `released_loads` speaks of, over a transport that serves under each name what a file of that name in the
-/// folder holds (TUF specification 1.0, section 5).
+/// `Ok` and the files tell their contents; no link stood at the path of one of them, and nothing at that of another file that the update
+/// asks for, which is the next root. The load is one that `released_loads` speaks of, over a transport that serves under each name what a
+/// file of that name in the folder holds (TUF specification 1.0, section 5).
 pub fn written_loads<T: Transport, V: Verify + Drop, C: Clock + Drop, D: Store, S: Sign>(
     loader: &RepositoryLoader<'_, T, V, C, &mut Vault<D>>,
     load: &Load<T, &mut Vault<D>, C, V>,
     ended: &Load<T, &mut Vault<D>, C, V>,
 )
-    ensures { (start : ℤ) (signers : List S) (e : ReleaseDoc) (r : SignedRepository)
+    ensures { (signers : List S) (e : ReleaseDoc) (r : SignedRepository)
         (outdir : List ℕ) (before after : Contents) (outcome : Result LoadedDoc Failure)
         → IsReleased S.key S.signs signers e r
         → SignWell (V.verifies (verifier_of loader.now)) S.key S.signs signers
-        → MayLoad (V.verifies (verifier_of loader.now))
-        (first_core (settings_of loader.now)).setting start e r
-        → IsFree (V.verifies (verifier_of loader.now)) (first_core (settings_of loader.now))
-        outdir r before
         → Fills outdir (repository_files (is_consistent (delegated_of r)) r) before after
-        → ServesAll T.refuses T.serves (V.verifies (verifier_of loader.now))
-        (part.base_of load.now) (transport_of loader.now)
-        (first_core (settings_of loader.now)) (files_in outdir after)
         → IsBegun loader.now load.now → D.tells ≡ true
         → Untouched D.files 0 (parts_of (keeper_of loader.now).now)
-        → ShowsOnly C.may_give (clock_of loader.now) start
+        → ((now : ℤ) → C.may_give (clock_of loader.now) now
+        → MayLoad (V.verifies (verifier_of loader.now))
+        (first_core (settings_of loader.now)).setting now e r
+        × IsFree (V.verifies (verifier_of loader.now)) (first_core (settings_of loader.now))
+        outdir r now before
+        × ServesAll T.refuses T.serves (V.verifies (verifier_of loader.now))
+        (part.base_of load.now) (transport_of loader.now)
+        (first_core (settings_of loader.now)) (files_in outdir after) now)
         → Finishes T.refuses T.serves (vault_keeps D.tells D.files D.count) (vault_reads D.tells
         D.files D.count) C.may_give T.Stream.yields V.verifies load.now outcome ended.now
         → IsFineOutcome outcome
-        → outcome ≡ Ok (loaded_of (first_core (settings_of loader.now)).setting start r) }
+        → EndsWith C.may_give (clock_of loader.now)
+        (λ now. loaded_of (first_core (settings_of loader.now)).setting now r) outcome }
 {
     tough_round::laws::released_loads::<T, V, C, D, S>(loader, load, ended);
     tough_round::laws::released_is_found::<S>();

@@ -36,6 +36,7 @@ pub fn vault_receipts_rise<T: Transport, V: Verify + Drop, C: Clock + Drop, S: S
       files = S.files;
       count = S.count;
       removals = S.removals;
+      changes = S.changes;
     }))) C V T.Stream Plain)
         (from : _) (r : _) → IsBegun from l
         → Finishes T.refuses T.serves (vault_keeps S.tells S.files S.count) (vault_reads S.tells
@@ -46,6 +47,7 @@ pub fn vault_receipts_rise<T: Transport, V: Verify + Drop, C: Clock + Drop, S: S
       files = S.files;
       count = S.count;
       removals = S.removals;
+      changes = S.changes;
     }))) C V T.Stream Plain)
         (from : _) (r : _) → IsBegun from l
         → Opens T.refuses T.serves (vault_keeps S.tells S.files S.count) (vault_reads S.tells
@@ -56,6 +58,7 @@ pub fn vault_receipts_rise<T: Transport, V: Verify + Drop, C: Clock + Drop, S: S
       files = S.files;
       count = S.count;
       removals = S.removals;
+      changes = S.changes;
     }))) Plain)
         (verifies : Verifies) (act : Act) (answer : Result Unit Failure)
         → TakesStep (vault_keeps S.tells S.files S.count) verifies act k answer new
@@ -79,6 +82,7 @@ where
       files = S.files;
       count = S.count;
       removals = S.removals;
+      changes = S.changes;
     }) (record { book = J.book })) C V T.Stream (Receipt J (record { book = J.book })))
         (from : _) (r : _) → IsBegun from l
         → Finishes T.refuses T.serves (shared_keeps S.tells S.files S.count) (shared_reads S.tells
@@ -89,6 +93,7 @@ where
       files = S.files;
       count = S.count;
       removals = S.removals;
+      changes = S.changes;
     }) (record { book = J.book })) C V T.Stream (Receipt J (record { book = J.book })))
         (from : _) (r : _) → IsBegun from l
         → Opens T.refuses T.serves (shared_keeps S.tells S.files S.count) (shared_reads S.tells
@@ -99,6 +104,7 @@ where
       files = S.files;
       count = S.count;
       removals = S.removals;
+      changes = S.changes;
     }) (record { book = J.book })) (Receipt J (record { book = J.book })))
         (verifies : Verifies) (act : Act) (answer : Result Unit Failure)
         → TakesStep (shared_keeps S.tells S.files S.count) verifies act k answer new

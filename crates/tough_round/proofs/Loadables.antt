@@ -171,7 +171,7 @@ module _ (apart : EncodesApart) (v : Verifies) (s : SettingDoc) (start : ℤ) (e
   proper = record {
     names = map-all (λ d. (a : Entry) × (x : HeldDoc) × IsStanding a x d × Asked s start a.name x) (IsOk IsUtf8 filename_of role_name page) ds (λ d k. role-ok d k.0 k.1 k.2 k.3) asked-docs;
     once = distinct-roles ds (subst Distinct (sym (standing-names (entries (tree_in_it r).role) ds f.standing ∙ named-entries (tree_in_it r).role)) may.once);
-    root = let low = may.root_low in omega (arith, low);
+    root = let word = (root-read (buffer_of (root_of r)) (root_in_it r) f.rooted).0.0 in omega (arith, word);
     targets = small (targets_version r) (subst (λ n. n < 2 ^ 64) top-version (targets-read (buffer_of (targets_of r)) top targets-reading).0);
     snapshot = small (snapshot_in_it r).role.head.version (snapshot-small (buffer_of (snapshot_of r)) (snapshot_in_it r) snapshot-reading);
   }
@@ -248,7 +248,6 @@ module _ (apart : EncodesApart) (v : Verifies) (s : SettingDoc) (start : ℤ) (e
     start_text = may.start_text;
     root = ap root_in may.trusted ∙ f.rooted;
     root_signed = may.root_signed;
-    root_low = may.root_low;
     no_next = there.next;
     one_update = may.one_update;
     root_in_time = may.root_in_time;

@@ -108,23 +108,24 @@ pub keys-rise : (d : Data) (ks : List (Spelled × KeyDoc)) → keys_at d ≡ Som
 unfolding IsStrictlySortedBy
 keys-rise d ks h = let m = then-some (keys_from []) (as_object d) ks h in table-rises by_bytes_total is_none key_entry_at [] ks m.0 tt m.2
 
-root-rises : (d : Data) (r : RootDoc) → root_at d ≡ Some r → IsStrictlySortedBy by_bytes (keys_of r.keys)
+root-known : (d : Data) (r : RootDoc) → root_at d ≡ Some r → HasWords d → (r.head.version < 2 ^ 64) × IsStrictlySortedBy by_bytes (keys_of r.keys)
 unfolding root_at
-root-rises d r h =
+root-known d r h w =
     let ms = bind_ok (as_object d) (λ members. head_at members >>= λ head. required (codes "consistent_snapshot") truth head.1 >>= λ consistent. required (codes "keys") keys_at consistent.1 >>= λ keys. required (codes "roles") roles_at keys.1 >>= λ roles. Some (record { head = head.0; consistent_snapshot = consistent.0; keys = keys.0; roles = roles.0; extra = roles.1 })) r h in
     let a = bind_ok (head_at ms.0) (λ head. required (codes "consistent_snapshot") truth head.1 >>= λ consistent. required (codes "keys") keys_at consistent.1 >>= λ keys. required (codes "roles") roles_at keys.1 >>= λ roles. Some (record { head = head.0; consistent_snapshot = consistent.0; keys = keys.0; roles = roles.0; extra = roles.1 })) r ms.2 in
     let b = bind_ok (required (codes "consistent_snapshot") truth a.0.1) (λ consistent. required (codes "keys") keys_at consistent.1 >>= λ keys. required (codes "roles") roles_at keys.1 >>= λ roles. Some (record { head = a.0.0; consistent_snapshot = consistent.0; keys = keys.0; roles = roles.0; extra = roles.1 })) r a.2 in
     let c = bind_ok (required (codes "keys") keys_at b.0.1) (λ keys. required (codes "roles") roles_at keys.1 >>= λ roles. Some (record { head = a.0.0; consistent_snapshot = b.0.0; keys = keys.0; roles = roles.0; extra = roles.1 })) r b.2 in
     let e = bind_ok (required (codes "roles") roles_at c.0.1) (λ roles. Some (record { head = a.0.0; consistent_snapshot = b.0.0; keys = c.0.0; roles = roles.0; extra = roles.1 })) r c.2 in
     let k = required-read (codes "keys") keys_at b.0.1 c.0 c.1 in
-    subst (λ (x : RootDoc). IsStrictlySortedBy by_bytes (keys_of x.keys)) (some-inj e.2) (keys-rise k.0 c.0.0 k.1)
+    subst (λ (x : RootDoc). (x.head.version < 2 ^ 64) × IsStrictlySortedBy by_bytes (keys_of x.keys)) (some-inj e.2) (head-word ms.0 a.0 a.1 (object-words d ms.0 ms.1 w), keys-rise k.0 c.0.0 k.1)
 
--- a root that was read has its keys in order, and its signatures are spelled
-pub root-read : (bytes : List ℕ) (s : SignedDoc RootDoc) → option_and_then (signed_at root_at) (json_of bytes) ≡ Some s → IsStrictlySortedBy by_bytes (keys_of s.role.keys) × AreSpelled s.signatures
+-- a root that was read has a version in one word and its keys in order, and its signatures are spelled
+pub root-read : (bytes : List ℕ) (s : SignedDoc RootDoc) → option_and_then (signed_at root_at) (json_of bytes) ≡ Some s
+    → ((s.role.head.version < 2 ^ 64) × IsStrictlySortedBy by_bytes (keys_of s.role.keys)) × AreSpelled s.signatures
 root-read bytes s h =
     let d = then-some (signed_at root_at) (json_of bytes) s h in
     let p = signed-parts root_at d.0 s d.2 (read-words bytes d.0 d.1) in
-    (root-rises p.0.0 s.role p.0.1, p.1)
+    (root-known p.0.0 s.role p.0.1 p.0.2, p.1)
 
 -- ---- targets
 

@@ -28,7 +28,7 @@ pub released-loads : {S : Type 0} (key_of : S → KeyDoc) (signs : S → List �
 released-loads key_of signs apart snapshots timestamps roots belows v s start signers e r well released may =
     let made = released.made in
     let f = made-filed key_of signs signers released.closed r made in
-    let sorted = (root-read (buffer_of (root_of r)) (root_in_it r) f.rooted).0 in
+    let sorted = (root-read (buffer_of (root_of r)) (root_in_it r) f.rooted).0.1 in
     let top = keys-rise-top apart v s start e r may f in
     let below = keys-rise-below apart v s start e r may f in
     loadable apart v s start e r may f

@@ -61,7 +61,6 @@ module _ (verifies : Verifies) (s : SettingDoc) (start : ℤ) (e : ReleaseDoc) w
     -- the root that is handed in
     pub trusted : s.trusted ≡ buffer_of (root_of r)
     pub root_signed : ReachesUnder verifies (root_in_it r).role types.Root root_json (root_in_it r)
-    pub root_low : (root_in_it r).role.head.version < 2 ^ 64 - 1
     pub root_in_time : is_expired s.enforced start (root_in_it r).role.head.expires ≡ false
     pub one_update : 0 < s.limits.max_root_updates
     pub start_text : time_text start ≢ None

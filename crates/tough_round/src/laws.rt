@@ -1,6 +1,6 @@
 //! A signed repository, and a load of its files.
 
-ghost use Rattle.std.specs.Prelude.{◌≡◌, ℤ, List, Ok, Some, true, Result};
+ghost use Rattle.std.specs.Prelude.{◌≡◌, ℤ, List, Some, true, Result};
 ghost use Rattle.std.specs.List.{AllByRecursion};
 ghost use Rattle.tough_keys.specs.Same.{Verifies};
 ghost use Rattle.tough_sign.specs.Making.{SignWell};
@@ -13,7 +13,7 @@ ghost use Rattle.tough_load.specs.Loader.{IsBegun, first_core, settings_of, tran
 ghost use Rattle.tough_load.specs.Advancing.{Finishes};
 ghost use Rattle.tough_load.specs.Words as part;
 ghost use Rattle.tough_honest.specs.Fresh.{Untouched, IsFineOutcome};
-ghost use Rattle.tough_honest.specs.Loads.{ServesAll, ShowsOnly};
+ghost use Rattle.tough_honest.specs.Loads.{ServesAll, EndsWith};
 ghost use Rattle.tough_release.specs.Edits.{ReleaseDoc};
 ghost use Rattle.tough_release.specs.Release.{IsReleased};
 ghost use Rattle.tough_release.specs.declared.repository.SignedRepository.{SignedRepository};
@@ -54,28 +54,29 @@ pub fn released_is_found<S: Sign>()
 
 /// What was signed is loaded equal: root, timestamp, snapshot, and the targets with the documents of all delegated roles. The load is one
 /// that a loader made, as `honest_loads` has it: over a transport that serves the repository's files under their names, by a lent vault over
-/// a store that held nothing, and by a clock that shows one moment. Where it ends, that is its outcome, unless it tells that the store's
-/// device failed or that a request for memory was refused (TUF specification 1.0, section 5).
+/// a store that held nothing, and by a clock each of whose moments is before all expiries. Where it ends, that is its outcome, unless it
+/// tells that the store's device failed or that a request for memory was refused (TUF specification 1.0, section 5).
 pub fn released_loads<T: Transport, V: Verify + Drop, C: Clock + Drop, D: Store, S: Sign>(
     loader: &RepositoryLoader<'_, T, V, C, &mut Vault<D>>,
     load: &Load<T, &mut Vault<D>, C, V>,
     ended: &Load<T, &mut Vault<D>, C, V>,
 )
-    ensures { (start : ℤ) (signers : List S) (e : ReleaseDoc) (r : SignedRepository)
+    ensures { (signers : List S) (e : ReleaseDoc) (r : SignedRepository)
         (outcome : Result LoadedDoc Failure) → IsBegun loader.now load.now → D.tells ≡ true
         → Untouched D.files 0 (parts_of (keeper_of loader.now).now)
-        → ShowsOnly C.may_give (clock_of loader.now) start
-        → ServesAll T.refuses T.serves (V.verifies (verifier_of loader.now))
-        (part.base_of load.now) (transport_of loader.now)
-        (first_core (settings_of loader.now)) (files_of r)
         → SignWell (V.verifies (verifier_of loader.now)) S.key S.signs signers
         → IsReleased S.key S.signs signers e r
+        → ((now : ℤ) → C.may_give (clock_of loader.now) now
         → MayLoad (V.verifies (verifier_of loader.now))
-        (first_core (settings_of loader.now)).setting start e r
+        (first_core (settings_of loader.now)).setting now e r
+        × ServesAll T.refuses T.serves (V.verifies (verifier_of loader.now))
+        (part.base_of load.now) (transport_of loader.now)
+        (first_core (settings_of loader.now)) (files_of r) now)
         → Finishes T.refuses T.serves (vault_keeps D.tells D.files D.count) (vault_reads D.tells
         D.files D.count) C.may_give T.Stream.yields V.verifies load.now outcome ended.now
         → IsFineOutcome outcome
-        → outcome ≡ Ok (loaded_of (first_core (settings_of loader.now)).setting start r) }
+        → EndsWith C.may_give (clock_of loader.now)
+        (λ now. loaded_of (first_core (settings_of loader.now)).setting now r) outcome }
 {
     tough_honest::laws::honest_loads(loader, load, ended);
     released_is_loadable::<S>();

@@ -42,6 +42,7 @@ pub fn receipts_rise<S: Store, R: Wait, J: Naming>()
       files = S.files;
       count = S.count;
       removals = S.removals;
+      changes = S.changes;
     })))
         (steps : List (Act × Result Plain StepError))
         → Walks (vault_keeps S.tells S.files S.count) verifies k steps new
@@ -51,6 +52,7 @@ pub fn receipts_rise<S: Store, R: Wait, J: Naming>()
       files = S.files;
       count = S.count;
       removals = S.removals;
+      changes = S.changes;
     }) (record { book = J.book }))
         (steps : List (Act × Result (Receipt J (record { book = J.book })) StepError))
         → Walks (shared_keeps S.tells S.files S.count) verifies k steps new

@@ -59,7 +59,7 @@ use Rattle.tough_update.specs.Answered as got
 use Rattle.tough_update.specs.Machine.{question, question_at, settled, stage_after, ask_root, walked, want_snapshot, known_of, want_targets, new_targets}
 use Rattle.tough_trust.specs.Faults.{is_memory, fault_failure}
 use Rattle.tough_update.specs.Runs.{run, IsFresh}
-use Rattle.tough_update.specs.Loadable.{Files, Delivers, Gets, refusal_at_first, step_answer, Honest, AllHonest, IsRoleServed, IsServedUnder, or_nothing, role_bytes, turns_as, role_turns, all_turns, Loadable, IsLoaded}
+use Rattle.tough_update.specs.Loadable.{walk_turns, Files, Delivers, Gets, refusal_at_first, step_answer, Honest, AllHonest, IsRoleServed, IsServedUnder, or_nothing, role_bytes, turns_as, role_turns, all_turns, Loadable, IsLoaded}
 
 signed-ok : {A : Type 0} (v : Verifies) (holder : RootDoc) (type : RoleType) (json : A → Option Data) (d : SignedDoc A) → ReachesUnder v holder type json d
     → verdict v (MissingRole type) type (policy holder type) (text_by json d.role) d.signatures ≡ Ok (tt {0})
@@ -79,9 +79,6 @@ has-text (Some text) h = refl
 
 none-first : (n limit : ℕ) → 0 < limit → nat_lt (n - n) limit ≡ true
 none-first n limit h = ap (λ k. nat_lt k limit) (sub_self n) ∙ lt-ltb 0 limit h
-
-not-equal : (m n : ℕ) → m < n → (m == n) ≡ false
-not-equal m n h = grind (arith, h)
 
 one-more : (m n : ℕ) → m ≤ n → suc m ≤ n + 1
 one-more m n h = omega (arith, h)
@@ -363,26 +360,50 @@ module _ (v : Verifies) (files : Files) (s : SettingDoc) (l : LoadedDoc) (able :
       ap (λ o. if_read (ParseTrustedMetadata (holds_json s.trusted)) o (λ d. if_trusted (root_verdict v d.role d) d)) able.root
       ∙ ap (λ w. if_trusted w l.known.root) (signed-ok v l.known.root.role role.Root root_json l.known.root able.root_signed)
 
-  begins : walked s.limits walk ≡ Ok root_wanted
-  begins =
+  -- what follows the look at the stored root, by whether this is the last number of a version
+  abbrev walk_wanted : Bool → StageDoc
+  walk_wanted true = at.Step (at.PutLast walk)
+  walk_wanted false = root_wanted
+
+  begins : (end : Bool) → (l.known.root.role.head.version == 2 ^ 64 - 1) ≡ end → walked s.limits walk ≡ Ok (walk_wanted end)
+  begins end is =
       let next : Bool → Bool → Result StageDoc Failure = λ more end. and_then (and_then (unless (MaxUpdatesExceeded s.limits.max_root_updates) more (if end then Ok None else Ok (Some (l.known.root.role.head.version + 1)))) (λ version. Ok (option_map (root_request s.limits) version))) (λ r. Ok (ask_root walk r)) in
       ap (λ b. next b (l.known.root.role.head.version == 2 ^ 64 - 1)) (none-first l.known.root.role.head.version s.limits.max_root_updates able.one_update)
-      ∙ ap (next true) (not-equal l.known.root.role.head.version (2 ^ 64 - 1) able.root_low)
+      ∙ (ap (next true) is ∙ asked end)
+    where
+      asked : (end : Bool) → and_then (and_then (if end then Ok None else Ok (Some (l.known.root.role.head.version + 1))) (λ version. Ok (option_map (root_request s.limits) version))) (λ r. Ok (ask_root walk r)) ≡ Ok (walk_wanted end)
+      asked true = refl
+      asked false = refl
 
-  leads-read_root : Leads (more + 1 + 1 + 1 + 1 + 1 + 1 + 1 + 1 + 1) (at.ReadRoot walk)
-  leads-read_root = leads-turn (more + 1 + 1 + 1 + 1 + 1 + 1 + 1 + 1) (at.ReadRoot walk) root_wanted (got.Stored (Ok None)) (λ e. cc) (λ x h. h) (ap settled begins) leads-fetch_root
+  abbrev walk_left : Bool → ℕ
+  walk_left end = more + 1 + 1 + 1 + 1 + 1 + 1 + 1 + walk_turns end
 
-  leads-note_time : Leads (more + 1 + 1 + 1 + 1 + 1 + 1 + 1 + 1 + 1 + 1) (at.Step (at.NoteTime l.known.start))
-  leads-note_time = leads-turn (more + 1 + 1 + 1 + 1 + 1 + 1 + 1 + 1 + 1) (at.Step (at.NoteTime l.known.start)) (at.ReadRoot walk) (got.Step (Ok (tt {0}))) (λ e. cc) (passes (act.NoteTime l.known.start) time-passes)
+  leads-walk : (end : Bool) → Leads (walk_left end) (walk_wanted end)
+  leads-walk true = subst (λ k. Leads k (at.Step (at.PutLast walk))) (sym (add-zero _)) leads-put_last
+  leads-walk false = leads-fetch_root
+
+  abbrev is_last : Bool
+  is_last = l.known.root.role.head.version == 2 ^ 64 - 1
+
+  leads-read_root : Leads (walk_left is_last + 1) (at.ReadRoot walk)
+  leads-read_root = leads-turn (walk_left is_last) (at.ReadRoot walk) (walk_wanted is_last) (got.Stored (Ok None)) (λ e. cc) (λ x h. h) (ap settled (begins is_last refl) ∙ wanted is_last) (leads-walk is_last)
+    where
+      wanted : (end : Bool) → settled (Ok (walk_wanted end)) ≡ walk_wanted end
+      wanted true = refl
+      wanted false = refl
+
+  leads-note_time : Leads (walk_left is_last + 1 + 1) (at.Step (at.NoteTime l.known.start))
+  leads-note_time = leads-turn (walk_left is_last + 1) (at.Step (at.NoteTime l.known.start)) (at.ReadRoot walk) (got.Step (Ok (tt {0}))) (λ e. cc) (passes (act.NoteTime l.known.start) time-passes)
       (ap (λ r. settled (and_then r (λ root. Ok (at.ReadRoot (record { start = l.known.start; first = root; last = root }))))) first) leads-read_root
 
-  pub leads-moment : Leads (more + 1 + 1 + 1 + 1 + 1 + 1 + 1 + 1 + 1 + 1 + 1) at.Moment
-  leads-moment = leads-turn (more + 1 + 1 + 1 + 1 + 1 + 1 + 1 + 1 + 1 + 1) at.Moment (at.Step (at.NoteTime l.known.start)) (got.Moment l.known.start) (λ e. cc) (λ x h. h) refl leads-note_time
+  pub leads-moment : Leads (walk_left is_last + 1 + 1 + 1) at.Moment
+  leads-moment = leads-turn (walk_left is_last + 1 + 1) at.Moment (at.Step (at.NoteTime l.known.start)) (got.Moment l.known.start) (λ e. cc) (λ x h. h) refl leads-note_time
 
 pub loads : (v : Verifies) (c : CoreDoc) (files : Files) (l : LoadedDoc) (answers : List AnswerDoc) → IsFresh c → Loadable v files c.setting l → AllHonest v files l.known.start c answers → IsLoaded v c answers l
 loads v c files l answers fresh able h =
     let n = sum_by (role_turns c.setting l.known) (fetch_order l.targets.role) in
-    let count : n + 1 + 1 + 1 + 1 + 1 + 1 + 1 + 1 + 1 + 1 + 1 ≡ all_turns c.setting l = omega arith in
+    let w = walk_turns (l.known.root.role.head.version == 2 ^ 64 - 1) in
+    let count : n + 1 + 1 + 1 + 1 + 1 + 1 + 1 + w + 1 + 1 + 1 ≡ all_turns c.setting l = omega arith in
     let from : Leads v files c.setting l able (all_turns c.setting l) at.Moment = subst (λ k. Leads v files c.setting l able k at.Moment) count (leads-moment v files c.setting l able) in
     let r = (subst (λ st. Leads v files c.setting l able (all_turns c.setting l) st) (sym fresh) from) answers h in
     record { within = r.0; soon = r.1; ends = r.2 }

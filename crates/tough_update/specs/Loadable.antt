@@ -1,5 +1,5 @@
 -- Files that serve documents, and the answers of an honest transport, clock and store (TUF specification 1.0, section 5).
-use Rattle.std.specs.Prelude.{◌≡◌, ◌≢◌, ℕ, ℤ, ◌+◌, ◌-◌, ◌^◌, ◌<◌, ◌≤◌, List, [], ◌∷◌, length, map, sum_by, Option, Some, None, option_and_then, Bool, true, false, ⊤, Ok, Err, if◌then◌else◌}
+use Rattle.std.specs.Prelude.{◌≡◌, ◌≢◌, ℕ, ℤ, ◌+◌, ◌-◌, ◌^◌, ◌<◌, ◌≤◌, ◌==◌, List, [], ◌∷◌, length, map, sum_by, Option, Some, None, option_and_then, Bool, true, false, ⊤, Ok, Err, if◌then◌else◌}
 use Rattle.tough_net.specs.declared.error.TransportError.{TransportError}
 use Rattle.tough_net.specs.declared.error.TransportErrorKind.TheVariants as kind
 use Rattle.tough_net.specs.Errors.{error_kind}
@@ -137,7 +137,6 @@ pub record Loadable (verifies : Verifies) (files : Files) (s : SettingDoc) (l : 
   pub start_text : time_text l.known.start ≢ None
   pub root : root_in s.trusted ≡ Some l.known.root
   pub root_signed : ReachesUnder verifies l.known.root.role role.Root root_json l.known.root
-  pub root_low : l.known.root.role.head.version < 2 ^ 64 - 1
   pub no_next : files (root_request s.limits (l.known.root.role.head.version + 1)).name ≡ None
   pub one_update : 0 < s.limits.max_root_updates
   pub root_in_time : is_expired s.enforced l.known.start l.known.root.role.head.expires ≡ false
@@ -174,9 +173,14 @@ turns_as s k name (Some m) = if is_reserved (role_request s.limits k.root.role.c
 abbrev pub role_turns : SettingDoc → KnownDoc → List ℕ → ℕ
 role_turns s k name = turns_as s k name (listed_as (metas_in k) name)
 
--- eleven answers, and those for the delegated roles
+-- one answer for the root after this version, which isn't asked for behind the last number
+abbrev pub walk_turns : Bool → ℕ
+walk_turns true = 0
+walk_turns false = 1
+
+-- ten answers, and those for the next root and for the delegated roles
 abbrev pub all_turns : SettingDoc → LoadedDoc → ℕ
-all_turns s l = 11 + sum_by (role_turns s l.known) (fetch_order l.targets.role)
+all_turns s l = 10 + walk_turns (l.known.root.role.head.version == 2 ^ 64 - 1) + sum_by (role_turns s l.known) (fetch_order l.targets.role)
 
 -- It is ready after so many answers, and not before; and then it has ended with these documents.
 pub record IsLoaded (verifies : Verifies) (c : CoreDoc) (answers : List AnswerDoc) (l : LoadedDoc) : Type 0 where

@@ -79,7 +79,7 @@ module _ {S : Type 0} (tells : Bool) (files : S → Files) (count : S → ℕ) w
   pub ended : (note : Note) (old before new : Parts S) (first second : Result Unit StoreError) (result : Result Receipt StepError) → before.notes ≡ old.notes → before.tip ≡ old.tip
       → Sound old → Follows old.tip note → FreeNote note
       → (tells ≡ true → AllHold (files old.store) old.notes old.tip → AllHold (files new.store) (old.notes ++ note ∷ []) (applied old.tip note))
-      → EndsRemoval tells files count note first second before new result → Sound new
+      → EndsRemoval note first second before new result → Sound new
   ended note old before new (Ok u) (Ok v) (Ok r) n t s f free holds e =
       noted note old new s (as_before note old before new n t e.0) f free (λ told b. ∥∥₁_map (s.holds told (unbroken-before old.notes note b)) (holds told))
   ended note old before new (Err fault) second (Err x) n t s f free holds e = broke old new s (as_before Broken old before new n t e.0)

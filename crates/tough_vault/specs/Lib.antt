@@ -1,4 +1,5 @@
 pub mod Stored
+pub mod Replacing
 pub mod Memory
 pub mod Journal
 pub mod Step

@@ -9,3 +9,6 @@ memory_files m name = content (get_by_text m.files name)
 
 abbrev pub memory_removals : MemoryStore → ℕ
 memory_removals m = m.removals
+
+abbrev pub memory_changes : MemoryStore → ℕ
+memory_changes m = m.changes

@@ -19,6 +19,11 @@ abbrev pub note_after : Option ℕ → Note
 note_after None = Cleared
 note_after (Some version) = Root version true
 
+-- the entry of a root that cleared
+abbrev pub IsClearing : Note → Type 0
+IsClearing (Root version true) = Unit {0}
+IsClearing _ = ⊥
+
 module _ {S : Type 0} (tells : Bool) (files : S → Files) (count : S → ℕ) where
   -- the root was written, and then both removals were tried
   pub record Written (version : ℕ) (bytes : List ℕ) (old new : Parts S) (result : Result Receipt StepError) : Type 0 where

@@ -1,6 +1,7 @@
 -- What a step is, and what it does to the parts of a vault.
 use Rattle.std.specs.Prelude.{◌≡◌, ◌≢◌, ◌⊎◌, ℕ, ◌+◌, ◌%◌, ◌^◌, List, [], ◌∷◌, ◌++◌, length, Option, None, Some, Result, Ok, Err, Bool, true, IfOk, IfErr, OnOk, IsErrOf, string_bytes}
-use Rattle.tough_vault.specs.Stored.{Files, SameFiles, SameElsewhere, HasCause}
+use Rattle.tough_vault.specs.Replacing.{Removes}
+use Rattle.tough_vault.specs.Stored.{Files, SameFiles, SameElsewhere}
 use Rattle.tough_vault.specs.declared.store.StoreError.{StoreError}
 use Rattle.tough_vault.specs.declared.store.StoreError.TheVariants as device
 use Rattle.tough_vault.specs.declared.entry.Receipt.{Receipt}
@@ -50,6 +51,14 @@ IsUnwritten _ = ⊥
 abbrev pub Finds : Bool → Files → List ℕ → Option (List ℕ) → Type 0
 Finds tells files name found = tells ≡ true → found ≡ files name
 
+-- How the step ends: where both removals succeeded, the entry is noted, and the receipt tells it; else Broken is noted,
+-- and the answer is the fault of the first that failed.
+abbrev pub EndsRemoval : {S : Type 0} → Note → Result Unit StoreError → Result Unit StoreError → Parts S → Parts S → Result Receipt StepError → Type 0
+EndsRemoval note (Err fault) second old new (Err e) = IsNoted Broken old new × TellsRemoval timestamp_file fault e
+EndsRemoval note (Ok u) (Err fault) old new (Err e) = IsNoted Broken old new × TellsRemoval snapshot_file fault e
+EndsRemoval note (Ok u) (Ok v) old new (Ok r) = IsNoted note old new × IsReceipt (length old.notes) note r
+EndsRemoval note _ _ old new result = ⊥
+
 module _ {S : Type 0} (tells : Bool) (files : S → Files) (count : S → ℕ) where
   -- all checks pass on what the file holds
   pub record Passes (step : Step) (store : S) (found : Option (List ℕ)) : Type 0 where
@@ -92,27 +101,11 @@ module _ {S : Type 0} (tells : Bool) (files : S → Files) (count : S → ℕ) w
     -- no other file changes
     pub elsewhere : tells ≡ true → SameElsewhere step.file (files old.store) (files new.store)
 
-  -- One removal of a file, with its outcome, as a store tells it: where it succeeded, the file is gone; no other file
-  -- changes, and where memory was wanting none does; the device's failures are counted.
-  pub record Removes (file : List ℕ) (old new : S) (outcome : Result Unit StoreError) : Type 0 where
-    pub removed : OnOk outcome (tells ≡ true → files new file ≡ None)
-    pub elsewhere : tells ≡ true → SameElsewhere file (files old) (files new)
-    pub memory : IsErrOf outcome device.Memory → tells ≡ true → SameFiles (files old) (files new)
-    pub cause : HasCause (count old) (count new) outcome
-
   -- Both removals are tried: that of the timestamp, and then that of the snapshot, also where the first failed.
   pub record RemovesBoth (old new : S) (first second : Result Unit StoreError) : Type 0 where
     pub between : S
-    pub timestamp : Removes timestamp_file old between first
-    pub snapshot : Removes snapshot_file between new second
-
-  -- How the step ends: where both removals succeeded, the entry is noted, and the receipt tells it; else Broken is noted,
-  -- and the answer is the fault of the first that failed.
-  abbrev pub EndsRemoval : Note → Result Unit StoreError → Result Unit StoreError → Parts S → Parts S → Result Receipt StepError → Type 0
-  EndsRemoval note (Err fault) second old new (Err e) = IsNoted Broken old new × TellsRemoval timestamp_file fault e
-  EndsRemoval note (Ok u) (Err fault) old new (Err e) = IsNoted Broken old new × TellsRemoval snapshot_file fault e
-  EndsRemoval note (Ok u) (Ok v) old new (Ok r) = IsNoted note old new × IsReceipt (length old.notes) note r
-  EndsRemoval note _ _ old new result = ⊥
+    pub timestamp : Removes tells files count timestamp_file old between first
+    pub snapshot : Removes tells files count snapshot_file between new second
 
   -- Both removals were tried, and the step that notes this entry ended by the first that failed.
   pub record Tried (note : Note) (old new : Parts S) (result : Result Receipt StepError) : Type 0 where
@@ -124,6 +117,10 @@ module _ {S : Type 0} (tells : Bool) (files : S → Files) (count : S → ℕ) w
   -- The contract of `clear_rotated`: both removals are tried; only want of memory before the first changes nothing.
   abbrev pub Clears : Parts S → Parts S → Result Receipt StepError → Type 0
   Clears old new result = ((result ≡ Err Memory) × (new ≡ old)) ⊎ Tried Cleared old new result
+
+-- a step made at most one of the calls that change a store's files, so that whatever call is its last, the store is the one before the step or the one behind it
+abbrev pub ChangesOnce : {S : Type 0} → (S → ℕ) → S → S → Type 0
+ChangesOnce changes old new = (changes new ≡ changes old) ⊎ (changes new ≡ (changes old + 1) % 2 ^ 64)
 
 -- a step that did anything has tried to remove two files
 abbrev pub TriesTwo : {S : Type 0} → (S → ℕ) → Parts S → Parts S → Type 0

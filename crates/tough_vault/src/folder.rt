@@ -1,32 +1,40 @@
 //! A store over a folder.
-ghost use Rattle.std.specs.Prelude.{◌≡◌, ℕ, ◌+◌, ◌%◌, ◌^◌, ◌↔◌, Some, None, IsTrue, string_bytes};
+ghost use Rattle.std.specs.Prelude.{◌≡◌, ℕ, false, ◌+◌, ◌%◌, ◌^◌, ◌<◌, ◌≤◌, ◌↔◌, length, Some, None, IsTrue, string_bytes};
 ghost use Rattle.tough_vault.specs.Stored.{HasCause};
-ghost use Rattle.tough_vault.specs.Folder.{folder_of, runtime_of, store_failures, removals_of, last_fault, KeepsFault, IsFileName};
+ghost use Rattle.tough_vault.specs.Replacing.{Replaces, removals_after, failures_after};
+ghost use Rattle.tough_vault.specs.Folder.{folder_of, no_files, runtime_of, store_failures, removals_of, changes_of, last_fault, KeepsFault, KeepsFaultOf, IsFileName};
 
-use crate::store::{Store, StoreError};
-use std::alloc::{AllocError, AllocGlobal, Global};
-use std::fs::{File, OpenFile, OpenOptions, TryLockError};
-use std::io::{ErrorKind, Read, Write};
-use std::path::Path;
-use std::{fs, io, rt};
+use crate::held::{
+    Finished, Held, begin, check_place, finish, hold, path_in, put, read_file, sync, take_away,
+};
+use crate::store::{Replaced, Store, StoreError};
+use std::alloc::{AllocGlobal, Global};
+use std::fs::File;
+use std::io::ErrorKind;
+use std::{io, rt};
 
-// How the names of the files begin that `write` fills before they take another's place.
-const TEMPORARY: &str = "+new";
-
-// How many names are tried for such a file.
-const TEMPORARY_TRIES: u32 = 65_536;
+// How many bytes a file's name may have: more than the systems' files do.
+const LONGEST_NAME: usize = 255;
 
 /// A store whose files stand in a folder, which must be there. It tells nothing, since others may write there.
 ///
-/// The store is for one process at a time: the first call locks the folder, and the lock lasts as long as the store, or
-/// until its process ends. While another store has it, each call fails, changes nothing, and keeps a fault that says so.
+/// **One store serves one repository.** The next load begins at the root that the store holds, whatever root is handed in.
+/// An operator who has to begin anew (another repository, a root whose keys were stolen) removes the folder's files while
+/// no process uses it; what is lost is the guard against versions older than those that were accepted.
+///
+/// The store is for one process at a time: the first call locks the file `+lock` of the folder, and the lock lasts as long
+/// as the store, or until its process ends. While another store has it, each call fails, changes nothing, and keeps a fault
+/// that says so. A load holds the lock over its fetches, so a slow mirror keeps other processes waiting. A folder that is
+/// removed or replaced meanwhile makes each call fail.
 ///
 /// A file is replaced so that a process that dies leaves the old content or the new one: the bytes are written to a new
-/// file of the folder, `+new` and a number, and synced, then that is renamed, and the folder synced. Who locks the folder
-/// removes what earlier processes left of such files.
+/// file of the folder, `+new` and a number, and synced, then that is renamed, and the folder synced. `replace` notes what it
+/// is to do in the file `+redo` first: whoever locks the folder next finishes it, and removes what processes that died left of
+/// files named `+new` and a number. All that a store makes can be read and written by its owner alone.
 ///
-/// No file has an empty name, the name `.` or `..`, a name that begins with `+new`, or a name with a slash: `read` gives
-/// none, `remove` succeeds, and `write` fails.
+/// No file has an empty name, the name `.` or `..`, a name that begins with `+`, or a name with a slash: `read` gives none,
+/// `remove` succeeds, and `write` fails. A name of more than 255 bytes is passed over, since no file can have it: `write`
+/// succeeds, and nothing is stored.
 #[derive(Drop)]
 pub struct DirStore<R> {
     rt: R,
@@ -34,8 +42,9 @@ pub struct DirStore<R> {
     failures: u64,
     fault: Option<io::Error>,
     removals: u64,
-    // The folder, open and locked.
-    lock: Option<File>,
+    changes: u64,
+    // The folder, once it is locked.
+    held: Option<Held>,
 }
 
 impl<R: rt::Files<File = File> + AllocGlobal + Clone + Drop> DirStore<R> {
@@ -52,7 +61,8 @@ impl<R: rt::Files<File = File> + AllocGlobal + Clone + Drop> DirStore<R> {
             failures: 0,
             fault: None,
             removals: 0,
-            lock: None,
+            changes: 0,
+            held: None,
         }
     }
 
@@ -69,34 +79,19 @@ impl<R: rt::Files<File = File> + AllocGlobal + Clone + Drop> DirStore<R> {
         ensures count { store_failures self.new ≡ (store_failures self.old + 1) % 2 ^ 64 }
         ensures kept { last_fault self.new ≡ Some error }
         ensures removals { removals_of self.new ≡ removals_of self.old }
+        ensures changes { changes_of self.new ≡ changes_of self.old }
     {
         self.failures = self.failures.wrapping_add(1);
         self.fault = Some(error);
         StoreError::Failed
     }
 
-    // Locks the folder for this store, unless it has the lock already, or the folder is missing.
-    fn lock(&mut self) -> io::Result<()>
-        ensures count { store_failures self.new ≡ store_failures self.old }
-        ensures fault { last_fault self.new ≡ last_fault self.old }
-        ensures removals { removals_of self.new ≡ removals_of self.old }
-    {
-        if self.lock.is_some() {
-            return Ok(());
-        }
-        let Some(folder) = lock_folder(&self.rt, self.folder.as_str())? else {
-            return Ok(());
-        };
-        remove_leftovers(&self.rt, self.folder.as_str())?;
-        self.lock = Some(folder);
-        Ok(())
-    }
-
-    // What a call answers that needed the lock first.
-    fn not_locked<T: Drop>(&mut self, error: io::Error) -> Result<T, StoreError>
+    // What a call answers that changed nothing.
+    fn refuse<T: Drop>(&mut self, error: io::Error) -> Result<T, StoreError>
         ensures cause { HasCause (store_failures self.old) (store_failures self.new) result }
         ensures kept { KeepsFault (last_fault self.old) (last_fault self.new) result }
         ensures removals { removals_of self.new ≡ removals_of self.old }
+        ensures changes { changes_of self.new ≡ changes_of self.old }
     {
         if error.kind() == ErrorKind::OutOfMemory {
             return Err(StoreError::Memory);
@@ -104,10 +99,156 @@ impl<R: rt::Files<File = File> + AllocGlobal + Clone + Drop> DirStore<R> {
         Err(self.fail(error))
     }
 
-    // The path of a file of the folder.
-    fn path_of(&self, name: &str) -> Result<String, AllocError> {
-        let path = Path::new(self.folder.as_str()).join(self.rt.alloc(), name)?;
-        Ok(path.into_string())
+    // What a call answers whose change may have been made.
+    fn outcome(&mut self, outcome: io::Result<()>) -> Result<(), StoreError>
+        ensures cause { HasCause (store_failures self.old) (store_failures self.new) result }
+        ensures kept { KeepsFault (last_fault self.old) (last_fault self.new) result }
+        ensures removals { removals_of self.new ≡ removals_of self.old }
+        ensures changes { changes_of self.new ≡ changes_of self.old }
+    {
+        match outcome {
+            Ok(()) => Ok(()),
+            Err(e) => Err(self.fail(e)),
+        }
+    }
+
+    // What a change answers that was noted.
+    fn told(&mut self, done: Finished) -> Replaced
+        ensures counts { store_failures self.new
+            ≡ failures_after result (store_failures self.old) }
+        ensures counted { removals_of self.new ≡ removals_after result (removals_of self.old) }
+        ensures kept { KeepsFaultOf (last_fault self.old) (last_fault self.new) result }
+        ensures changes { changes_of self.new ≡ changes_of self.old }
+    {
+        let Finished {
+            written,
+            first,
+            second,
+        } = done;
+        if let Err(e) = written {
+            return Replaced::Unwritten(self.fail(e));
+        }
+        self.removals = self.removals.wrapping_add(2);
+        let first = self.outcome(first);
+        let second = self.outcome(second);
+        Replaced::Written(first, second)
+    }
+
+    // Locks the folder for this store, unless it has the lock already; and whether there is a folder.
+    fn take_hold(&mut self) -> io::Result<bool>
+        ensures count { store_failures self.new ≡ store_failures self.old }
+        ensures fault { last_fault self.new ≡ last_fault self.old }
+        ensures removals { removals_of self.new ≡ removals_of self.old }
+        ensures changes { changes_of self.new ≡ changes_of self.old }
+    {
+        if let Some(held) = &self.held {
+            check_place(&self.rt, held)?;
+            return Ok(true);
+        }
+        self.held = hold(&self.rt, self.folder.as_str())?;
+        Ok(self.held.is_some())
+    }
+
+    // Locks the folder, which must be there for a change.
+    fn take_hold_to_change(&mut self) -> io::Result<()>
+        ensures count { store_failures self.new ≡ store_failures self.old }
+        ensures fault { last_fault self.new ≡ last_fault self.old }
+        ensures removals { removals_of self.new ≡ removals_of self.old }
+        ensures changes { changes_of self.new ≡ changes_of self.old }
+    {
+        if self.take_hold()? {
+            Ok(())
+        } else {
+            Err(io::Error::from(ErrorKind::NotFound))
+        }
+    }
+
+    // The bytes of the file, if it is there.
+    fn found(&mut self, alloc: Global, name: &str) -> io::Result<Option<Vec<u8>>>
+        ensures count { store_failures self.new ≡ store_failures self.old }
+        ensures fault { last_fault self.new ≡ last_fault self.old }
+        ensures removals { removals_of self.new ≡ removals_of self.old }
+        ensures changes { changes_of self.new ≡ changes_of self.old }
+    {
+        if !self.take_hold()? {
+            return Ok(None);
+        }
+        let path = path_in(self.rt.alloc(), self.folder.as_str(), name)?;
+        read_file(&self.rt, alloc, path.as_str())
+    }
+
+    // Gives the file its bytes, not yet synced in the folder. Where it fails, nothing has changed.
+    fn put_file(&mut self, name: &str, bytes: &[u8]) -> io::Result<()>
+        ensures count { store_failures self.new ≡ store_failures self.old }
+        ensures fault { last_fault self.new ≡ last_fault self.old }
+        ensures removals { removals_of self.new ≡ removals_of self.old }
+        ensures changes { changes_of self.new ≡ changes_of self.old }
+    {
+        self.take_hold_to_change()?;
+        let path = path_in(self.rt.alloc(), self.folder.as_str(), name)?;
+        put(&self.rt, self.folder.as_str(), path.as_str(), bytes)
+    }
+
+    // Removes the file, not yet synced in the folder. Where it fails, nothing has changed.
+    fn remove_file(&mut self, name: &str) -> io::Result<()>
+        ensures count { store_failures self.new ≡ store_failures self.old }
+        ensures fault { last_fault self.new ≡ last_fault self.old }
+        ensures removals { removals_of self.new ≡ removals_of self.old }
+        ensures changes { changes_of self.new ≡ changes_of self.old }
+    {
+        if !self.take_hold()? {
+            return Ok(());
+        }
+        let path = path_in(self.rt.alloc(), self.folder.as_str(), name)?;
+        take_away(&self.rt, path.as_str())
+    }
+
+    // Waits until the folder is as it was left.
+    fn sync_folder(&self) -> io::Result<()> {
+        match &self.held {
+            Some(held) => sync(held),
+            None => Ok(()),
+        }
+    }
+
+    // Writes a file and removes two others, in one change.
+    fn change(&mut self, names: &[&str; 3], bytes: &[u8]) -> Replaced
+        ensures counts { store_failures self.new
+            ≡ failures_after result (store_failures self.old) }
+        ensures counted { removals_of self.new ≡ removals_after result (removals_of self.old) }
+        ensures kept { KeepsFaultOf (last_fault self.old) (last_fault self.new) result }
+        ensures changes { changes_of self.new ≡ changes_of self.old }
+    {
+        if !is_plain(names[0]) || !is_plain(names[1]) || !is_plain(names[2]) {
+            return Replaced::Unwritten(self.fail(io::Error::from(ErrorKind::InvalidInput)));
+        }
+        match self.carry_out(names, bytes) {
+            Ok(done) => self.told(done),
+            Err(e) if e.kind() == ErrorKind::OutOfMemory => {
+                Replaced::Unwritten(StoreError::Memory)
+            }
+            Err(e) => Replaced::Unwritten(self.fail(e)),
+        }
+    }
+
+    // Notes a change that writes a file and removes two others, and carries it out. Where it isn't finished, the folder is let go
+    // of: the next call finishes it, of this store or of another.
+    fn carry_out(&mut self, names: &[&str; 3], bytes: &[u8]) -> io::Result<Finished>
+        ensures count { store_failures self.new ≡ store_failures self.old }
+        ensures fault { last_fault self.new ≡ last_fault self.old }
+        ensures removals { removals_of self.new ≡ removals_of self.old }
+        ensures changes { changes_of self.new ≡ changes_of self.old }
+    {
+        self.take_hold_to_change()?;
+        let Some(held) = &self.held else {
+            return Err(io::Error::from(ErrorKind::NotFound));
+        };
+        let change = begin(&self.rt, self.folder.as_str(), held, names, bytes)?;
+        let done = finish(&self.rt, held, &change);
+        if done.written.is_err() || done.first.is_err() || done.second.is_err() {
+            self.held = None;
+        }
+        Ok(done)
     }
 }
 
@@ -118,196 +259,88 @@ fn is_plain(name: &str) -> bool
     !name.is_empty()
         && name != "."
         && name != ".."
-        && !name.starts_with(TEMPORARY)
+        && !name.starts_with("+")
         && !name.as_bytes().contains(&b'/')
-}
-
-fn read_all(files: &impl rt::Files, alloc: Global, path: &str) -> io::Result<Vec<u8>> {
-    let mut file = fs::open(files, path)?;
-    let mut bytes = Vec::new(alloc);
-    file.read_to_end(&mut bytes)?;
-    Ok(bytes)
-}
-
-// The folder, open and locked; none where it is missing.
-fn lock_folder(files: &impl rt::Files<File = File>, path: &str) -> io::Result<Option<File>> {
-    let folder = match fs::open(files, path) {
-        Ok(folder) => folder,
-        Err(e) if e.kind() == ErrorKind::NotFound => return Ok(None),
-        Err(e) => return Err(e),
-    };
-    match folder.try_lock() {
-        Ok(()) => Ok(Some(folder)),
-        Err(TryLockError::WouldBlock) => Err(io::Error::new(
-            ErrorKind::ResourceBusy,
-            "another process uses this store",
-        )),
-        Err(TryLockError::Error(e)) => Err(e),
-    }
-}
-
-// Removes the files that a process which died left half written.
-fn remove_leftovers<R: rt::Files + AllocGlobal + Clone + Drop>(
-    files: &R,
-    folder: &str,
-) -> io::Result<()> {
-    let alloc = files.alloc();
-    for entry in fs::read_dir(files, folder)? {
-        let entry = entry?;
-        if entry.file_name().starts_with(TEMPORARY) {
-            let path = Path::new(folder).join(alloc, entry.file_name())?;
-            fs::remove_file(files, path.as_str())?;
-        }
-    }
-    Ok(())
-}
-
-// Makes a file of the folder that wasn't there, and gives it with its path.
-fn create_new(
-    files: &impl rt::Files<File = File>,
-    alloc: Global,
-    folder: &str,
-) -> io::Result<(String, File)> {
-    for number in 0..TEMPORARY_TRIES {
-        let name = format!(in alloc; "{TEMPORARY}{number}")?;
-        let path = Path::new(folder).join(alloc, name.as_str())?.into_string();
-        let made = OpenOptions::new()
-            .write(true)
-            .create_new(true)
-            .open(files, path.as_str());
-        match made {
-            Ok(file) => return Ok((path, file)),
-            Err(e) if e.kind() == ErrorKind::AlreadyExists => {}
-            Err(e) => return Err(e),
-        }
-    }
-    Err(io::Error::from(ErrorKind::AlreadyExists))
-}
-
-// Fills the new file, which then takes the place of the one at the path.
-fn fill(
-    files: &impl rt::Files,
-    mut file: File,
-    fresh: &str,
-    path: &str,
-    bytes: &[u8],
-) -> io::Result<()> {
-    file.write_all(bytes)?;
-    file.sync_all()?;
-    fs::rename(files, fresh, path)
-}
-
-// Writes the bytes to a new file, which then takes the place of the one at the path. Where that fails, the new file is removed.
-fn replace(
-    files: &impl rt::Files<File = File>,
-    alloc: Global,
-    folder: &str,
-    path: &str,
-    bytes: &[u8],
-) -> io::Result<()> {
-    let (fresh, file) = create_new(files, alloc, folder)?;
-    if let Err(e) = fill(files, file, fresh.as_str(), path, bytes) {
-        let _ = fs::remove_file(files, fresh.as_str());
-        return Err(e);
-    }
-    sync(files, folder)
-}
-
-// Removes the file. One that is missing is removed already.
-fn remove(files: &impl rt::Files, folder: &str, path: &str) -> io::Result<()> {
-    match fs::remove_file(files, path) {
-        Ok(()) => sync(files, folder),
-        Err(e) if e.kind() == ErrorKind::NotFound => Ok(()),
-        Err(e) => Err(e),
-    }
-}
-
-// Waits until what the folder lists is on the device.
-fn sync(files: &impl rt::Files, folder: &str) -> io::Result<()> {
-    fs::open(files, folder)?.sync_all()
+        && name.len() <= LONGEST_NAME
 }
 
 impl<R: rt::Files<File = File> + AllocGlobal + Clone + Drop> Store for DirStore<R> {
-    ghost use Rattle.std.specs.Prelude.{false};
-
     ghost tells = { false };
 
-    ghost files = { λ _ _. None };
+    ghost files = { no_files };
 
     ghost count = { store_failures };
 
     ghost removals = { removals_of };
 
+    ghost changes = { changes_of };
+
     fn read(&mut self, alloc: Global, name: &str) -> Result<Option<Vec<u8>>, StoreError>
         ensures none { (IsFileName name.now → ⊥) → result ≡ Ok None }
+        ensures unchanged { changes_of self.new ≡ changes_of self.old }
+        ensures unremoved { removals_of self.new ≡ removals_of self.old }
         ensures cause { HasCause (store_failures self.old) (store_failures self.new) result }
         ensures kept { KeepsFault (last_fault self.old) (last_fault self.new) result }
     {
         if !is_plain(name) {
             return Ok(None);
         }
-        if let Err(e) = self.lock() {
-            return self.not_locked(e);
-        }
-        let Ok(path) = self.path_of(name) else {
-            return Err(StoreError::Memory);
-        };
-        match read_all(&self.rt, alloc, path.as_str()) {
-            Ok(bytes) => Ok(Some(bytes)),
-            Err(e) => match e.kind() {
-                ErrorKind::NotFound => Ok(None),
-                ErrorKind::OutOfMemory => Err(StoreError::Memory),
-                _ => Err(self.fail(e)),
-            },
+        match self.found(alloc, name) {
+            Ok(found) => Ok(found),
+            Err(e) => self.refuse(e),
         }
     }
 
     fn write(&mut self, name: &str, bytes: &[u8]) -> Result<(), StoreError>
-        ensures refused { (IsFileName name.now → ⊥) → result ≡ Err StoreError.Failed }
+        ensures passed { 255 < length name.now → result ≡ Ok tt }
+        ensures refused { length name.now ≤ 255 → (IsFileName name.now → ⊥)
+            → result ≡ Err StoreError.Failed }
+        ensures once { changes_of self.new ≡ (changes_of self.old + 1) % 2 ^ 64 }
         ensures cause { HasCause (store_failures self.old) (store_failures self.new) result }
         ensures kept { KeepsFault (last_fault self.old) (last_fault self.new) result }
     {
+        self.changes = self.changes.wrapping_add(1);
+        if name.len() > LONGEST_NAME {
+            return Ok(());
+        }
         if !is_plain(name) {
             return Err(self.fail(io::Error::from(ErrorKind::InvalidInput)));
         }
-        if let Err(e) = self.lock() {
-            return self.not_locked(e);
+        if let Err(e) = self.put_file(name, bytes) {
+            return self.refuse(e);
         }
-        let Ok(path) = self.path_of(name) else {
-            return Err(StoreError::Memory);
-        };
-        match replace(
-            &self.rt,
-            self.rt.alloc(),
-            self.folder.as_str(),
-            path.as_str(),
-            bytes,
-        ) {
-            Ok(()) => Ok(()),
-            Err(e) => Err(self.fail(e)),
-        }
+        let synced = self.sync_folder();
+        self.outcome(synced)
     }
 
     fn remove(&mut self, name: &str) -> Result<(), StoreError>
         ensures counted { removals_of self.new ≡ (removals_of self.old + 1) % 2 ^ 64 }
+        ensures once { changes_of self.new ≡ (changes_of self.old + 1) % 2 ^ 64 }
         ensures absent { (IsFileName name.now → ⊥) → result ≡ Ok tt }
         ensures cause { HasCause (store_failures self.old) (store_failures self.new) result }
         ensures kept { KeepsFault (last_fault self.old) (last_fault self.new) result }
     {
+        self.changes = self.changes.wrapping_add(1);
         self.removals = self.removals.wrapping_add(1);
         if !is_plain(name) {
             return Ok(());
         }
-        if let Err(e) = self.lock() {
-            return self.not_locked(e);
+        if let Err(e) = self.remove_file(name) {
+            return self.refuse(e);
         }
-        let Ok(path) = self.path_of(name) else {
-            return Err(StoreError::Memory);
-        };
-        match remove(&self.rt, self.folder.as_str(), path.as_str()) {
-            Ok(()) => Ok(()),
-            Err(e) => Err(self.fail(e)),
-        }
+        let synced = self.sync_folder();
+        self.outcome(synced)
+    }
+
+    fn replace(&mut self, name: &str, bytes: &[u8], first: &str, second: &str) -> Replaced
+        ensures replaced { Replaces false no_files store_failures name.now bytes.now first.now
+            second.now self.old self.new result }
+        ensures once { changes_of self.new ≡ (changes_of self.old + 1) % 2 ^ 64 }
+        ensures counted { removals_of self.new ≡ removals_after result (removals_of self.old) }
+        ensures kept { KeepsFaultOf (last_fault self.old) (last_fault self.new) result }
+    {
+        self.changes = self.changes.wrapping_add(1);
+        self.change(&[name, first, second], bytes)
     }
 
     fn failures(&self) -> u64 {

@@ -5,6 +5,7 @@ mod clock;
 mod document;
 mod entry;
 mod folder;
+mod held;
 pub mod laws;
 mod memory;
 mod parts;
@@ -19,7 +20,7 @@ pub use clock::{Clock, FixedClock, SystemClock};
 pub use entry::{Entry, Receipt, Tip};
 pub use folder::DirStore;
 pub use memory::MemoryStore;
-pub use store::{Store, StoreError};
+pub use store::{Replaced, Store, StoreError};
 pub use tough_checks::{
     Checker, DocumentName, ExpirationEnforcement, ListedVersion, Refusal, SnapshotVersions,
     StepError, TimestampVersions, check_expiry, check_signed, check_version, is_rotated,

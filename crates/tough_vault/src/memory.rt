@@ -1,9 +1,10 @@
 //! A store in memory, which tells its files.
 
-ghost use Rattle.std.specs.Prelude.{◌≡◌, ℕ, List, None, is_some};
-ghost use Rattle.tough_vault.specs.Memory.{memory_files, memory_removals};
+ghost use Rattle.std.specs.Prelude.{◌≡◌, ◌+◌, ◌%◌, ◌^◌, ℕ, List, None, OnOk, IsErrOf, is_some, true};
+ghost use Rattle.tough_vault.specs.Stored.{Is, SameFiles, SameElsewhere, HasCause};
+ghost use Rattle.tough_vault.specs.Memory.{memory_files, memory_removals, memory_changes};
 
-use crate::store::{Store, StoreError};
+use crate::store::{Replaced, Store, StoreError};
 use std::alloc::Global;
 use std::collections::BTreeMap;
 
@@ -13,6 +14,7 @@ pub struct MemoryStore {
     alloc: Global,
     files: BTreeMap<String, Vec<u8>>,
     removals: u64,
+    changes: u64,
 }
 
 impl MemoryStore {
@@ -24,6 +26,7 @@ impl MemoryStore {
             alloc,
             files: BTreeMap::new(alloc),
             removals: 0,
+            changes: 0,
         }
     }
 
@@ -33,30 +36,18 @@ impl MemoryStore {
     {
         self.files.contains_key(name)
     }
-}
 
-impl Store for MemoryStore {
-    ghost use Rattle.std.specs.Prelude.{true};
-
-    ghost tells = { true };
-
-    ghost files = { memory_files };
-
-    ghost count = { λ s. 0 };
-
-    ghost removals = { memory_removals };
-
-    fn read(&mut self, alloc: Global, name: &str) -> Result<Option<Vec<u8>>, StoreError> {
-        let Some(bytes) = self.files.get(name) else {
-            return Ok(None);
-        };
-        match bytes.to_vec(alloc) {
-            Ok(copy) => Ok(Some(copy)),
-            Err(_) => Err(StoreError::Memory),
-        }
-    }
-
-    fn write(&mut self, name: &str, bytes: &[u8]) -> Result<(), StoreError> {
+    // Puts the bytes into the file of the name.
+    fn fill(&mut self, name: &str, bytes: &[u8]) -> Result<(), StoreError>
+        ensures written { OnOk result (memory_files self.new name.now ≡ Is bytes.now) }
+        ensures elsewhere { SameElsewhere name.now (memory_files self.old)
+            (memory_files self.new) }
+        ensures memory { IsErrOf result StoreError.Memory
+            → SameFiles (memory_files self.old) (memory_files self.new) }
+        ensures cause { HasCause 0 0 result }
+        ensures changes { memory_changes self.new ≡ memory_changes self.old }
+        ensures removals { memory_removals self.new ≡ memory_removals self.old }
+    {
         let Ok(copy) = bytes.to_vec(self.alloc) else {
             return Err(StoreError::Memory);
         };
@@ -69,10 +60,59 @@ impl Store for MemoryStore {
         }
     }
 
-    fn remove(&mut self, name: &str) -> Result<(), StoreError> {
+    // Takes the file of the name away, if there is one.
+    fn take_away(&mut self, name: &str)
+        ensures removed { memory_files self.new name.now ≡ None }
+        ensures elsewhere { SameElsewhere name.now (memory_files self.old)
+            (memory_files self.new) }
+        ensures changes { memory_changes self.new ≡ memory_changes self.old }
+        ensures counted { memory_removals self.new ≡ (memory_removals self.old + 1) % 2 ^ 64 }
+    {
         self.removals = self.removals.wrapping_add(1);
         self.files.remove(name);
+    }
+}
+
+impl Store for MemoryStore {
+    ghost tells = { true };
+
+    ghost files = { memory_files };
+
+    ghost count = { λ s. 0 };
+
+    ghost removals = { memory_removals };
+
+    ghost changes = { memory_changes };
+
+    fn read(&mut self, alloc: Global, name: &str) -> Result<Option<Vec<u8>>, StoreError> {
+        let Some(bytes) = self.files.get(name) else {
+            return Ok(None);
+        };
+        match bytes.to_vec(alloc) {
+            Ok(copy) => Ok(Some(copy)),
+            Err(_) => Err(StoreError::Memory),
+        }
+    }
+
+    fn write(&mut self, name: &str, bytes: &[u8]) -> Result<(), StoreError> {
+        self.changes = self.changes.wrapping_add(1);
+        self.fill(name, bytes)
+    }
+
+    fn remove(&mut self, name: &str) -> Result<(), StoreError> {
+        self.changes = self.changes.wrapping_add(1);
+        self.take_away(name);
         Ok(())
+    }
+
+    fn replace(&mut self, name: &str, bytes: &[u8], first: &str, second: &str) -> Replaced {
+        self.changes = self.changes.wrapping_add(1);
+        if let Err(error) = self.fill(name, bytes) {
+            return Replaced::Unwritten(error);
+        }
+        self.take_away(first);
+        self.take_away(second);
+        Replaced::Written(Ok(()), Ok(()))
     }
 
     fn failures(&self) -> u64 {

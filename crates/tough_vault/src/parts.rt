@@ -2,7 +2,7 @@
 
 ghost use Rattle.std.specs.Prelude.{◌≡◌, ◌<◌, vec_len, vec_capacity, length, ◌++◌, ◌∷◌, []};
 ghost use Rattle.tough_vault.specs.Journal.{note_of, notes_of};
-ghost use Rattle.tough_vault.specs.Step.{IsReceipt};
+ghost use Rattle.tough_vault.specs.Step.{IsReceipt, ChangesOnce};
 ghost use Rattle.tough_vault.specs.Parts.{parts, Writes, Concludes};
 
 use crate::entry::{Entry, Receipt, Tip};
@@ -25,9 +25,10 @@ pub(crate) fn write_noted<S: Store>(
     bytes: &[u8],
     entry: Entry,
 ) -> Result<Receipt, StepError>
-    ensures { Writes S.tells S.files S.count name.now (note_of entry) bytes.now
+    ensures writes { Writes S.tells S.files S.count name.now (note_of entry) bytes.now
         (parts store.old journal.old.items tip.old)
         (parts store.new journal.new.items tip.new) result }
+    ensures once { ChangesOnce S.changes store.old store.new }
 {
     let alloc = *journal.allocator();
     let (Ok(receipt), Ok(accepted)) = (entry.copy(alloc), entry.copy(alloc)) else {
@@ -60,9 +61,10 @@ pub(crate) fn conclude<S: Store>(
     name: &str,
     prepared: Result<Prepared, StepError>,
 ) -> Result<Receipt, StepError>
-    ensures { Concludes S.tells S.files S.count name.now prepared
+    ensures concludes { Concludes S.tells S.files S.count name.now prepared
         (parts store.old journal.old.items tip.old)
         (parts store.new journal.new.items tip.new) result }
+    ensures once { ChangesOnce S.changes store.old store.new }
 {
     match prepared {
         Err(error) => Err(error),

@@ -7,7 +7,7 @@ ghost use Rattle.tough_roles.specs.Timestamp.{timestamp_doc, timestamp_json};
 ghost use Rattle.tough_roles.specs.Written.{compact_by};
 ghost use Rattle.tough_checks.specs.StoredDocuments.{content, stored_timestamp, stored_time, time_in};
 ghost use Rattle.tough_vault.specs.Stored.{SameFiles};
-ghost use Rattle.tough_vault.specs.Step.{Finds, Takes};
+ghost use Rattle.tough_vault.specs.Step.{Finds, Takes, ChangesOnce};
 ghost use Rattle.tough_checks.specs.Versions.{time_where};
 ghost use Rattle.tough_vault.specs.Journal.{tip_of};
 ghost use Rattle.tough_checks.specs.Checks.{timestamp_where, enforces};
@@ -49,6 +49,8 @@ pub(crate) fn read_file<S: Store>(
     ensures found { IfOk result
         (λ found. Finds S.tells (S.files store.old) name.now (content found)) }
     ensures same { S.tells ≡ true → SameFiles (S.files store.old) (S.files store.new) }
+    ensures unchanged { S.changes store.new ≡ S.changes store.old }
+    ensures unremoved { S.removals store.new ≡ S.removals store.old }
     ensures quiet { OnOk result (S.count store.new ≡ S.count store.old) }
     ensures fault { IfErr result
         (IsReadFault S.tells S.files S.count name.now store.old store.new) }
@@ -87,6 +89,7 @@ pub(crate) fn prepare_time<S: Store>(
 ) -> Result<Prepared, StepError>
     ensures step { Prepares S.tells S.files S.count (time_step (tip_of tip.now) now.nanosecond)
         store.old store.new result }
+    ensures unchanged { S.changes store.new ≡ S.changes store.old }
     ensures back { OnOk result (stored_time (time_text now.nanosecond) ≡ Some now.nanosecond) }
 {
     let found = match read_file(alloc, store, TIME) {
@@ -121,6 +124,7 @@ pub(crate) fn prepare_timestamp<S: Store, V: Verify>(
         (timestamp_step (V.verifies checker.now.verifier.now) (root_doc root.now)
         (tip_of tip.now) (signed_doc timestamp_doc new.now) checker.now.start.nanosecond
         (enforces checker.now.enforcement)) store.old store.new result }
+    ensures unchanged { S.changes store.new ≡ S.changes store.old }
     ensures back { OnOk result
         (ReadsBack timestamp_in (signed_json timestamp_json (signed_doc timestamp_doc new.now))
         (signed_doc timestamp_doc new.now) (timestamp_text (signed_doc timestamp_doc new.now))) }
@@ -165,8 +169,9 @@ pub(crate) fn prepare_document<S: Store, T: Role>(
     name: &DocumentName,
     role: &Signed<T>,
 ) -> Result<Prepared, StepError>
-    ensures { Prepares S.tells S.files S.count
+    ensures step { Prepares S.tells S.files S.count
         (document_step (name_of name.now) (compact_by T.json role.now)) store.old store.new result }
+    ensures unchanged { S.changes store.new ≡ S.changes store.old }
 {
     let bytes = match document_bytes(alloc, role) {
         Ok(bytes) => bytes,
@@ -190,10 +195,11 @@ pub(crate) fn put_text<S: Store>(
     name: &DocumentName,
     text: &Vec<u8>,
 ) -> Result<Receipt, StepError>
-    ensures { Takes S.tells S.files S.count
+    ensures takes { Takes S.tells S.files S.count
         (document_step (name_of name.now) (Some text.now.items))
         (parts store.old journal.old.items tip.old)
         (parts store.new journal.new.items tip.new) result }
+    ensures once { ChangesOnce S.changes store.old store.new }
 {
     let alloc = *journal.allocator();
     let Ok(noted) = String::from_str(alloc, name.as_str()) else {

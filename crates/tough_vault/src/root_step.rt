@@ -49,6 +49,8 @@ pub(crate) fn prepare_root<S: Store, V: Verify>(
     ensures step { Prepares S.tells S.files S.count
         (root_step (V.verifies verifier.now) (tip_of tip.now) (signed_doc root_doc new.now))
         store.old store.new result }
+    ensures unchanged { S.changes store.new ≡ S.changes store.old }
+    ensures unremoved { S.removals store.new ≡ S.removals store.old }
     ensures back { OnOk result
         (AreOwn (root_doc new.now.signed).keys
         → ReadsBack root_in (signed_json root_json (signed_doc root_doc new.now))

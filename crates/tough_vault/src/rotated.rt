@@ -1,15 +1,15 @@
 //! Forgetting what rotated keys had signed.
 
-ghost use Rattle.std.specs.Prelude.{◌≡◌, ◌<◌, ◌+◌, ◌%◌, ◌^◌, vec_len, vec_capacity, IfOk, string_bytes};
-ghost use Rattle.tough_vault.specs.Journal.{note_of};
-ghost use Rattle.tough_vault.specs.Step.{RemovesBoth, Tried, Clears, TriesTwo, TellsRemoval};
+ghost use Rattle.std.specs.Prelude.{◌≡◌, ◌<◌, ◌+◌, ◌%◌, ◌^◌, vec_len, vec_capacity, IfOk, OnOk, string_bytes};
+ghost use Rattle.tough_vault.specs.Journal.{note_of, entry_of};
+ghost use Rattle.tough_vault.specs.Step.{RemovesBoth, EndsRemoval, Clears, TriesTwo, ChangesOnce, TellsRemoval};
 ghost use Rattle.tough_vault.specs.Parts.{parts};
-ghost use Rattle.tough_vault.specs.Rotated.{IsOfBoth, note_after, WritesAnew, ConcludesRoot};
+ghost use Rattle.tough_vault.specs.Rotated.{IsOfBoth, IsClearing, note_after, WritesAnew, ConcludesRoot};
 
 use crate::entry::{Entry, Receipt, Tip};
 use crate::parts::{Prepared, conclude, note};
 use crate::prepare::{ROOT, SNAPSHOT, TIMESTAMP};
-use crate::store::{Store, StoreError};
+use crate::store::{Replaced, Store, StoreError};
 use std::alloc::{AllocError, Global};
 use tough_checks::StepError;
 
@@ -51,26 +51,25 @@ fn entry_after(root: Option<u64>) -> Entry
     }
 }
 
-// Tries both removals, for whose entry there is room. The fault is that of the first that failed.
-fn forget<S: Store>(
-    store: &mut S,
+// Notes how both removals ended, for whose entry there is room. The fault is that of the first that failed.
+fn end(
     journal: &mut Vec<Entry>,
     tip: &mut Tip,
     root: Option<u64>,
     names: Names,
+    timestamp: Result<(), StoreError>,
+    snapshot: Result<(), StoreError>,
 ) -> Result<Receipt, StepError>
     requires room { vec_len journal.old < vec_capacity journal.old }
     requires names { IsOfBoth names }
-    ensures tried { Tried S.tells S.files S.count (note_after root)
-        (parts store.old journal.old.items tip.old)
-        (parts store.new journal.new.items tip.new) result }
-    ensures counted { S.removals store.new ≡ (S.removals store.old + 2) % 2 ^ 64 }
+    ensures { EndsRemoval (note_after root) timestamp snapshot
+        (parts (tt {0}) journal.old.items tip.old)
+        (parts (tt {0}) journal.new.items tip.new) result }
 {
     let Names {
         timestamp: first,
         snapshot: second,
     } = names;
-    let (timestamp, snapshot) = remove_both(store);
     if let Err(fault) = timestamp {
         note(journal, Entry::Broken, Entry::Broken);
         return Err(removal_error(fault, first));
@@ -101,10 +100,11 @@ pub(crate) fn clear<S: Store>(
     if journal.reserve(1).is_err() {
         return Err(StepError::Memory);
     }
-    forget(store, journal, tip, None, names)
+    let (timestamp, snapshot) = remove_both(store);
+    end(journal, tip, None, names, timestamp, snapshot)
 }
 
-// Writes a root, after one whose keys it rotated, and then tries both removals.
+// Writes a root, after one whose keys it rotated, and removes both files: one change of the store.
 fn replace<S: Store>(
     store: &mut S,
     journal: &mut Vec<Entry>,
@@ -112,9 +112,12 @@ fn replace<S: Store>(
     version: u64,
     bytes: &[u8],
 ) -> Result<Receipt, StepError>
-    ensures { WritesAnew S.tells S.files S.count version bytes.now
+    ensures anew { WritesAnew S.tells S.files S.count version bytes.now
         (parts store.old journal.old.items tip.old)
         (parts store.new journal.new.items tip.new) result }
+    ensures once { ChangesOnce S.changes store.old store.new }
+    ensures both { OnOk result
+        (S.removals store.new ≡ (S.removals store.old + 2) % 2 ^ 64) }
 {
     let alloc = *journal.allocator();
     let (Ok(names), Ok(path)) = (both_names(alloc), String::from_str(alloc, ROOT)) else {
@@ -123,17 +126,19 @@ fn replace<S: Store>(
     if journal.reserve(1).is_err() {
         return Err(StepError::Memory);
     }
-    match store.write(ROOT, bytes) {
-        Ok(()) => forget(store, journal, tip, Some(version), names),
-        Err(StoreError::Failed) => {
+    match store.replace(ROOT, bytes, TIMESTAMP, SNAPSHOT) {
+        Replaced::Written(timestamp, snapshot) => {
+            end(journal, tip, Some(version), names, timestamp, snapshot)
+        }
+        Replaced::Unwritten(StoreError::Failed) => {
             note(journal, Entry::Broken, Entry::Broken);
             Err(StepError::DatastoreCreate { path })
         }
-        Err(StoreError::Memory) => Err(StepError::Memory),
+        Replaced::Unwritten(StoreError::Memory) => Err(StepError::Memory),
     }
 }
 
-/// Writes a root that was prepared and notes it; where it rotated keys, timestamp and snapshot are removed in the same step. Where the
+/// Writes a root that was prepared and notes it; where it rotated keys, timestamp and snapshot are removed in the same change. Where the
 /// first part refused, nothing is done.
 pub(crate) fn conclude_root<S: Store>(
     store: &mut S,
@@ -141,9 +146,12 @@ pub(crate) fn conclude_root<S: Store>(
     tip: &mut Tip,
     prepared: Result<Prepared, StepError>,
 ) -> Result<Receipt, StepError>
-    ensures { ConcludesRoot S.tells S.files S.count prepared
+    ensures concludes { ConcludesRoot S.tells S.files S.count prepared
         (parts store.old journal.old.items tip.old)
         (parts store.new journal.new.items tip.new) result }
+    ensures once { ChangesOnce S.changes store.old store.new }
+    ensures both { IfOk result (λ r. IsClearing (note_of (entry_of r))
+        → S.removals store.new ≡ (S.removals store.old + 2) % 2 ^ 64) }
 {
     let Prepared { bytes, entry } = match prepared {
         Ok(prepared) => prepared,

@@ -32,6 +32,7 @@ pub(crate) fn prepare_snapshot<S: Store, V: Verify>(
         (snapshot_step (V.verifies checker.now.verifier.now) (root_doc root.now)
         (tip_of tip.now) listed (signed_doc snapshot_doc new.now) checker.now.start.nanosecond
         (enforces checker.now.enforcement)) store.old store.new result }
+    ensures unchanged { S.changes store.new ≡ S.changes store.old }
     ensures back { OnOk result
         (ReadsBack snapshot_in (signed_json snapshot_json (signed_doc snapshot_doc new.now))
         (signed_doc snapshot_doc new.now) (snapshot_text (signed_doc snapshot_doc new.now))) }

@@ -1,13 +1,13 @@
 //! A store, with the journal of what was accepted from it.
 
-ghost use Rattle.std.specs.Prelude.{◌≡◌, List, [], Some, true, false, OnOk};
+ghost use Rattle.std.specs.Prelude.{◌≡◌, ◌+◌, ◌%◌, ◌^◌, List, [], Some, true, false, IfOk, OnOk};
 ghost use Rattle.tough_roles.specs.Signature.{signed_doc};
 ghost use Rattle.tough_roles.specs.Root.{root_doc};
 ghost use Rattle.tough_roles.specs.Timestamp.{timestamp_doc};
 ghost use Rattle.tough_roles.specs.Snapshot.{snapshot_doc};
 ghost use Rattle.tough_checks.specs.Checks.{enforces};
-ghost use Rattle.tough_vault.specs.Journal.{no_tip, replay, Rises, Legal, NothingGoesBack, RootsRise, has_broken, notes_of, tip_of};
-ghost use Rattle.tough_vault.specs.Step.{Takes, Clears, TriesTwo};
+ghost use Rattle.tough_vault.specs.Journal.{no_tip, replay, Rises, Legal, NothingGoesBack, RootsRise, has_broken, note_of, notes_of, entry_of, tip_of};
+ghost use Rattle.tough_vault.specs.Step.{Takes, Clears, TriesTwo, ChangesOnce};
 ghost use Rattle.tough_vault.specs.Steps.{time_text, time_step, timestamp_step, snapshot_step, document_step};
 ghost use Rattle.tough_checks.specs.StoredDocuments.{stored_time};
 ghost use Rattle.tough_roles.specs.Written.{compact_by};
@@ -15,6 +15,7 @@ ghost use Rattle.tough_checks.specs.DocumentName.{name_of};
 ghost use Rattle.tough_vault.specs.Looking.{Looks, look_doc};
 ghost use Rattle.tough_vault.specs.Parts.{Holds, NamesFree, RootReadsBack, TimestampReadsBack, SnapshotReadsBack};
 ghost use Rattle.tough_vault.specs.Puts.{Puts};
+ghost use Rattle.tough_vault.specs.Rotated.{IsClearing};
 ghost use Rattle.tough_vault.specs.Props.{Rises-prop, replays-prop};
 
 use crate::entry::{Entry, Receipt, Tip};
@@ -88,6 +89,7 @@ impl<S: Store> Vault<S> {
     pub fn note_time(&mut self, now: Instant) -> Result<Receipt, StepError>
         ensures takes { Takes S.tells S.files S.count (time_step (tip_in self.old) now.nanosecond)
             (parts_of self.old) (parts_of self.new) result }
+        ensures once { ChangesOnce S.changes (store_of self.old) (store_of self.new) }
         ensures back { OnOk result (stored_time (time_text now.nanosecond) ≡ Some now.nanosecond) }
     {
         let Vault {
@@ -120,7 +122,8 @@ impl<S: Store> Vault<S> {
     }
 
     /// Accepts a root (TUF specification 5.3), and stores it as `root.json`. Where the root that was stored has another list of keys for
-    /// timestamp or snapshot, these two are then removed in the same step; both removals are tried.
+    /// timestamp or snapshot, these two are then removed in the same step; both removals are tried. The step is one change of the store, so
+    /// that a process which ends within it leaves the store before the step or the store behind it.
     ///
     /// It refuses, in this order: `VerifyMetadata` where it doesn't verify itself; `DatastoreOpen`; `OlderMetadata` against a stored root that
     /// verifies itself, then against the tip; `DatastoreSerialize` where it has no text; `DatastoreCreate`; and, where it was written, with
@@ -132,6 +135,9 @@ impl<S: Store> Vault<S> {
     ) -> Result<Receipt, StepError>
         ensures puts { Puts S.tells S.files S.count (V.verifies verifier.now)
             (signed_doc root_doc root.now) (parts_of self.old) (parts_of self.new) result }
+        ensures once { ChangesOnce S.changes (store_of self.old) (store_of self.new) }
+        ensures both { IfOk result (λ r. IsClearing (note_of (entry_of r))
+            → S.removals (store_of self.new) ≡ (S.removals (store_of self.old) + 2) % 2 ^ 64) }
         ensures back { OnOk result (RootReadsBack (signed_doc root_doc root.now)) }
     {
         let Vault {
@@ -179,6 +185,7 @@ impl<S: Store> Vault<S> {
             (timestamp_step (V.verifies verifier.now) (root_doc root.now) (tip_in self.old)
             (signed_doc timestamp_doc new.now) start.nanosecond (enforces enforcement))
             (parts_of self.old) (parts_of self.new) result }
+        ensures once { ChangesOnce S.changes (store_of self.old) (store_of self.new) }
         ensures back { OnOk result (TimestampReadsBack (signed_doc timestamp_doc new.now)) }
     {
         let Vault {
@@ -218,6 +225,7 @@ impl<S: Store> Vault<S> {
             (snapshot_step (V.verifies verifier.now) (root_doc root.now) (tip_in self.old) listed
             (signed_doc snapshot_doc new.now) start.nanosecond (enforces enforcement))
             (parts_of self.old) (parts_of self.new) result }
+        ensures once { ChangesOnce S.changes (store_of self.old) (store_of self.new) }
         ensures back { OnOk result (SnapshotReadsBack (signed_doc snapshot_doc new.now)) }
     {
         let Vault {
@@ -243,9 +251,10 @@ impl<S: Store> Vault<S> {
         name: &DocumentName,
         role: &Signed<T>,
     ) -> Result<Receipt, StepError>
-        ensures { Takes S.tells S.files S.count
+        ensures takes { Takes S.tells S.files S.count
             (document_step (name_of name.now) (compact_by T.json role.now)) (parts_of self.old)
             (parts_of self.new) result }
+        ensures once { ChangesOnce S.changes (store_of self.old) (store_of self.new) }
     {
         let Vault {
             alloc,
@@ -263,9 +272,10 @@ impl<S: Store> Vault<S> {
         name: &DocumentName,
         role: &Written<T>,
     ) -> Result<Receipt, StepError>
-        ensures { Takes S.tells S.files S.count
+        ensures takes { Takes S.tells S.files S.count
             (document_step (name_of name.now) (compact_by T.json role.now)) (parts_of self.old)
             (parts_of self.new) result }
+        ensures once { ChangesOnce S.changes (store_of self.old) (store_of self.new) }
     {
         let Some(text) = role.text() else {
             return self.put_document(name, role.document());

@@ -14,7 +14,9 @@ mod gateway;
 mod http;
 mod program;
 mod script;
+mod table;
 
+use crate::table::{CALLS, fault_of, place_of};
 use anyhow::{Result, anyhow};
 use serde_json::Value;
 use std::alloc::AllocGlobal;
@@ -28,10 +30,7 @@ use std::{env, fs};
 use trials_calls::case::text;
 use trials_calls::judge::misses;
 use trials_editor::{editing, publishing, putting};
-use trials_hostile::{loading, stops};
-use trials_loads::{errors, load, saves, update};
-use trials_table::{CALLS, fault_of, place_of};
-use trials_world::{schedule, shared};
+use trials_loads::{errors, load, loading, saves, schedule, shared, stops, update};
 
 // What a call on updates or errors answers.
 fn of_updates(rt: &HostRuntime, call: &str, case: &Value) -> Result<String> {

@@ -1,12 +1,12 @@
 //! A store in memory that fails as a case asks.
-ghost use Rattle.std.specs.Prelude.{◌≡◌};
+ghost use Rattle.std.specs.Prelude.{◌≡◌, ◌+◌, ◌%◌, ◌^◌};
 ghost use Rattle.tough_vault.specs.Stored.{HasCause};
 
 use crate::case::{list, number, text};
 use anyhow::{Result, anyhow};
 use serde_json::Value;
 use std::alloc::Global;
-use tough_vault::{MemoryStore, Store, StoreError};
+use tough_vault::{MemoryStore, Replaced, Store, StoreError};
 
 // The files that are told, in this order.
 const NAMES: [&str; 5] = [
@@ -33,7 +33,8 @@ pub enum Fault {
     Spoils,
 }
 
-/// Files in memory. Where the timestamp is stuck, reading it gives the same bytes whatever was written.
+/// Files in memory. Where the timestamp is stuck, reading it gives the same bytes whatever was written. Removals that the process
+/// didn't live to make are made for the next one, as `DirStore` does.
 #[derive(Drop)]
 pub struct Shelf {
     files: MemoryStore,
@@ -42,6 +43,8 @@ pub struct Shelf {
     left: u64,
     failures: u64,
     removals: u64,
+    changes: u64,
+    noted: bool,
 }
 
 // What goes wrong, and after how many calls.
@@ -91,19 +94,33 @@ impl Shelf {
             left,
             failures: 0,
             removals: 0,
+            changes: 0,
+            noted: false,
         })
     }
 
     /// The store of the next process, whose calls fail as the case says.
     pub fn restarted(self, case: &Value) -> Shelf {
         let (fault, left) = fault_of(case);
+        let Shelf {
+            mut files,
+            stuck,
+            noted,
+            ..
+        } = self;
+        if noted {
+            let _ = files.remove(STUCK);
+            let _ = files.remove("snapshot.json");
+        }
         Shelf {
-            files: self.files,
-            stuck: self.stuck,
+            files,
+            stuck,
             fault,
             left,
             failures: 0,
             removals: 0,
+            changes: 0,
+            noted: false,
         }
     }
 
@@ -132,6 +149,7 @@ impl Shelf {
     fn fail(&mut self) -> Result<(), StoreError>
         ensures cause { HasCause self.old.failures self.new.failures result }
         ensures removals { self.new.removals ≡ self.old.removals }
+        ensures changes { self.new.changes ≡ self.old.changes }
     {
         if self.left > 0 {
             if self.left < u64::MAX {
@@ -166,6 +184,24 @@ pub fn held(alloc: Global, bytes: &[u8]) -> Result<String> {
     }
 }
 
+impl Shelf {
+    // Removes a file; each removal may be the call that fails.
+    fn remove_counted(&mut self, name: &str) -> Result<(), StoreError>
+        ensures cause { HasCause self.old.failures self.new.failures result }
+        ensures removals { self.new.removals ≡ (self.old.removals + 1) % 2 ^ 64 }
+        ensures changes { self.new.changes ≡ self.old.changes }
+    {
+        self.removals = self.removals.wrapping_add(1);
+        if let Err(error) = self.fail() {
+            return Err(error);
+        }
+        match self.files.remove(name) {
+            Ok(()) => Ok(()),
+            Err(_) => Err(StoreError::Memory),
+        }
+    }
+}
+
 impl Store for Shelf {
     ghost use Rattle.std.specs.Prelude.{false, None};
 
@@ -176,6 +212,8 @@ impl Store for Shelf {
     ghost count = { λ s. s.failures };
 
     ghost removals = { λ s. s.removals };
+
+    ghost changes = { λ s. s.changes };
 
     fn read(&mut self, alloc: Global, name: &str) -> Result<Option<Vec<u8>>, StoreError> {
         if let Err(error) = self.fail() {
@@ -196,6 +234,7 @@ impl Store for Shelf {
     }
 
     fn write(&mut self, name: &str, bytes: &[u8]) -> Result<(), StoreError> {
+        self.changes = self.changes.wrapping_add(1);
         if let Err(error) = self.fail() {
             if self.fault == Fault::Spoils {
                 let _ = self.files.write(name, b"{");
@@ -209,6 +248,7 @@ impl Store for Shelf {
     }
 
     fn remove(&mut self, name: &str) -> Result<(), StoreError> {
+        self.changes = self.changes.wrapping_add(1);
         self.removals = self.removals.wrapping_add(1);
         if let Err(error) = self.fail() {
             return Err(error);
@@ -217,6 +257,23 @@ impl Store for Shelf {
             Ok(()) => Ok(()),
             Err(_) => Err(StoreError::Memory),
         }
+    }
+
+    fn replace(&mut self, name: &str, bytes: &[u8], first: &str, second: &str) -> Replaced {
+        self.changes = self.changes.wrapping_add(1);
+        if let Err(error) = self.fail() {
+            if self.fault == Fault::Spoils {
+                let _ = self.files.write(name, b"{");
+            }
+            return Replaced::Unwritten(error);
+        }
+        if self.files.write(name, bytes).is_err() {
+            return Replaced::Unwritten(StoreError::Memory);
+        }
+        let first = self.remove_counted(first);
+        let second = self.remove_counted(second);
+        self.noted = first.is_err() || second.is_err();
+        Replaced::Written(first, second)
     }
 
     fn failures(&self) -> u64 {

@@ -9,7 +9,7 @@ use Rattle.tough_honest.proofs.Ending.{begun-honest}
 use Rattle.tough_honest.proofs.laws.honest_loads.Goals as goal
 
 pub returns : goal.returns
-returns g c = λ files d outcome begun tells untouched shows there loadable h fine.
+returns g c = λ files d outcome begun tells untouched may h fine.
     let from = c.args.loader.now in
     let l = c.args.load.now in
     let new = c.args.ended.now in
@@ -19,4 +19,4 @@ returns g c = λ files d outcome begun tells untouched shows there loadable h fi
     c.loads.ensures (part.base_of l) files d
     g.V.Verify.verifies (part.verifier_of l) (verifier_of from) (part.transport_of l) (transport_of from) (core_doc (part.core_of l)) (first_core (settings_of from))
     (part.held_of l) (held_of from) (part.fetch_of l) outcome (core_doc (part.core_of new)) (part.held_of new)
-    begun.verifier begun.transport begun.core (begun-held from l begun) begun.fetch refl untouched shows there loadable h.ends fine
+    begun.verifier begun.transport begun.core (begun-held from l begun) begun.fetch refl untouched may h.ends fine

@@ -1,4 +1,4 @@
-use Rattle.std.proofs.Common.{◌≡◌, None, refl, sym, subst, ◌∙◌}
+use Rattle.std.proofs.Common.{◌≡◌, List, None, refl, sym, subst, ◌∙◌}
 use Rattle.std.specs.Path.{path_join}
 use Rattle.tough_honest.specs.Serves.{ServesName}
 use Rattle.tough_load.specs.Loader.{first_core, settings_of, transport_of, verifier_of}
@@ -6,25 +6,39 @@ use Rattle.tough_load.specs.Words as part
 use Rattle.tough_round.specs.Files.{files_of, written}
 use Rattle.tough_write.specs.Filling.{content_at}
 use Rattle.tough_mirror.specs.Folder.{files_in}
+use Rattle.tough_trust.specs.Requests.{RequestDoc}
+use Rattle.tough_update.specs.Answered.{AnswerDoc}
+use Rattle.tough_update.specs.Loadable.{AllHonest}
+use Rattle.tough_update.specs.Machine.{question}
+use Rattle.tough_update.specs.Questions.{Fetch}
+use Rattle.tough_update.specs.Runs.{run}
+use Rattle.tough_mirror.proofs.SameAnswers.{honest-same}
 use Rattle.tough_mirror.proofs.AskedNames.{asked-relative, written-relative}
 use Rattle.tough_mirror.proofs.LatestFiles.{asked-plain, latest, nothing-read}
 use Rattle.tough_mirror.proofs.laws.written_loads.Goals as goal
 
 pub returns : goal.returns
-returns g c = λ start signers e r outdir before after outcome released well may free fills serves begun tells untouched shows finishes fine.
+returns g c = λ signers e r outdir before after outcome released well fills begun tells untouched may finishes fine.
     let from = c.args.loader.now in
     let l = c.args.load.now in
     let v = g.V.Verify.verifies (verifier_of from) in
     let core = first_core (settings_of from) in
-    let found = c.released_is_found.ensures v core.setting start signers e r released may in
+    c.released_loads.ensures signers e r outcome begun tells untouched well released
+    (λ now shows.
+    let all = may now shows in
+    let free = all.1.0 in
+    let found = c.released_is_found.ensures v core.setting now signers e r released all.0 in
     let reads = c.written_reads_back.ensures outdir (written r) before after free.plain fills in
-    c.released_loads.ensures start signers e r outcome begun tells untouched shows
-    (λ answers q asked.
+    let same : (answers : List AnswerDoc) (q : RequestDoc) → AllHonest v (files_of r) now core answers → question (run v core answers) ≡ Fetch q → files_in outdir after q.name ≡ files_of r q.name
+    = λ answers q honest asked.
     let relative = asked-relative v core answers q (c.asks.ensures v core answers q refl asked) in
     let path = path_join outdir q.name in
-    let none : files_of r q.name ≡ None → before path ≡ None = free.others answers q asked in
-    let same : files_in outdir after q.name ≡ files_of r q.name =
+    let none : files_of r q.name ≡ None → before path ≡ None = free.others answers q honest asked in
     reads path (asked-plain outdir q.name before (written r) free.plain none)
-    ∙ latest outdir q.name (files_of r) relative (written r) found (written-relative r) (content_at before path) (λ e. nothing-read before path (none e) ∙ sym e) in
-    subst (ServesName g.T.Transport.refuses g.T.Transport.serves (transport_of from) (part.base_of l) q.name) same (serves answers q asked))
-    well released may finishes fine
+    ∙ latest outdir q.name (files_of r) relative (written r) found (written-relative r) (content_at before path) (λ e. nothing-read before path (none e) ∙ sym e) in (
+      all.0,
+      λ answers q honest asked.
+          subst (ServesName g.T.Transport.refuses g.T.Transport.serves (transport_of from) (part.base_of l) q.name) (same answers q honest asked)
+          (all.1.1 answers q (honest-same v (files_of r) (files_in outdir after) now core same answers honest) asked),
+    ))
+    finishes fine

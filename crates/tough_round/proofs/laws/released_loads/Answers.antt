@@ -1,10 +1,16 @@
+use Rattle.std.proofs.Common.{refl}
 use Rattle.tough_load.specs.Loader.{first_core, settings_of, verifier_of}
 use Rattle.tough_round.specs.Files.{files_of, loaded_of}
 use Rattle.tough_round.proofs.laws.released_loads.Goals as goal
 
 pub returns : goal.returns
-returns g c = λ start signers e r outcome begun tells untouched shows there well released may finishes fine.
+returns g c = λ signers e r outcome begun tells untouched well released may finishes fine.
     let from = c.args.loader.now in
     let s = (first_core (settings_of from)).setting in
-    c.honest_loads.ensures (files_of r) (loaded_of s start r) outcome begun tells untouched shows there
-    (c.released_is_loadable.ensures (g.V.Verify.verifies (verifier_of from)) s start signers e r well released may) finishes fine
+    c.honest_loads.ensures (files_of r) (λ now. loaded_of s now r) outcome begun tells untouched
+    (λ now shows. record {
+      start = refl;
+      loadable = c.released_is_loadable.ensures (g.V.Verify.verifies (verifier_of from)) s now signers e r well released (may now shows).0;
+      served = (may now shows).1;
+    })
+    finishes fine

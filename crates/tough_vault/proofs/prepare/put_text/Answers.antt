@@ -9,8 +9,8 @@ use Rattle.tough_vault.proofs.Preparing.{prepared}
 use Rattle.tough_vault.proofs.Taking.{takes}
 use Rattle.tough_vault.proofs.prepare.put_text.Goals as goal
 
-pub returns : goal.returns
-returns g c =
+pub returns-clause-takes : goal.returns-clause-takes
+returns-clause-takes g c =
     let tells = g.S.Store.tells in
     let files = g.S.Store.files in
     let count = g.S.Store.count in
@@ -21,4 +21,4 @@ returns g c =
     let made : Prepared = record { bytes = c.args.text.now; entry = entry.Document c.in-Ok.noted } in
     let ready = prepared tells files count step c.args.store.now c.args.store.now (files c.args.store.now name) made (λ t. refl) refl refl
     (record { entry = ap Document (c.in-Ok.ensures.ok ∙ c.as_str.ensures); bytes = refl }) refl (λ t n. refl) in
-    takes tells files count step old new c.args.store.now (Ok made) c.write_noted.result ready (record { refused = tt; written = rw (c.as_str-2.ensures, c.as_slice.ensures.value) at c.write_noted.ensures })
+    takes tells files count step old new c.args.store.now (Ok made) c.write_noted.result ready (record { refused = tt; written = rw (c.as_str-2.ensures, c.as_slice.ensures.value) at c.write_noted.ensures.writes })

@@ -10,10 +10,10 @@ use Rattle.tough_vault.proofs.Fitting.{after_step, fits_timestamp, when_ready, w
 use Rattle.tough_vault.proofs.vault.Vault.advance_timestamp.Goals as goal
 
 pub returns-clause-takes : goal.returns-clause-takes
-returns-clause-takes g c = takes _ _ _ _ _ _ _ _ _ c.prepare_timestamp-prepared.ensures.step c.conclude.ensures
+returns-clause-takes g c = takes _ _ _ _ _ _ _ _ _ c.prepare_timestamp-prepared.ensures.step c.conclude.ensures.concludes
 
 pub returns-clause-back : goal.returns-clause-back
-returns-clause-back g c = when_done _ _ c.prepare_timestamp-prepared.result c.conclude.result c.conclude.ensures.refused c.prepare_timestamp-prepared.ensures.back
+returns-clause-back g c = when_done _ _ c.prepare_timestamp-prepared.result c.conclude.result c.conclude.ensures.concludes.refused c.prepare_timestamp-prepared.ensures.back
 
 pub invariant_of-self : goal.invariant_of-self
 invariant_of-self g c =
@@ -26,6 +26,6 @@ invariant_of-self g c =
     let s = after_step g.S.Store.tells g.S.Store.files g.S.Store.count
     (timestamp_step verifies root (tip_of self.tip) new c.args.start.nanosecond (enforces c.args.enforcement)) before after _ c.prepare_timestamp-prepared.result c.conclude.result
     (record { replays = self.replays; rises = self.rises; free = self.free; holds = self.holds })
-    c.prepare_timestamp-prepared.ensures.step c.conclude.ensures
+    c.prepare_timestamp-prepared.ensures.step c.conclude.ensures.concludes
     (λ p ready. fits_timestamp g.S.Store.tells g.S.Store.files g.S.Store.count before self.free (g.S.Store.files c.conclude.new.store) verifies root new c.args.start.nanosecond (enforces c.args.enforcement) (when_ready c.prepare_timestamp-prepared.result p c.prepare_timestamp-prepared.ensures.back ready)) in
     record { replays = s.replays; rises = s.rises; free = s.free; holds = s.holds }

@@ -6,10 +6,10 @@ use Rattle.tough_vault.proofs.Fitting.{after_step, fits_time, when_ready, when_d
 use Rattle.tough_vault.proofs.vault.Vault.note_time.Goals as goal
 
 pub returns-clause-takes : goal.returns-clause-takes
-returns-clause-takes g c = takes _ _ _ _ _ _ _ _ _ c.prepare_time-prepared.ensures.step c.conclude.ensures
+returns-clause-takes g c = takes _ _ _ _ _ _ _ _ _ c.prepare_time-prepared.ensures.step c.conclude.ensures.concludes
 
 pub returns-clause-back : goal.returns-clause-back
-returns-clause-back g c = when_done _ _ c.prepare_time-prepared.result c.conclude.result c.conclude.ensures.refused c.prepare_time-prepared.ensures.back
+returns-clause-back g c = when_done _ _ c.prepare_time-prepared.result c.conclude.result c.conclude.ensures.concludes.refused c.prepare_time-prepared.ensures.back
 
 pub invariant_of-self : goal.invariant_of-self
 invariant_of-self g c =
@@ -18,6 +18,6 @@ invariant_of-self g c =
     let after = parts c.conclude.new.store c.conclude.new.journal.items c.conclude.new.tip in
     let s = after_step g.S.Store.tells g.S.Store.files g.S.Store.count (time_step (tip_of self.tip) c.args.now.nanosecond) before after _ c.prepare_time-prepared.result c.conclude.result
     (record { replays = self.replays; rises = self.rises; free = self.free; holds = self.holds })
-    c.prepare_time-prepared.ensures.step c.conclude.ensures
+    c.prepare_time-prepared.ensures.step c.conclude.ensures.concludes
     (λ p ready. fits_time g.S.Store.tells g.S.Store.files g.S.Store.count before self.free (g.S.Store.files c.conclude.new.store) c.args.now.nanosecond (when_ready c.prepare_time-prepared.result p c.prepare_time-prepared.ensures.back ready)) in
     record { replays = s.replays; rises = s.rises; free = s.free; holds = s.holds }

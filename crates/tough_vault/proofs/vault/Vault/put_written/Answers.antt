@@ -13,6 +13,6 @@ invariant_of-self g c =
     let name = name_of c.args.name.now in
     let text = Some c.in-Some.text.now.items in
     let s = after_taking g.S.Store.tells g.S.Store.files g.S.Store.count (document_step name text) before after c.put_text.result
-    (record { replays = self.replays; rises = self.rises; free = self.free; holds = self.holds }) c.put_text.ensures
+    (record { replays = self.replays; rises = self.rises; free = self.free; holds = self.holds }) c.put_text.ensures.takes
     (fits_document g.S.Store.tells g.S.Store.files g.S.Store.count before self.free (g.S.Store.files c.put_text.new.store) name text c.args.name.now.free) in
     record { replays = s.replays; rises = s.rises; free = s.free; holds = s.holds }

@@ -1,0 +1,4 @@
+pub mod Der
+pub mod Reading
+pub mod Keys
+pub mod Pem

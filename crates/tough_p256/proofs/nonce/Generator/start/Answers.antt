@@ -1,0 +1,4 @@
+use Rattle.tough_p256.proofs.nonce.Generator.start.Goals as goal
+
+pub returns : goal.returns
+returns c = cc

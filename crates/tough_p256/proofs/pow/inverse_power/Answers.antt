@@ -1,0 +1,5 @@
+use Rattle.tough_p256.proofs.Constants.{less_two_words}
+use Rattle.tough_p256.proofs.pow.inverse_power.Goals as goal
+
+pub returns : goal.returns
+returns c = less_two_words

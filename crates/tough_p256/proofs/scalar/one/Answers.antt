@@ -1,0 +1,5 @@
+use Rattle.tough_p256.proofs.Products.{one_words}
+use Rattle.tough_p256.proofs.scalar.one.Goals as goal
+
+pub returns : goal.returns
+returns c = one_words
