@@ -5,7 +5,7 @@ ghost use Rattle.std.specs.Prelude.{⊤};
 use std::alloc::{AllocError, AllocGlobal, Global};
 use std::fmt::{self, Display, Formatter};
 use std::{fs, io, rt};
-use tough::{Error, NameError, Url};
+use tough::{Error, NameError, UpdateError, Url};
 
 /// Why nothing was saved.
 #[derive(Drop)]
@@ -78,6 +78,14 @@ impl From<NameError> for Fault {
     ghost from_gives = { λ _ _. ⊤ };
 
     fn from(error: NameError) -> Fault {
+        Fault::Refused(Error::from(error))
+    }
+}
+
+impl From<UpdateError> for Fault {
+    ghost from_gives = { λ _ _. ⊤ };
+
+    fn from(error: UpdateError) -> Fault {
         Fault::Refused(Error::from(error))
     }
 }
