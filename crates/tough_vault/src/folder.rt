@@ -16,6 +16,9 @@ use std::{io, rt};
 // How many bytes a file's name may have: more than the systems' files do.
 const LONGEST_NAME: usize = 255;
 
+// What is said of a store that is to be changed and has no folder.
+const MISSING: &str = "the store's folder is missing";
+
 /// A store whose files stand in a folder, which must be there. It tells nothing, since others may write there.
 ///
 /// **One store serves one repository.** The next load begins at the root that the store holds, whatever root is handed in.
@@ -159,7 +162,7 @@ impl<R: rt::Files<File = File> + AllocGlobal + Clone + Drop> DirStore<R> {
         if self.take_hold()? {
             Ok(())
         } else {
-            Err(io::Error::from(ErrorKind::NotFound))
+            Err(io::Error::new(ErrorKind::NotFound, MISSING))
         }
     }
 
@@ -241,7 +244,7 @@ impl<R: rt::Files<File = File> + AllocGlobal + Clone + Drop> DirStore<R> {
     {
         self.take_hold_to_change()?;
         let Some(held) = &self.held else {
-            return Err(io::Error::from(ErrorKind::NotFound));
+            return Err(io::Error::new(ErrorKind::NotFound, MISSING));
         };
         let change = begin(&self.rt, self.folder.as_str(), held, names, bytes)?;
         let done = finish(&self.rt, held, &change);
