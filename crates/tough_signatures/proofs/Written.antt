@@ -10,23 +10,27 @@ use Rattle.tough_keys.specs.declared.kind.Kind.TheVariants as kinds
 use Rattle.tough_modular.specs.Octets.{number_octets}
 use Rattle.tough_p256.specs.Curve.{Coordinates}
 use Rattle.tough_p256.specs.Signing.{is_secret, point_octets, key_at, public_key}
-use Rattle.tough_der.specs.Der.{spki_rsa, spki_p256, pkcs8_ed25519, pkcs8_p256}
+use Rattle.tough_der.specs.Der.{spki_rsa, spki_p256, sig_value, pkcs8_ed25519, pkcs8_p256}
 use Rattle.tough_der.specs.Pem.{IsPem, pem_text}
 use Rattle.tough_der.specs.Reading.{after}
 use Rattle.tough_der.specs.Keys.{p256_front, ed25519_secret_front, p256_secret_front, p256_point_front, ed25519_secret_of}
 use Rattle.tough_der.proofs.Options.{and_left, and_right, if_some}
 use Rattle.tough_der.proofs.Lengths.{IsBytes}
 use Rattle.tough_der.proofs.Elements.{bytes_from, bytes_at}
-use Rattle.tough_der.proofs.Read.{rsa_complete, rsa_fits}
+use Rattle.tough_der.proofs.Read.{rsa_complete, rsa_fits, signature_complete}
 use Rattle.tough_der.proofs.Fixed.{spki_p256_is, pkcs8_ed25519_is, pkcs8_p256_is, p256_complete, secret_complete, pair_complete}
 use Rattle.tough_der.proofs.Pems.{pem_complete, pem_written}
-use Rattle.tough_signatures.specs.Verifying.{public_label, rsa_numbers_of, text_point}
+use Rattle.tough_decoded.specs.Spelled.{is_armour}
+use Rattle.tough_rsa.specs.Rsa.{rsa_verifies}
+use Rattle.tough_p256.specs.Ecdsa.{is_signature}
+use Rattle.tough_signatures.proofs.Armour.{read_is_armour}
+use Rattle.tough_signatures.specs.Verifying.{public_label, rsa_numbers_of, rsa_text_verifies, text_point, ecdsa_bytes_verify}
 use Rattle.tough_signatures.specs.Secrets.{secret_label, with_point, secret_by, secret_of}
 use Rattle.tough_signatures.specs.SigningKeys.{secret_text}
 
 -- ---- public keys
 
-pub rsa_text_read : (text n : List ℕ) (e : ℕ) → AllBytes (spki_rsa n e) → IsPem public_label text (spki_rsa n e) → 0 < slice_index n 0 → length n ≤ 1024 → e < 2 ^ 64
+rsa_text_read : (text n : List ℕ) (e : ℕ) → AllBytes (spki_rsa n e) → IsPem public_label text (spki_rsa n e) → 0 < slice_index n 0 → length n ≤ 1024 → e < 2 ^ 64
     → rsa_numbers_of text ≡ Some (n, e)
 unfolding rsa_numbers_of
 rsa_text_read text n e b p z l k =
@@ -34,12 +38,27 @@ rsa_text_read text n e b p z l k =
     let r = rsa_complete n e z (omega arith) k in
     rw q r
 
-pub point_text_read : (text p : List ℕ) → AllBytes (spki_p256 p) → IsPem public_label text (spki_p256 p) → length p ≡ 65 → text_point text ≡ Some p
+point_text_read : (text p : List ℕ) → AllBytes (spki_p256 p) → IsPem public_label text (spki_p256 p) → length p ≡ 65 → text_point text ≡ Some p
 unfolding text_point
 point_text_read text p b i h =
     let l : length (spki_p256 p) ≡ 91 = ap length (spki_p256_is p h) ∙ (length-append p256_front p ∙ omega (arith, h)) in
     let q = pem_complete public_label text (spki_p256 p) b (omega arith) i in
     rw q (p256_complete p h)
+
+pub rsa_text_is_key : (text n message signature : List ℕ) (e : ℕ) → AllBytes (spki_rsa n e) → IsPem public_label text (spki_rsa n e) → 0 < slice_index n 0 → length n ≤ 1024 → e < 2 ^ 64
+    → rsa_text_verifies text message signature ≡ rsa_verifies n e message signature
+unfolding rsa_text_verifies
+rsa_text_is_key text n message signature e b p z l k = let r = rsa_text_read text n e b p z l k in rw r refl
+
+pub ecdsa_text_is_key : (text p message r s : List ℕ) → AllBytes (spki_p256 p) → IsPem public_label text (spki_p256 p) → length p ≡ 65 → length r ≡ 32 → length s ≡ 32
+    → ecdsa_bytes_verify text message (sig_value r s) ≡ is_signature p message r s
+unfolding ecdsa_bytes_verify
+ecdsa_text_is_key text p message r s b i h k l =
+    let n : length (spki_p256 p) ≡ 91 = ap length (spki_p256_is p h) ∙ (length-append p256_front p ∙ omega (arith, h)) in
+    let a : is_armour text ≡ true = read_is_armour public_label text (spki_p256 p) (pem_complete public_label text (spki_p256 p) b (omega arith) i) in
+    let q = point_text_read text p b i h in
+    let d = signature_complete r s k l in
+    rw (a, q, d) refl
 
 -- ---- bytes
 
