@@ -105,13 +105,13 @@ fn reads_and_writes_ed25519(rt: HostRuntime) -> Result<(), Fail> {
 
 #[test]
 fn reads_and_writes_signatures(rt: HostRuntime) -> Result<(), Fail> {
-    let Some((r, s)) = read_signature(&SIGNATURE) else {
+    let Some(halves) = read_signature(&SIGNATURE) else {
         assert!(rt; false, "nothing is read");
         return Ok(());
     };
-    assert_eq!(rt; (r[31], s[0], s[31]), (1, 0x80, 5));
+    assert_eq!(rt; (halves.0[31], halves.1[0], halves.1[31]), (1, 0x80, 5));
     assert_eq!(rt;
-        write_signature(rt.alloc(), &r, &s)?.as_slice(),
+        write_signature(rt.alloc(), &halves.0, &halves.1)?.as_slice(),
         SIGNATURE.as_slice()
     );
     // Both halves are 1; then with a length in two octets, a negative half, a padded one, and a byte that follows.

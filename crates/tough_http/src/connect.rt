@@ -139,13 +139,22 @@ impl<R: Net + Clock + AllocGlobal + Drop> Future for HttpConnect<R> {
                 let deadline = self.deadline.take();
                 Poll::Ready(Ok(HttpSocket { stream, deadline }))
             }
-            Poll::Ready(Err(_)) => self.go_on(RequestFault::Unconnected, cx),
+            Poll::Ready(Err(error)) => self.go_on(connect_fault(&error), cx),
             Poll::Pending if attempt.limit.poll_over(cx) => self.go_on(RequestFault::TimedOut, cx),
             Poll::Pending if self.deadline.poll_over(cx) => {
                 Poll::Ready(Err(RequestFault::TimedOut))
             }
             Poll::Pending => Poll::Pending,
         }
+    }
+}
+
+// Why there is no connection to an address.
+fn connect_fault(error: &io::Error) -> RequestFault {
+    match error.kind() {
+        ErrorKind::OutOfMemory => RequestFault::NoMemory,
+        ErrorKind::ConnectionRefused => RequestFault::Unconnected,
+        _ => RequestFault::Unreachable,
     }
 }
 

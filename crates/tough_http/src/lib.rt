@@ -7,6 +7,7 @@ mod builder;
 mod connect;
 mod deadline;
 mod default;
+mod metered;
 mod requests;
 mod transport;
 
@@ -16,6 +17,7 @@ pub use builder::HttpTransportBuilder;
 pub use connect::{HttpConnect, HttpPause, HttpSocket};
 pub use deadline::Deadline;
 pub use default::{DefaultStream, DefaultTransport};
+pub use metered::{Allowance, Metered};
 pub use requests::HttpRequests;
 pub use tough_net::{HttpError, LastRequest, RequestError, RequestFault};
 pub use transport::{HttpStream, HttpTransport};

@@ -4,6 +4,7 @@ ghost use Rattle.url.specs.Parts.{serialize};
 
 use crate::body::{HttpAnswer, HttpBody};
 use crate::connect::{HttpConnect, HttpPause, HttpSocket};
+use crate::metered::Metered;
 use bytes::Bytes;
 use http::{Request, header};
 use http_body_util::Empty;
@@ -13,7 +14,6 @@ use std::hash::RandomState;
 use std::net::Net;
 use std::random::RandomSource;
 use std::time::{Clock, Duration};
-use tokio::net::TcpStream;
 use tokio::runtime::Handle;
 use tough_net::{RequestFault, Requests};
 use url::Url;
@@ -35,7 +35,7 @@ impl<R: Net + Clock + RandomSource + AllocGlobal + Clone + Drop> Requests for Ht
 
     type Answer = HttpAnswer;
 
-    type Conn = Connection<TcpStream, Empty<Bytes>>;
+    type Conn = Connection<Metered, Empty<Bytes>>;
 
     type Socket = HttpSocket;
 
@@ -77,7 +77,7 @@ impl<R: Net + Clock + RandomSource + AllocGlobal + Clone + Drop> Requests for Ht
         &mut self,
         socket: HttpSocket,
         from: u64,
-    ) -> Result<(HttpAnswer, Connection<TcpStream, Empty<Bytes>>), RequestFault> {
+    ) -> Result<(HttpAnswer, Connection<Metered, Empty<Bytes>>), RequestFault> {
         self.sent = self.sent.wrapping_add(1);
         let alloc = self.rt.alloc();
         let Some(request) = request_for(alloc, &self.url, from) else {
@@ -87,6 +87,9 @@ impl<R: Net + Clock + RandomSource + AllocGlobal + Clone + Drop> Requests for Ht
             return Err(RequestFault::NoMemory);
         };
         let HttpSocket { stream, deadline } = socket;
+        let Ok((stream, allowance)) = Metered::new(alloc, stream) else {
+            return Err(RequestFault::NoMemory);
+        };
         let Ok((mut sender, conn)) = http1::handshake(alloc, keys, stream) else {
             return Err(RequestFault::NoMemory);
         };
@@ -95,6 +98,7 @@ impl<R: Net + Clock + RandomSource + AllocGlobal + Clone + Drop> Requests for Ht
             HttpAnswer {
                 alloc,
                 response,
+                allowance,
                 deadline,
             },
             conn,

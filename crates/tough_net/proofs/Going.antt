@@ -1,14 +1,14 @@
 -- What each event of a fetch leads to, and what a poll owes after it.
-use Rattle.std.specs.Prelude.{◌≡◌, ◌≢◌, ℕ, ◌≤◌, Bool, true, false, ◌&&◌, ◌||◌, ◌==◌, nat_lt, if◌then◌else◌, List, [], length, Option, Some, None, Ok, Err, ◌⊎◌}
-use Rattle.std.proofs.Common.{inl, inr, refl, rules, sym, ◌∙◌, ap, subst}
-use Rattle.std.proofs.lemmas.Bool.{and_cases, or_parts, ltb-false, eqb-false, cond-false}
+use Rattle.std.specs.Prelude.{◌≡◌, ℕ, Bool, true, false, if◌then◌else◌, List, [], length, Option, Some, None, Ok, Err}
+use Rattle.std.proofs.Common.{inl, inr, refl, rules, sym, ◌∙◌, ap}
+use Rattle.std.proofs.lemmas.Bool.{cond-false}
 use Rattle.futures.specs.Runs.{Runs, After, Within}
 use Rattle.futures.specs.Task.{IsArmed, Keeps}
 use Rattle.futures.specs.declared.task.Poll.{Poll}
 use Rattle.futures.specs.declared.task.Poll.TheVariants.{Ready, Pending}
 use Rattle.futures.specs.declared.task.context.Context.{Context}
 use Rattle.tough_net.specs.declared.http_error.HttpError.{HttpError}
-use Rattle.tough_net.specs.declared.http_error.HttpError.TheVariants.{FetchFileNotFound, FetchFatal, FetchNoMoreRetries}
+use Rattle.tough_net.specs.declared.http_error.HttpError.TheVariants.{FetchFatal, FetchNoMoreRetries}
 use Rattle.tough_net.specs.declared.error.TransportError.{TransportError}
 use Rattle.std.specs.declared.time.Duration.{Duration}
 use Rattle.std.specs.Duration.{as_nanos}

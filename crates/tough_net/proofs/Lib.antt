@@ -7,3 +7,5 @@ pub mod LimitLemmas
 pub mod PacingLemmas
 pub mod ResourceLemmas
 pub mod TurnLemmas
+mod Marks
+mod Showing

@@ -13,3 +13,5 @@ pub mod Retries
 pub mod RetryRecord
 pub mod Retrying
 pub mod Urls
+pub mod Shown
+pub mod ShownParts

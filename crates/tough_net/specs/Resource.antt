@@ -1,12 +1,16 @@
 -- A resource that comes by parts.
-use Rattle.std.specs.Prelude.{◌≡◌, ◌≢◌, ℕ, ◌+◌, ◌^◌, ◌≤◌, Bool, false, List, [], ◌∷◌, ◌++◌, drop, length, Option, Some, None, Ok, Err, ◌⊎◌}
+use Rattle.std.specs.Prelude.{◌≡◌, ℕ, ◌+◌, false, List, [], ◌∷◌, ◌++◌, drop, length, Option, Some, None, Ok, Err, ◌⊎◌}
 use Rattle.futures.specs.Runs.{Runs, Ends}
 use Rattle.tough_net.specs.declared.error.TransportError.{TransportError}
 use Rattle.tough_net.specs.declared.error.TransportErrorKind.{TransportErrorKind}
 use Rattle.tough_net.specs.declared.error.TransportErrorKind.TheVariants.{FileNotFound, Other}
 use Rattle.tough_net.specs.declared.http_error.HttpError.{HttpError}
 use Rattle.tough_net.specs.declared.http_error.HttpError.TheVariants.{FetchFileNotFound, FetchFatal, FetchNoMoreRetries, HttpClient, InvalidHeader, RequestBuild, TlsBuildError}
+use Rattle.tough_net.specs.declared.http_error.LastRequest.{LastRequest}
+use Rattle.tough_net.specs.declared.http_error.LastRequest.TheVariants as last
+use Rattle.tough_net.specs.declared.http_error.RequestFault.{RequestFault}
 use Rattle.tough_net.specs.declared.http_error.RequestFault.TheVariants.{Cut}
+use Rattle.tough_net.specs.declared.error.Cause.{Cause}
 use Rattle.tough_net.specs.declared.error.Cause.TheVariants.{Http}
 use Rattle.tough_net.specs.declared.retry_events.RetryAction.TheVariants.{Fail}
 use Rattle.tough_net.specs.declared.retry_events.RetryEvent.{RetryEvent}
@@ -32,6 +36,21 @@ kind_of_http TlsBuildError = Other
 abbrev pub IsHttpFault : List ℕ → HttpError → TransportError → Type 0
 IsHttpFault url error e = (error_kind e ≡ kind_of_http error) × (error_url e ≡ url) × (error_cause e ≡ Some (Http error))
 
+-- the fault of a request that came to this
+abbrev pub fault_by : LastRequest → RequestFault
+fault_by (last.Fault fault) = fault
+fault_by (last.Status status) = Cut
+fault_by last.TooLong = Cut
+
+abbrev pub fault_in : Option Cause → RequestFault
+fault_in None = Cut
+fault_in (Some (Http (FetchFatal source))) = fault_by source.last
+fault_in (Some other) = Cut
+
+-- the fault that a body's error tells, as its cause; where it tells none, the body was cut
+abbrev pub fault_of : TransportError → RequestFault
+fault_of e = fault_in (error_cause e)
+
 module _ {Q : Type 0} (bodies : Q → ℕ → Runs Item) where
   -- each body is a beginning of the resource, from the byte that was asked for
   abbrev pub IsHonest : Q → List ℕ → Type 0
@@ -49,10 +68,10 @@ module _ {Q : Type 0} (bodies : Q → ℕ → Runs Item) where
     pub reached : from + length (joined items) ≡ at
 
 module _ {Q : Type 0} (bodies : Q → ℕ → Runs Item) (answers : Q → ℕ → RetryEvent → Type 0) where
-  -- What may happen to a fetch that has come to this byte: a request comes to that, or a body breaks off. Pieces and ends are told
-  -- by `Follows`.
+  -- What may happen to a fetch that has come to this byte: a request comes to that, or a body breaks off, which tells why. Pieces and
+  -- ends are told by `Follows`.
   abbrev pub Happens : Q → ℕ → RetryEvent → Type 0
-  Happens q at (Fault fault) = answers q at (Fault fault) ⊎ ((fault ≡ Cut) × ((e : TransportError) × Gave bodies q at (Some (Err e))))
+  Happens q at (Fault fault) = answers q at (Fault fault) ⊎ ((e : TransportError) × (fault ≡ fault_of e) × Gave bodies q at (Some (Err e)))
   Happens q at (Answer status accepts) = answers q at (Answer status accepts)
   Happens q at (Piece len) = ⊥
   Happens q at End = ⊥

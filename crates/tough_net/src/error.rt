@@ -200,11 +200,8 @@ impl Display for Cause {
                 expected,
             } => {
                 let context = Shown(context.as_str());
-                write!(
-                    f,
-                    "Hash mismatch for {context}: calculated {calculated}, expected {expected}"
-                )?;
-                tell_length(f, calculated.len() / 2, expected.len() / 2)
+                write!(f, "Hash mismatch for {context}: ")?;
+                tell_digests(f, calculated.as_str(), expected.as_str())
             }
             Cause::Http(error) => write!(f, "{error}"),
             Cause::Text(text) => {
@@ -215,12 +212,25 @@ impl Display for Cause {
     }
 }
 
-// Tells that a stated digest isn't as long as one of its kind, both in bytes.
-fn tell_length<W: fmt::Write>(f: &mut Formatter<W>, len: usize, stated: usize) -> fmt::Result {
-    if stated == len {
-        return Ok(());
+// Tells both digests, in hexadecimal digits, and the length of the expected one where no file has such a digest. None was calculated
+// where the first is empty.
+fn tell_digests<W: fmt::Write>(
+    f: &mut Formatter<W>,
+    calculated: &str,
+    expected: &str,
+) -> fmt::Result {
+    let len = expected.len() / 2;
+    if calculated.is_empty() {
+        return write!(
+            f,
+            "no file has the expected digest of {len} bytes, {expected}"
+        );
     }
-    write!(f, " ({stated} bytes in place of {len})")
+    write!(f, "calculated {calculated}, expected {expected}")?;
+    match calculated.len() / 2 {
+        whole if whole == len => Ok(()),
+        whole => write!(f, " ({len} bytes in place of {whole})"),
+    }
 }
 
 impl Error for Cause {}

@@ -9,9 +9,11 @@ use std::fmt::{Display, Formatter};
 pub enum RequestFault {
     /// The host's name has no address.
     NoSuchHost,
-    /// Each address of the host refused the connection, or couldn't be reached.
+    /// The address of the host that was tried last refused the connection.
     Unconnected,
-    /// The try took longer than it may.
+    /// The address of the host that was tried last couldn't be reached.
+    Unreachable,
+    /// The time for a request was over.
     TimedOut,
     /// The connection ended before an answer came, or what came is no answer of HTTP.
     Unanswered,
@@ -67,6 +69,7 @@ impl Display for RequestFault {
         f.write_str(match self {
             RequestFault::NoSuchHost => "no such host",
             RequestFault::Unconnected => "connection refused",
+            RequestFault::Unreachable => "host unreachable",
             RequestFault::TimedOut => "timed out",
             RequestFault::Unanswered => "no valid answer",
             RequestFault::Cut => "body broke off",
@@ -85,12 +88,20 @@ impl Display for LastRequest {
     }
 }
 
+impl RequestError {
+    // What the last request came to, and after how many bytes.
+    fn tell_last<W: fmt::Write>(&self, f: &mut Formatter<W>) -> fmt::Result {
+        write!(f, "{}", self.last)?;
+        match self.received {
+            0 => Ok(()),
+            received => write!(f, " after {received} bytes"),
+        }
+    }
+}
+
 impl Display for RequestError {
     fn fmt<W: fmt::Write>(&self, f: &mut Formatter<W>) -> fmt::Result {
-        write!(f, "{}", self.last)?;
-        if self.received != 0 {
-            write!(f, " after {} bytes", self.received)?;
-        }
+        self.tell_last(f)?;
         match self.requests {
             1 => Ok(()),
             requests => write!(f, ", the last of {requests} requests"),
@@ -107,8 +118,12 @@ impl Display for HttpError {
             HttpError::FetchFatal { source } => {
                 write!(f, "A non-retryable error occurred: {source}")
             }
-            HttpError::FetchNoMoreRetries { tries, source } => {
-                write!(f, "Fetch failed after {tries} retries: {source}")
+            HttpError::FetchNoMoreRetries { source, .. } => {
+                match source.requests {
+                    1 => f.write_str("Fetch failed after 1 request: ")?,
+                    requests => write!(f, "Fetch failed after {requests} requests: ")?,
+                }
+                source.tell_last(f)
             }
             HttpError::HttpClient => f.write_str("Unable to create an HTTP client"),
             HttpError::InvalidHeader => f.write_str("Invalid header"),

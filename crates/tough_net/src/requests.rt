@@ -21,6 +21,7 @@ pub struct Response<B> {
 
 /// Makes requests of one resource, each over a connection of its own and from some byte on, and pauses.
 pub trait Requests: Drop {
+    /// An error of a body tells the fault as its cause, `FetchFatal`; one without such a cause says that the body broke off.
     type Body: Stream<Item = Result<Bytes, TransportError>>;
 
     type Answer: Future<Output = Result<Response<Self::Body>, RequestFault>>;

@@ -1,14 +1,14 @@
 //! The stream of a resource that is asked for again where a body breaks off.
 ghost use Rattle.std.specs.Prelude.{◌≡◌, ◌⊎◌, false, IfSome, string_bytes};
 ghost use Rattle.futures.specs.Runs.{Within};
-ghost use Rattle.tough_net.specs.Resource.{Fetches, Happens, IsHttpFault, kind_of_http};
+ghost use Rattle.tough_net.specs.Resource.{Fetches, Happens, IsHttpFault, fault_of, kind_of_http};
 ghost use Rattle.tough_net.specs.Errors.{IsMemory};
 ghost use Rattle.tough_net.specs.Retries.{started};
 ghost use Rattle.tough_net.specs.Retrying.{Acts, CanAct, Goes, IsCounted, IsReadable, StandsWell, Yields};
 
 use crate::{
-    Cause, Exchange, HttpError, RequestFault, Requests, Response, RetryAction, RetryCore,
-    RetryEvent, RetrySettings, TransportError, TransportErrorKind,
+    Cause, Exchange, HttpError, LastRequest, RequestFault, Requests, Response, RetryAction,
+    RetryCore, RetryEvent, RetrySettings, TransportError, TransportErrorKind,
 };
 use bytes::Bytes;
 use futures::task::{Context, Poll};
@@ -290,7 +290,11 @@ impl<Q: Requests> Retrying<Q> {
                         action => self.act(action, cx),
                     }
                 }
-                Poll::Ready(Some(Err(_))) => self.retry(RequestFault::Cut, cx),
+                Poll::Ready(Some(Err(error))) => {
+                    let fault = fault_of(&error);
+                    drop(error);
+                    self.retry(fault, cx)
+                }
                 Poll::Ready(None) => {
                     self.state = State::Ended;
                     Poll::Ready(None)
@@ -314,6 +318,20 @@ impl<Q: Requests> Stream for Retrying<Q> {
 
     fn poll_next(&mut self, cx: &mut Context<'_>) -> Poll<Option<Self::Item>> {
         self.go_on(cx)
+    }
+}
+
+// The fault that a body's error tells; where it tells none, the body was cut.
+fn fault_of(error: &TransportError) -> RequestFault
+    ensures { result ≡ fault_of error.now }
+{
+    let Some(Cause::Http(HttpError::FetchFatal { source })) = error.cause() else {
+        return RequestFault::Cut;
+    };
+    match source.last {
+        LastRequest::Fault(fault) => fault,
+        LastRequest::Status(_) => RequestFault::Cut,
+        LastRequest::TooLong => RequestFault::Cut,
     }
 }
 

@@ -1,4 +1,9 @@
 //! How texts stand before a reader.
+ghost use Rattle.std.specs.Prelude.{◌≡◌, ◌<◌, Some, option_map};
+ghost use Rattle.std.specs.Fmt.{WritesOnOk};
+ghost use Rattle.std.specs.Option.{option_copied};
+ghost use Rattle.tough_net.specs.Shown.{mark, printable, split, until, ahead, past, parts, shown};
+ghost use Rattle.tough_net.specs.ShownParts.{parts_in};
 
 use std::fmt;
 use std::fmt::{Display, Formatter};
@@ -11,6 +16,8 @@ const MOST: usize = 1024;
 struct Mark(char);
 
 impl Display for Mark {
+    ghost output = { λ m. Some (mark m.0) };
+
     fn fmt<W: fmt::Write>(&self, f: &mut Formatter<W>) -> fmt::Result {
         let c = self.0;
         if c.is_control() {
@@ -28,19 +35,93 @@ impl Display for Mark {
 pub struct Printable<'a>(pub &'a str);
 
 impl Display for Printable<'_> {
+    ghost output = { λ t. Some (printable t.0.now) };
+
     fn fmt<W: fmt::Write>(&self, f: &mut Formatter<W>) -> fmt::Result {
-        let mut rest = self.0.chars();
-        for _ in 0..MOST {
-            let Some(c) = rest.next() else {
-                return Ok(());
-            };
-            let mark = Mark(c);
-            write!(f, "{mark}")?;
-        }
-        match rest.next() {
-            Some(_) => f.write_str("..."),
-            None => Ok(()),
-        }
+        write_printable(self.0, f)
+    }
+}
+
+// Writes the first characters, and dots for the others.
+fn write_printable<W: fmt::Write>(text: &str, f: &mut Formatter<W>) -> fmt::Result
+    ensures { WritesOnOk W.write_str_gives f.old result (printable text.now) f.new }
+{
+    let mut rest = text.chars();
+    for _shown in 0..MOST {
+        let Some(c) = rest.next() else {
+            return Ok(());
+        };
+        let mark = Mark(c);
+        write!(f, "{mark}")?;
+    }
+    match rest.next() {
+        Some(_) => f.write_str("..."),
+        None => Ok(()),
+    }
+}
+
+// The parts of a URL's text that has a password.
+#[derive(Clone, Copy, Drop)]
+struct Parts<'a> {
+    scheme: &'a str,
+    user: &'a str,
+    // All that stands behind the password.
+    behind: &'a str,
+}
+
+// Up to the first such character, and behind it.
+fn split(text: &str, mark: char) -> Option<(&str, &str)>
+    requires { mark < 128 }
+    ensures { option_map (λ both. (both.0.now, both.1.now)) result ≡ split mark text.now }
+{
+    text.split_once(mark)
+}
+
+// Up to the first such character, or all.
+fn until(text: &str, mark: char) -> &str
+    requires { mark < 128 }
+    ensures { result.now ≡ until mark text.now }
+{
+    match text.split_once(mark) {
+        Some((before, _)) => before,
+        None => text,
+    }
+}
+
+// Up to the last such character.
+fn ahead(text: &str, mark: char) -> Option<&str>
+    requires { mark < 128 }
+    ensures { option_copied result ≡ ahead mark text.now }
+{
+    match text.rsplit_once(mark) {
+        Some((before, _)) => Some(before),
+        None => None,
+    }
+}
+
+// Behind this beginning.
+fn past<'a>(front: &str, text: &'a str) -> Option<&'a str>
+    ensures { option_copied result ≡ past front.now text.now }
+{
+    text.strip_prefix(front)
+}
+
+impl<'a> Parts<'a> {
+    // None where the text isn't a URL's, or has no password.
+    fn of(text: &'a str) -> Option<Parts<'a>>
+        ensures { option_map parts_in result ≡ parts text.now }
+    {
+        let (scheme, rest) = split(text, ':')?;
+        let rest = past("//", rest)?;
+        let authority = until(until(until(rest, '/'), '?'), '#');
+        let info = ahead(authority, '@')?;
+        let (user, _) = split(info, ':')?;
+        let behind = past(info, rest)?;
+        Some(Parts {
+            scheme,
+            user,
+            behind,
+        })
     }
 }
 
@@ -48,24 +129,14 @@ impl Display for Printable<'_> {
 #[derive(Clone, Copy, Drop)]
 pub struct Shown<'a>(pub &'a str);
 
-impl<'a> Shown<'a> {
-    // The scheme, the user, and all behind the password, where there is one.
-    fn parts(&self) -> Option<(&'a str, &'a str, &'a str)> {
-        let (scheme, rest) = self.0.split_once("://")?;
-        let authority = rest.split(['/', '?', '#']).next()?;
-        let (userinfo, _) = authority.rsplit_once('@')?;
-        let (user, _) = userinfo.split_once(':')?;
-        let behind = rest.strip_prefix(userinfo)?;
-        Some((scheme, user, behind))
-    }
-}
-
 impl Display for Shown<'_> {
+    ghost output = { λ t. Some (shown t.0.now) };
+
     fn fmt<W: fmt::Write>(&self, f: &mut Formatter<W>) -> fmt::Result {
-        match self.parts() {
-            Some((scheme, user, behind)) => {
-                let (scheme, user) = (Printable(scheme), Printable(user));
-                let behind = Printable(behind);
+        match Parts::of(self.0) {
+            Some(found) => {
+                let (scheme, user) = (Printable(found.scheme), Printable(found.user));
+                let behind = Printable(found.behind);
                 write!(f, "{scheme}://{user}:***{behind}")
             }
             None => {

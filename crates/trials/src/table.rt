@@ -7,7 +7,7 @@ use trials_calls::case::text;
 const COMMON: &str = "call,name,answer,words";
 
 /// Each call, with the members of its cases, beside those of every case, and the members of the objects in their lists.
-pub const CALLS: [(&str, &str, &str); 92] = [
+pub const CALLS: [(&str, &str, &str); 95] = [
     ("TargetName::new", "input", ""),
     ("encode_filename", "input", ""),
     ("TargetName::cmp", "input,other", ""),
@@ -38,6 +38,9 @@ pub const CALLS: [(&str, &str, &str); 92] = [
     ("sign", "secret,message", ""),
     ("Ed25519Verify", "key,message,signature", ""),
     ("Verifiers", "key,message,signature", ""),
+    ("RsaVerify", "key,message,signature", ""),
+    ("EcdsaVerify", "key,message,signature", ""),
+    ("StandardVerify", "key,message,signature", ""),
     ("Ed25519Sign", "secret,message,key", ""),
     (
         "Files",

@@ -7,6 +7,7 @@ use serde_json::Value;
 use std::alloc::Global;
 use tough_ed25519::{Ed25519Sign, Ed25519Verify, NoVerify, Verifiers};
 use tough_keys::{DemoSign, DemoVerify, Key, Sign, Verify};
+use tough_signatures::{EcdsaVerify, RsaVerify, StandardVerify};
 
 // The key of a text of digits.
 fn key_of_text(alloc: Global, text: &str) -> Result<Key> {
@@ -67,6 +68,15 @@ fn verify<V: Verify>(alloc: Global, case: &Value, verifier: &V) -> Result<String
     Ok(format!(in alloc; "{verified}")?)
 }
 
+// The same of a message in hexadecimal digits.
+fn verify_digits<V: Verify>(alloc: Global, case: &Value, verifier: &V) -> Result<String> {
+    let signature = hex::decode(alloc, text(case, "signature"))?;
+    let message = hex::decode(alloc, text(case, "message"))?;
+    let key = key_of(alloc, case, "key")?;
+    let verified = verifier.verify(&key, message.as_slice(), signature.as_slice());
+    Ok(format!(in alloc; "{verified}")?)
+}
+
 // The signature of a message, with the public bytes of the signer's key, or why there is none.
 fn signature_by<S: Sign>(alloc: Global, signer: &S, message: &str) -> Result<String> {
     let Ok(key) = signer.tuf_key(alloc) else {
@@ -123,6 +133,9 @@ pub(crate) fn answer(alloc: Global, call: &str, case: &Value) -> Result<Option<S
         "Ed25519Verify" => Some(verify(alloc, case, &Ed25519Verify)?),
         "Ed25519Sign" => Some(sign_ed25519(alloc, case)?),
         "Verifiers" => Some(verify_by_kind(alloc, case)?),
+        "RsaVerify" => Some(verify_digits(alloc, case, &RsaVerify)?),
+        "EcdsaVerify" => Some(verify_digits(alloc, case, &EcdsaVerify)?),
+        "StandardVerify" => Some(verify_digits(alloc, case, &StandardVerify)?),
         _ => None,
     })
 }

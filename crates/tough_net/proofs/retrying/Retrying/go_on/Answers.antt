@@ -13,8 +13,8 @@ returns-in-Pending g c =
     let stands = all.1 in
     rw c.in-Pausing.is (Goes_pending refl (all.0, (stands.0, (c.in-Pending.ensures.again, (λ o given. stands.1.1 o (c.in-Pending.ensures.same o given))))) (λ xs last h. h) c.in-Pending.ensures.registered.0 c.poll.ensures.kept)
 
-pub returns-in-Pausing : goal.returns-in-Pausing
-returns-in-Pausing g c = rw c.in-Pausing.is (Goes_later c.poll.ensures.kept c.connect.ensures)
+pub returns-in-Ready : goal.returns-in-Ready
+returns-in-Ready g c = rw c.in-Pausing.is (Goes_later c.poll.ensures.kept c.connect.ensures)
 
 pub returns-in-Pending-poll : goal.returns-in-Pending-poll
 returns-in-Pending-poll g c =
@@ -27,8 +27,8 @@ returns-in-Pending-poll g c =
 pub returns-in-Ready-Ok : goal.returns-in-Ready-Ok
 returns-in-Ready-Ok g c = rw c.in-Connecting.is (Goes_later c.poll-in-Connecting.ensures.kept c.send.ensures)
 
-pub returns-in-Connecting : goal.returns-in-Connecting
-returns-in-Connecting g c = rw c.in-Connecting.is (Goes_later c.poll-in-Connecting.ensures.kept c.retry.ensures)
+pub returns-in-Ready-Err : goal.returns-in-Ready-Err
+returns-in-Ready-Err g c = rw c.in-Connecting.is (Goes_later c.poll-in-Connecting.ensures.kept c.retry.ensures)
 
 pub returns-in-Pending-poll-2 : goal.returns-in-Pending-poll-2
 returns-in-Pending-poll-2 g c =
@@ -43,8 +43,8 @@ pub returns-in-Ready-Ok-poll : goal.returns-in-Ready-Ok-poll
 returns-in-Ready-Ok-poll g c =
     rw c.in-Asking.is (Goes_later (λ fact h. c.poll-in-Asking.ensures.kept fact (c.poll_conn.ensures.kept fact h)) c.answer.ensures)
 
-pub returns-in-Asking : goal.returns-in-Asking
-returns-in-Asking g c =
+pub returns-in-Ready-Err-poll : goal.returns-in-Ready-Err-poll
+returns-in-Ready-Err-poll g c =
     rw c.in-Asking.is (Goes_later (λ fact h. c.poll-in-Asking.ensures.kept fact (c.poll_conn.ensures.kept fact h)) c.retry-in-Ready-Err-poll.ensures)
 
 pub returns-in-Pending-poll_next : goal.returns-in-Pending-poll_next
@@ -96,8 +96,8 @@ returns-in-Read g c =
     )
     c.poll_next.ensures.kept))
 
-pub returns-in-Ready-Some-Ok : goal.returns-in-Ready-Some-Ok
-returns-in-Ready-Some-Ok g c =
+pub returns-in_default : goal.returns-in_default
+returns-in_default g c =
     let all = rw c.in-Reading.is at c.requires in
     let stands = all.1 in
     let s = c.args.self.now.core.settings in
@@ -117,8 +117,8 @@ returns-in-Ready-Some-Ok g c =
 pub returns-in-Ready-Some-Err : goal.returns-in-Ready-Some-Err
 returns-in-Ready-Some-Err g c = rw c.in-Reading.is (Goes_later c.poll_next.ensures.kept c.retry-in-Ready-Some-Err.ensures)
 
-pub returns-in-Reading : goal.returns-in-Reading
-returns-in-Reading g c =
+pub returns-in-Ready-None : goal.returns-in-Ready-None
+returns-in-Ready-None g c =
     let all = rw c.in-Reading.is at c.requires in
     let stands = all.1 in
     let q = g.Q.Requests.resource c.args.self.now.requests in

@@ -18,25 +18,25 @@ pub note-requires-clause-number : goal.note-requires-clause-number
 note-requires-clause-number g c =
     let old = c.args.self.now.vault in
     let new = c.put_document-answer.new.self in
-    let n = goes_on g.S.Store.tells g.S.Store.files g.S.Store.count no_signature (PutDocument (name_of c.args.name.now) (compact_by g.T.Role.json c.args.role.now)) (parts_of old) (parts_of new) c.put_document-answer.result c.put_document-answer.ensures in
+    let n = goes_on g.S.Store.tells g.S.Store.files g.S.Store.count no_signature (PutDocument (name_of c.args.name.now) (compact_by g.T.Role.json c.args.role.now)) (parts_of old) (parts_of new) c.put_document-answer.result c.put_document-answer.ensures.takes in
     numbered c.args.self.now.front.seen.log (notes_in old) (notes_in new) c.put_document-answer.result c.args.self.now.same n
 
 pub note-requires-clause-entries : goal.note-requires-clause-entries
 note-requires-clause-entries g c =
     let old = c.args.self.now.vault in
     let new = c.put_document-answer.new.self in
-    let n = goes_on g.S.Store.tells g.S.Store.files g.S.Store.count no_signature (PutDocument (name_of c.args.name.now) (compact_by g.T.Role.json c.args.role.now)) (parts_of old) (parts_of new) c.put_document-answer.result c.put_document-answer.ensures in
+    let n = goes_on g.S.Store.tells g.S.Store.files g.S.Store.count no_signature (PutDocument (name_of c.args.name.now) (compact_by g.T.Role.json c.args.role.now)) (parts_of old) (parts_of new) c.put_document-answer.result c.put_document-answer.ensures.takes in
     counted c.args.self.now.front.seen.log (notes_in old) (notes_in new) (journal_of new) c.entries_of-entries.result c.put_document-answer.result c.args.self.now.same n refl c.entries_of-entries.ensures
 
 pub invariant_of-self : goal.invariant_of-self
 invariant_of-self g c =
     let old = c.args.self.now.vault in
     let new = c.put_document-answer.new.self in
-    let n = goes_on g.S.Store.tells g.S.Store.files g.S.Store.count no_signature (PutDocument (name_of c.args.name.now) (compact_by g.T.Role.json c.args.role.now)) (parts_of old) (parts_of new) c.put_document-answer.result c.put_document-answer.ensures in
+    let n = goes_on g.S.Store.tells g.S.Store.files g.S.Store.count no_signature (PutDocument (name_of c.args.name.now) (compact_by g.T.Role.json c.args.role.now)) (parts_of old) (parts_of new) c.put_document-answer.result c.put_document-answer.ensures.takes in
     record { same = follows c.args.self.now.front.seen.log c.note.new.front.seen.log (notes_in old) (notes_in new) (journal_of new) c.entries_of-entries.result c.put_document-answer.result c.args.self.now.same n refl c.entries_of-entries.ensures c.note.ensures.grows }
 
 pub returns-clause-step : goal.returns-clause-step
 returns-clause-step g c =
     let old = c.args.self.now.vault in
     let new = c.put_document-answer.new.self in
-    subst (λ (a : Result Receipt StepError). Acts g.S.Store.tells g.S.Store.files g.S.Store.count no_signature (PutDocument (name_of c.args.name.now) (compact_by g.T.Role.json c.args.role.now)) (parts_of old) (parts_of new) a) (sym c.note.ensures.answer) c.put_document-answer.ensures
+    subst (λ (a : Result Receipt StepError). Acts g.S.Store.tells g.S.Store.files g.S.Store.count no_signature (PutDocument (name_of c.args.name.now) (compact_by g.T.Role.json c.args.role.now)) (parts_of old) (parts_of new) a) (sym c.note.ensures.answer) c.put_document-answer.ensures.takes

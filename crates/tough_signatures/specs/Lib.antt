@@ -1,0 +1,3 @@
+pub mod Verifying
+pub mod Secrets
+pub mod SigningKeys
