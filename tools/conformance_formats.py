@@ -2,13 +2,16 @@
 import json
 import unicodedata
 
-from cryptography.hazmat.primitives import serialization
+from cryptography.hazmat.primitives import hashes, serialization
+from cryptography.hazmat.primitives.asymmetric import padding, rsa
+from cryptography.hazmat.primitives.asymmetric.utils import decode_dss_signature, encode_dss_signature
 
-from conformance_repository import TOP_LEVEL, document
+from conformance_repository import KINDS, TOP_LEVEL, Key, body, document
 from conformance_trial import Wrong, test
 
 FIRST = {"timestamp": 1, "snapshot": 1, "targets": 1}
 HELLO = b"hello, world\n"
+P256_ORDER = 0xFFFFFFFF00000000FFFFFFFFFFFFFFFFBCE6FAADA7179E84F3B9CAC2FC632551
 
 
 def begin_anew(it):
@@ -96,12 +99,16 @@ def _(it):
 # ---- keys
 
 
-@test("4.2", "an ECDSA key of the type ecdsa-sha2-nistp256", kinds=("ecdsa",))
-def _(it):
-    key = it.repository.key("timestamp").respelled(keytype="ecdsa-sha2-nistp256")
+def with_timestamp_key(it, key):
+    """Root 2 has the timestamp signed by this key."""
     it.repository.trust("timestamp", [key])
     it.repository.next_root()
     it.repository.release()
+
+
+@test("4.2", "an ECDSA key of the type ecdsa-sha2-nistp256", kinds=("ecdsa",))
+def _(it):
+    with_timestamp_key(it, it.repository.key("timestamp").respelled(keytype="ecdsa-sha2-nistp256"))
     it.accept(root=2, **FIRST)
 
 
@@ -109,19 +116,79 @@ def _(it):
 def _(it):
     key = it.repository.key("timestamp")
     point = key.secret.public_key().public_bytes(serialization.Encoding.X962, serialization.PublicFormat.UncompressedPoint)
-    it.repository.trust("timestamp", [key.respelled(keyval={"public": point.hex()})])
-    it.repository.next_root()
-    it.repository.release()
+    with_timestamp_key(it, key.respelled(keyval={"public": point.hex()}))
     it.accept(root=2, **FIRST)
+
+
+@test("4.2", "an ECDSA signature whose second half is the greater of the two that verify", kinds=("ecdsa",))
+def _(it):
+    right = it.repository.key("timestamp").sign(it.repository.timestamp)
+    r, s = decode_dss_signature(bytes.fromhex(right["sig"]))
+    great = encode_dss_signature(r, max(s, P256_ORDER - s)).hex()
+    it.repository.put_bytes("timestamp", document(it.repository.timestamp, [{**right, "sig": great}]))
+    it.accept(**FIRST)
 
 
 @test("4.2", "a key's PEM without its last line end", kinds=("ecdsa", "rsa"))
 def _(it):
     key = it.repository.key("timestamp")
-    it.repository.trust("timestamp", [key.respelled(keyval={"public": key.public().strip()})])
-    it.repository.next_root()
-    it.repository.release()
+    with_timestamp_key(it, key.respelled(keyval={"public": key.public().strip()}))
     it.accept(root=2, **FIRST)
+
+
+for size in (2048, 3072, 4096):
+
+    @test("4.2", f"an RSA key of {size} bits", kinds=("rsa",))
+    def _(it, size=size):
+        with_timestamp_key(it, Key("rsa", "", rsa.generate_private_key(public_exponent=65537, key_size=size)))
+        it.accept(root=2, **FIRST)
+
+
+@test("4.2", "an RSA key of 1,024 bits verifies nothing", differs="silent", kinds=("rsa",))
+def _(it):
+    with_timestamp_key(it, Key("rsa", "", rsa.generate_private_key(public_exponent=65537, key_size=1024)))
+    it.refuse(root=2, timestamp=None)
+
+
+@test("4.2", "an RSA signature with the longest salt verifies nothing", differs="silent", kinds=("rsa",))
+def _(it):
+    key = it.repository.key("timestamp")
+    key.padding = padding.PSS(padding.MGF1(hashes.SHA256()), padding.PSS.MAX_LENGTH)
+    it.repository.put("timestamp", signers=[key])
+    it.refuse(timestamp=None)
+
+
+@test("4.2", "an RSA signature of another padding verifies nothing", kinds=("rsa",))
+def _(it):
+    key = it.repository.key("timestamp")
+    key.padding = padding.PKCS1v15()
+    it.repository.put("timestamp", signers=[key])
+    it.refuse(timestamp=None)
+
+
+@test("4.2", "keys of all three kinds for one role, whose threshold is three", init=False)
+def _(it):
+    keys = [Key(kind, "timestamp") for kind in KINDS]
+    it.repository.trust("timestamp", keys, 3)
+    begin_anew(it)
+    it.accept(**FIRST)
+    it.repository.put("timestamp", signers=keys[:2])
+    it.refuse(**FIRST)
+
+
+@test("4.3", "one key for all roles: a document counts for its own role alone", init=False)
+def _(it):
+    key = it.repository.key("root")
+    for role in TOP_LEVEL:
+        it.repository.trust(role, [key])
+    begin_anew(it)
+    it.accept(**FIRST)
+    other = body("timestamp", version=2, meta=it.repository.snapshot["meta"])
+    it.repository.update()
+    data = it.repository.put_bytes("snapshot", document(other, [key.sign(other)]))
+    it.repository.timestamp["meta"]["snapshot.json"] = it.repository.describe(data, 2)
+    it.repository.put("timestamp")
+    it.refuse(timestamp=2, snapshot=1, targets=1)
 
 
 @test("4.3", "a role lists a key that the root doesn't have, beside a good one")

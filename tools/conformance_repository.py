@@ -46,13 +46,13 @@ def secret(kind, name):
 
 
 class Key:
-    """A key of a kind. `members` are further ones of its JSON, which make another identifier."""
+    """A key of a kind, by its name or by a secret that is given."""
 
     SCHEMES = {"ed25519": "ed25519", "ecdsa": "ecdsa-sha2-nistp256", "rsa": "rsassa-pss-sha256"}
 
-    def __init__(self, kind, name, **members):
-        self.kind, self.secret = kind, secret(kind, name)
-        self.json = {"keytype": kind, "scheme": self.SCHEMES[kind], "keyval": {"public": self.public()}, **members}
+    def __init__(self, kind, name, made=None):
+        self.kind, self.secret, self.padding = kind, made or secret(kind, name), PSS
+        self.json = {"keytype": kind, "scheme": self.SCHEMES[kind], "keyval": {"public": self.public()}}
         self.id = digest(canonical(self.json).encode())
 
     def public(self):
@@ -75,7 +75,7 @@ class Key:
         elif self.kind == "ecdsa":
             sig = self.secret.sign(message, ec.ECDSA(hashes.SHA256()))
         else:
-            sig = self.secret.sign(message, PSS, hashes.SHA256())
+            sig = self.secret.sign(message, self.padding, hashes.SHA256())
         return {"keyid": self.id, "sig": sig.hex()}
 
 
@@ -120,8 +120,8 @@ class Repository:
     snapshot = property(lambda self: self.bodies["snapshot"])
     targets = property(lambda self: self.bodies["targets"])
 
-    def key(self, name, **members):
-        return Key(self.kind, name, **members)
+    def key(self, name):
+        return Key(self.kind, name)
 
     # ---- roots
 

@@ -74,7 +74,38 @@ def _(it):
     it.asked()
 
 
+@test("5.2", "init with root 1 once more: the roots are walked again, and the older timestamp stays refused")
+def _(it):
+    it.repository.next_root()
+    it.repository.next_root()
+    it.repository.update()
+    it.accept(root=3, timestamp=2, snapshot=2, targets=2)
+    it.init(it.repository.files["metadata/1.root.json"])
+    it.repository.timestamp["version"] = 1
+    it.repository.put("timestamp")
+    it.refuse(root=3, timestamp=2)
+    it.asked("2.root.json", "3.root.json", "4.root.json", "timestamp.json")
+
+
+@test("5.2", "init with the root of another repository: what the folder holds of the first is none")
+def _(it):
+    it.repository.update()
+    it.accept(timestamp=2)
+    for role in TOP_LEVEL:
+        it.repository.trust(role, [it.repository.key(f"another {role}")])
+    it.init(it.repository.put_root(signers=it.repository.keys["root"]))
+    it.repository.timestamp["version"] = 1
+    it.repository.release()
+    it.accept(root=1, timestamp=1)
+
+
 # ---- a plain update
+
+
+@test("5.3", "a URL with a slash at its end")
+def _(it):
+    it.expect(0, it.refresh(f"{it.server.url}/metadata/"))
+    it.asked("2.root.json", "timestamp.json", "1.snapshot.json", "1.targets.json")
 
 
 @test("5.3", "a refresh asks for the next root, timestamp, snapshot and targets, once each, in this order")
