@@ -1,5 +1,5 @@
 -- A load that ends so came to the documents that the files serve.
-use Rattle.std.specs.Prelude.{◌≡◌, ℕ, ℤ, List, Option, None, Some, Bool, true, Result, Ok}
+use Rattle.std.specs.Prelude.{◌≡◌, ℕ, ℤ, pos, List, Option, None, Some, Bool, true, Result, Ok}
 use Rattle.std.proofs.Common.{sym, ap, subst}
 use Rattle.url.specs.Parts.{Parts as Urls}
 use Rattle.futures.specs.Runs.{Runs}
@@ -53,7 +53,7 @@ module _ {T K S C Y : Type 0} (refuses : T → Urls → TransportError → Type 
       → Ends refuses serves keeps reads may_give yields v base t None c k o left kept → IsFineOutcome o → EndsWith may_give k.clock d o
   ends-honest v t c k o left kept fresh untouched may h fine =
       let led = h.1.1 in
-      let first = first-moment refuses serves keeps reads may_give yields v base t (d 0).known.start h.1.0 c k h.0 kept o fresh led h.2 in
+      let first = first-moment refuses serves keeps reads may_give yields v base t (pos 0) h.1.0 c k h.0 kept o fresh led h.2 in
       let at = may first.0 first.1 in
       let here = subst (λ (n : ℤ). LoadsAt refuses serves v base t c served n (d first.0)) (sym at.start) at in
       let begins = subst (Begins refuses serves keeps reads may_give yields v base t (d first.0).known.start) (sym first.2.1) (ap got.Moment (sym at.start)) in

@@ -179,4 +179,4 @@ module _ {T K C Y : Type 0} (refuses : T → Urls → TransportError → Type 0)
   first-moment [] c k last kept o is h end = absurd (cc (sym end ∙ ap (λ (m : CoreDoc). ended m.stage) h.0 ∙ ap ended is))
   first-moment (a ∷ rest) c k last kept o is (mid, next, may, goes, led) end =
       let m = subst (λ (x : StageDoc). May (question_at c.setting.enforced x) k a next) is may in
-      (m.0, m.2.1, rest, ap (λ (x : AnswerDoc). x ∷ rest) m.1)
+      (m.0, m.2, (rest, ap (λ (x : AnswerDoc). x ∷ rest) m.1))

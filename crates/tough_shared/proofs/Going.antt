@@ -31,7 +31,7 @@ module _ {S : Type 0} (tells : Bool) (files : S → Files) (count : S → ℕ) w
   took step old new (Err (DatastoreRemove path)) t = inl (t.same (λ x. x)).0
   took step old new (Err Memory) t = inl (t.same (λ x. x)).0
 
-  ends : (note : Note) (first second : Result Unit StoreError) (old new : Parts S) (result : Result Receipt StepError) → EndsRemoval tells files count note first second old new result → GoesOn old.notes new.notes result
+  ends : (note : Note) (first second : Result Unit StoreError) (old new : Parts S) (result : Result Receipt StepError) → EndsRemoval note first second old new result → GoesOn old.notes new.notes result
   ends note (Ok u) (Ok v) old new (Ok r) e = noted note old new r e.0 e.1
   ends note (Err fault) second old new (Err x) e = inr e.0.notes
   ends note (Ok u) (Err fault) old new (Err x) e = inr e.0.notes

@@ -203,7 +203,7 @@ module _ {S : Type 0} (tells : Bool) (files : S → Files) (count : S → ℕ) (
   answers act step old new (Err Memory) before after entry h t = tt
 
   ends : (act : Act) (note : Note) (first second : Result Unit StoreError) (old new : Parts S) (result : Result Receipt StepError) → HasChecked verifies act → ((n : Note) → n ≡ note → Tells act n)
-      → EndsRemoval tells files count note first second old new result → AnswersTo verifies act result
+      → EndsRemoval note first second old new result → AnswersTo verifies act result
   ends act note (Ok u) (Ok v) old new (Ok r) h t e = (h, t (note_of (entry_of r)) e.1.entry)
   ends act note (Err fault) second old new (Err x) h t e = removal verifies act timestamp_file fault x e.1
   ends act note (Ok u) (Err fault) old new (Err x) h t e = removal verifies act snapshot_file fault x e.1

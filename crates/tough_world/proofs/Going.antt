@@ -189,7 +189,7 @@ module _ {S : Type 0} (tells : Bool) (files : S → Files) (count : S → ℕ) (
     takes step (Err Memory) B b f t = let e = t.same (λ x. x) in stays (sym e.0) (e.2 told)
 
     ends : (note : Note) (first second : Result Unit StoreError) (mid : Parts S) (result : Result Receipt StepError) → mid.notes ≡ before.notes → has_cleared (note ∷ []) ≡ true → has_cleared (ns ++ ms) ≡ false
-        → EndsRemoval tells files count note first second mid after result → Whole after.store (ns ++ ms)
+        → EndsRemoval note first second mid after result → Whole after.store (ns ++ ms)
     ends note (Ok u) (Ok v) mid (Ok r) same clears uncleared e =
         let one = one-added before.notes after.notes ms note (e.0.notes ∙ ap (λ (xs : List Note). xs ++ note ∷ []) same) added in
         absurd (cc (uncleared, ap (λ (xs : List Note). has_cleared (ns ++ xs)) one, cleared-last ns note clears))

@@ -104,7 +104,7 @@ module _ {S : Type 0} (tells : Bool) (files : S → Files) (count : S → ℕ) (
         t.removes.snapshot.elsewhere told root_file (distinct _ _ refl) ∙ t.removes.timestamp.elsewhere told root_file (distinct _ _ refl)
 
     ends : {X : Type 0} (note : Note) (first second : Result Unit StoreError) (mid : Parts S) (result : Result Receipt StepError) → mid.notes ≡ before.notes
-        → (after.notes ≡ before.notes ++ note ∷ [] → X) → EndsRemoval tells files count note first second mid after result → X
+        → (after.notes ≡ before.notes ++ note ∷ [] → X) → EndsRemoval note first second mid after result → X
     ends note (Ok u) (Ok v) mid (Ok r) same go e = go (e.0.notes ∙ ap (λ (xs : List Note). xs ++ note ∷ []) same)
     ends note (Err fault) second mid (Err x) same go e = breaks (e.0.notes ∙ ap (λ (xs : List Note). xs ++ Broken ∷ []) same)
     ends note (Ok u) (Err fault) mid (Err x) same go e = breaks (e.0.notes ∙ ap (λ (xs : List Note). xs ++ Broken ∷ []) same)
@@ -132,7 +132,7 @@ module _ {S : Type 0} (tells : Bool) (files : S → Files) (count : S → ℕ) (
         let older = or_else_none (root_against stored r.role) (first_of (root_tip before.tip.root r.role ∷ [])) first.0 in
         ap (λ f. root_against (stored_root verifies f) r.role) (sym (p.finds told)) ∙ older.0
 
-    fails_after : {X : Type 0} (note : Note) (first second : Result Unit StoreError) (mid : Parts S) (e : StepError) → mid.notes ≡ before.notes → EndsRemoval tells files count note first second mid after (Err e) → X
+    fails_after : {X : Type 0} (note : Note) (first second : Result Unit StoreError) (mid : Parts S) (e : StepError) → mid.notes ≡ before.notes → EndsRemoval note first second mid after (Err e) → X
     fails_after note (Err fault) second mid e same h = breaks (h.0.notes ∙ ap (λ (xs : List Note). xs ++ Broken ∷ []) same)
     fails_after note (Ok u) (Err fault) mid e same h = breaks (h.0.notes ∙ ap (λ (xs : List Note). xs ++ Broken ∷ []) same)
     fails_after note (Ok u) (Ok v) mid e same h = absurd h

@@ -97,7 +97,7 @@ module _ {S : Type 0} (tells : Bool) (files : S → Files) (count : S → ℕ) (
     takes-grows step (Ok r) t = by-one (step.entry t.done.0) t.done.1.noted.notes
     takes-grows step (Err e) t = failed-grows step e t
 
-    ends-grows : (note : Note) (first second : Result Unit StoreError) (mid : Parts S) (result : Result Receipt StepError) → mid.notes ≡ before.notes → EndsRemoval tells files count note first second mid after result → Grows
+    ends-grows : (note : Note) (first second : Result Unit StoreError) (mid : Parts S) (result : Result Receipt StepError) → mid.notes ≡ before.notes → EndsRemoval note first second mid after result → Grows
     ends-grows note (Ok u) (Ok v) mid (Ok r) same e = by-one note (e.0.notes ∙ ap (λ (xs : List Note). xs ++ note ∷ []) same)
     ends-grows note (Err fault) second mid (Err x) same e = by-one Broken (e.0.notes ∙ ap (λ (xs : List Note). xs ++ Broken ∷ []) same)
     ends-grows note (Ok u) (Err fault) mid (Err x) same e = by-one Broken (e.0.notes ∙ ap (λ (xs : List Note). xs ++ Broken ∷ []) same)
