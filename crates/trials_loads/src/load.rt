@@ -7,10 +7,10 @@ use jiff::Timestamp as Instant;
 use serde_json::Value;
 use std::alloc::Global;
 use tough_client::{Error, FixedClock, Keeper, Limits, Repository, RepositoryLoader, Vault, drive};
-use tough_ed25519::Ed25519Verify;
 use tough_names::TargetName;
 use tough_net::{MemoryTransport, Transport};
 use tough_schema::{DemoVerify, Targets, Verify};
+use tough_signatures::StandardVerify;
 use trials_calls::case::{flag, list, number, text, text_of_either};
 use trials_calls::shelf::Shelf;
 use trials_calls::vault::enforcement;
@@ -77,7 +77,7 @@ fn open_by<T: Transport, K: Keeper, V: Verify + Drop>(
     Ok(drive(rt, loader.load()?)?)
 }
 
-/// The same by the scheme of the case: Ed25519 where it says so, else that for demonstrations.
+/// The same by the scheme of the case: the three that repositories sign by where it says so, else that for demonstrations.
 pub fn open<T: Transport, K: Keeper>(
     rt: &HostRuntime,
     load: &Value,
@@ -87,7 +87,7 @@ pub fn open<T: Transport, K: Keeper>(
     keeper: K,
 ) -> anyhow::Result<Result<Repository<T, K, FixedClock>, Error>> {
     match text(case, "scheme") {
-        "ed25519" => open_by(rt, load, case, urls, transport, keeper, Ed25519Verify),
+        "standard" => open_by(rt, load, case, urls, transport, keeper, StandardVerify),
         _ => open_by(rt, load, case, urls, transport, keeper, DemoVerify),
     }
 }
