@@ -12,5 +12,5 @@ loop-keyid-preserved c =
 
 pub invariant_of-result : goal.invariant_of-result
 invariant_of-result c = record {
-  same = all_in (λ d. d.bytes) (λ k. k.now) c.loop-keyid.bytes.keys c.args.keyids.now c.loop-keyid.keyid-index (drop_of_length-le c.args.keyids.now c.loop-keyid-test.false) c.loop-keyid.invariant
+  same = all_in (λ d. d.bytes) (λ k. k.now) c.loop-keyid.bytes.keys c.args.keyids.now c.loop-keyid.keyid-index (drop_of_length-le c.args.keyids.now c.loop-keyid-test.false) c.loop-keyid.invariant;
 }
