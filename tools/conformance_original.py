@@ -2,6 +2,7 @@
 import pathlib
 import shutil
 import subprocess
+import urllib.parse
 
 from conformance_trial import LIMIT, Trial, Wrong
 
@@ -10,12 +11,27 @@ class NotPlayed(Exception):
     """The program can't play this: it has no HTTP."""
 
 
+class Unknown:
+    """The requests of a run, which nobody counts."""
+
+    def clear(self):
+        pass
+
+    def __getitem__(self, *_):
+        raise NotPlayed
+
+    __iter__ = __len__ = __contains__ = __getitem__
+
+
 class OriginalTrial(Trial):
-    """Before each run what is served is written into a folder. Which requests were made isn't known."""
+    """Before each run what is served is written into a folder, under each name and under its escaped form, by which the program opens it."""
 
     def run(self, *words):
+        self.server.requests = Unknown()
         given = dict(zip(words[::2], words[1::2])) if "init" not in words else {}
         if not given:
+            if not pathlib.Path(words[-1]).is_file():
+                return 1
             data = pathlib.Path(words[-1]).read_bytes()
             for file in (self.folder / "first.json", self.metadata / "root.json"):
                 file.write_bytes(data)
@@ -30,6 +46,7 @@ class OriginalTrial(Trial):
         return min(done.returncode, 1)
 
     def put_files(self):
+        """The folder of the served files."""
         served = self.folder / "served"
         shutil.rmtree(served, ignore_errors=True)
         if self.server.statuses:
@@ -37,13 +54,19 @@ class OriginalTrial(Trial):
         for name, data in self.server.repository.files.items():
             if isinstance(data, list):
                 raise NotPlayed
-            file = served / name
-            try:
-                file.parent.mkdir(parents=True, exist_ok=True)
-                file.write_bytes(data)
-            except OSError:
-                raise NotPlayed from None
+            for safe in ("/", "", "/'", None):
+                file = served / (name if safe is None else self.escaped(name, safe))
+                try:
+                    file.parent.mkdir(parents=True, exist_ok=True)
+                    file.write_bytes(data)
+                except OSError:
+                    raise NotPlayed from None
         return served
+
+    @staticmethod
+    def escaped(name, safe):
+        folder, _, rest = name.partition("/")
+        return f"{folder}/{urllib.parse.quote(rest, safe=safe)}"
 
     def asked(self, *_, **__):
         pass
