@@ -1,4 +1,4 @@
-//! The program `device`: makes calls on the system's files, a store over a folder, files by their URLs, or the clock, by words, and
+//! The program `device`: makes calls on the system's files, a store over a folder, files by their URLs, kept or not, or the clock, by words, and
 //! prints what each answered, a line each. A word `,` stands between two calls. `tools/devices` looks at what they did.
 #![tactic(auto)]
 
@@ -36,6 +36,7 @@ fn main(rt: HostRuntime) -> Result<()> {
         "files" => files::tell(&rt, rest),
         "store" => shelf::tell(&rt, rest),
         "fetch" => fetch::tell(&rt, rest),
+        "cache" => fetch::tell_kept(&rt, rest),
         _ => tell_moment(&rt),
     }
 }
