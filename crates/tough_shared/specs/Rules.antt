@@ -15,3 +15,7 @@ head_of b = record { tracked = true; key = 0; book = b }
 -- where the length was as expected, all of the history had been seen, and the line was added to it
 abbrev pub Adds : Step Line → View Line ℕ → ℕ → View Line ℕ → Type 0
 Adds s v found w = found ≡ s.old → (w.0 ≡ v.0 ++ s.ask ∷ []) × (length v.0 ≡ s.old)
+
+-- the history so far was seen, and its length found
+abbrev pub Sees : Step Line → View Line ℕ → ℕ → View Line ℕ → Type 0
+Sees s v found w = length w.0 ≡ found

@@ -1,6 +1,7 @@
 //! What lies under the lock: a vault, with the history that its journal is.
 
-ghost use Rattle.std.specs.Prelude.{◌≡◌, ◌+◌, ◌≤◌, [], length, true, IfOk, OnOk};
+ghost use Rattle.std.specs.Prelude.{◌≡◌, ◌≢◌, ◌+◌, ◌<◌, ◌≤◌, [], ◌∷◌, ◌++◌, ℕ, length, true, IfOk, IfErr, OnOk};
+ghost use mathlib.Core.List.{IsPrefix};
 ghost use Rattle.tough_vault.specs.Act.{PutDocument, Acts};
 ghost use Rattle.tough_vault.specs.Journal.{number_of};
 ghost use Rattle.tough_vault.specs.Vault.{parts_of, journal_of, notes_in, store_of};
@@ -8,74 +9,99 @@ ghost use Rattle.tough_roles.specs.Written.{compact_by};
 ghost use Rattle.tough_checks.specs.DocumentName.{name_of};
 ghost use Rattle.tough_vault.specs.Looking.{Looks, look_doc};
 ghost use Rattle.tough_trust.specs.View.{act_of};
-ghost use Rattle.tough_shared.specs.Lines.{lines, is_open, Grows};
+ghost use Rattle.tough_shared.specs.Begins.{Begins};
+ghost use Rattle.tough_shared.specs.Lines.{history, begun_in, is_open, Grows};
 ghost use Rattle.tough_shared.specs.Receipts.{untied, IsLater};
-ghost use Rattle.tough_shared.specs.Shares.{Keeps, Shares, SharesLook, no_signature};
+ghost use Rattle.tough_shared.specs.Shares.{Keeps, Shares, Alone, StepsAlone, LooksAlone, no_signature};
+ghost use Rattle.tough_shared.specs.declared.line.Line.TheVariants.{Begun, End};
 
 use crate::front::{Front, Head, Naming};
 use crate::line::Addition;
 use crate::receipt::Receipt;
+use crate::spare::Tally;
 use std::alloc::Global;
 use std::sync::Wait;
+use std::sync::ledger::{Book, Share};
 use tough_roles::{Role, Root, Signed, Verify};
 use tough_trust::{Act, act_on};
 use tough_vault::{DocumentName, StepError, Store, Vault};
 
-/// A vault, with the history that its journal is.
+/// A vault, with the history that its journal is, and the count of its entries by who made them.
 #[derive(Drop)]
 pub(crate) struct Locked<S: Store, J: Naming> {
     pub(crate) vault: Vault<S>,
     pub(crate) front: Front<J>,
-    ghost same: { front.seen.log ≡ lines (notes_in vault) },
+    book: Book<Tally<J>>,
+    ghost same: { front.seen.log ≡ history (begun_in front.seen.log) (notes_in vault) },
+    ghost counted: { book.total ≡ length (notes_in vault) },
+    ghost begins: { ∥ Begins S.tells S.files S.count S.changes (begun_in front.seen.log) (parts_of vault) ∥₁ },
 }
 
 impl<S: Store, J: Naming> Locked<S, J> {
-    /// A new vault over a store, with an empty history.
-    pub(crate) fn new(alloc: Global, store: S, front: Front<J>) -> Locked<S, J>
-        requires { front.seen.log ≡ [] }
-        ensures { store_of result.vault ≡ store }
+    /// A new vault over a store, where the history begins with how often that was changed.
+    pub(crate) fn new(
+        alloc: Global,
+        store: S,
+        front: Front<J>,
+        book: Book<Tally<J>>,
+    ) -> Locked<S, J>
+        requires begun { front.seen.log ≡ Begun (S.changes store) ∷ [] }
+        requires book { book.total ≡ 0 }
+        ensures store { store_of result.vault ≡ store }
+        ensures journal { notes_in result.vault ≡ [] }
     {
         Locked {
             vault: Vault::new(alloc, store),
             front,
+            book,
         }
     }
 
-    /// The vault, and the history.
-    pub(crate) fn into_parts(self) -> (Vault<S>, Front<J>)
-        ensures vault { result.0 ≡ self.vault }
-        ensures front { result.1.seen.log ≡ lines (notes_in self.vault) }
+    /// Ends the history, so that nothing is added to the journal any more. It always can, though no proof says so.
+    pub(crate) fn end(self, head: &Head<J>) -> Result<(Vault<S>, Front<J>), Locked<S, J>>
+        ensures vault { IfOk result (λ p. p.0 ≡ self.vault) }
+        ensures front { IfOk result (λ p. p.1.seen.log ≡ history (begun_in self.front.seen.log) (notes_in self.vault) ++ End ∷ []) }
+        ensures err { IfErr result (λ l. (l.vault ≡ self.vault) × (l.front.seen.log ≡ self.front.seen.log)) }
     {
-        let Locked { vault, front } = self;
-        (vault, front)
+        let Locked {
+            vault,
+            mut front,
+            book,
+        } = self;
+        if front.try_add(head, &Addition::End) {
+            return Ok((vault, front));
+        }
+        Err(Locked { vault, front, book })
     }
 
-    /// The vault, with the history that its journal is.
-    pub(crate) fn from_parts(vault: Vault<S>, front: Front<J>) -> Locked<S, J>
-        requires { front.seen.log ≡ lines (notes_in vault) }
-        ensures { result.vault ≡ vault }
-    {
-        Locked { vault, front }
-    }
-
-    /// The step of the vault. It notes the entry in the history too, behind all that `me` has seen.
+    /// The step of the vault, which notes its entry in the history too. It is counted as an entry of `own`, and `me` has then seen the journal
+    /// behind it.
     fn take<V: Verify, R: Wait>(
         &mut self,
         rt: &R,
         head: &Head<J>,
-        me: &Front<J>,
+        own: &mut Share<Tally<J>>,
+        me: &mut Front<J>,
         alloc: Global,
         act: &Act<'_>,
         verifier: &V,
     ) -> Result<Receipt<J>, StepError>
+        requires part { 0 < own.old.parts }
+        requires seen { me.old.seen.log ≢ [] }
         ensures step { Acts S.tells S.files S.count (V.verifies verifier.now) (act_of act.now)
             (parts_of self.old.vault) (parts_of self.new.vault) (untied result) }
-        ensures later { IfOk result (IsLater (length me.now.seen.log)) }
+        ensures begun { begun_in self.new.front.seen.log ≡ begun_in me.old.seen.log }
+        ensures begins { begun_in self.old.front.seen.log ≡ begun_in me.old.seen.log }
+        ensures alone { Alone (begun_in me.old.seen.log) (notes_in self.old.vault) (notes_in self.new.vault)
+            me.old.seen.log me.new.seen.log own.old.amount own.new.amount }
+        ensures parts { own.new.parts ≡ own.old.parts }
+        ensures later { IfOk result (IsLater (length me.old.seen.log)) }
     {
-        let Locked { vault, front } = self;
+        let Locked { vault, front, book } = self;
+        front.show(rt, head, me);
         let answer = act_on(vault, alloc, act, verifier);
         let entries = entries_of(vault);
-        note(front, rt, head, me, entries, answer)
+        note(front, book, own, rt, head, me, entries, answer)
     }
 
     /// The same of a document of any role.
@@ -83,37 +109,47 @@ impl<S: Store, J: Naming> Locked<S, J> {
         &mut self,
         rt: &R,
         head: &Head<J>,
-        me: &Front<J>,
+        own: &mut Share<Tally<J>>,
+        me: &mut Front<J>,
         name: &DocumentName,
         role: &Signed<T>,
     ) -> Result<Receipt<J>, StepError>
+        requires part { 0 < own.old.parts }
+        requires seen { me.old.seen.log ≢ [] }
         ensures step { Acts S.tells S.files S.count no_signature
             (PutDocument (name_of name.now) (compact_by T.json role.now))
             (parts_of self.old.vault) (parts_of self.new.vault) (untied result) }
-        ensures later { IfOk result (IsLater (length me.now.seen.log)) }
+        ensures begun { begun_in self.new.front.seen.log ≡ begun_in me.old.seen.log }
+        ensures begins { begun_in self.old.front.seen.log ≡ begun_in me.old.seen.log }
+        ensures parts { own.new.parts ≡ own.old.parts }
     {
-        let Locked { vault, front } = self;
+        let Locked { vault, front, book } = self;
+        front.show(rt, head, me);
         let answer = vault.put_document(name, role);
         let entries = entries_of(vault);
-        note(front, rt, head, me, entries, answer)
+        note(front, book, own, rt, head, me, entries, answer)
     }
 
-    /// The step of the vault, as it is told through the lock.
+    /// The step of the vault, as it is told through the lock, and nothing beside it.
     pub(crate) fn step<V: Verify, R: Wait>(
         &mut self,
         rt: &R,
         head: &Head<J>,
-        me: &Front<J>,
+        own: &mut Share<Tally<J>>,
+        me: &mut Front<J>,
         alloc: Global,
         act: &Act<'_>,
         verifier: &V,
     ) -> Result<Receipt<J>, StepError>
-        ensures step { Shares S.tells S.files S.count (V.verifies verifier.now) (act_of act.now)
-            result }
-        ensures later { IfOk result (IsLater (length me.now.seen.log)) }
+        requires part { 0 < own.old.parts }
+        requires seen { me.old.seen.log ≢ [] }
+        ensures alone { StepsAlone S.tells S.files S.count S.changes (begun_in me.old.seen.log) me.old.seen.log me.new.seen.log
+            own.old.amount own.new.amount (V.verifies verifier.now) (act_of act.now) result }
+        ensures parts { own.new.parts ≡ own.old.parts }
+        ensures later { IfOk result (IsLater (length me.old.seen.log)) }
     {
         self.show();
-        let result = self.take(rt, head, me, alloc, act, verifier);
+        let result = self.take(rt, head, own, me, alloc, act, verifier);
         self.show();
         result
     }
@@ -123,49 +159,72 @@ impl<S: Store, J: Naming> Locked<S, J> {
         &mut self,
         rt: &R,
         head: &Head<J>,
-        me: &Front<J>,
+        own: &mut Share<Tally<J>>,
+        me: &mut Front<J>,
         name: &DocumentName,
         role: &Signed<T>,
     ) -> Result<Receipt<J>, StepError>
-        ensures { Shares S.tells S.files S.count no_signature
+        requires part { 0 < own.old.parts }
+        requires seen { me.old.seen.log ≢ [] }
+        ensures step { Shares S.tells S.files S.count S.changes (begun_in me.old.seen.log) no_signature
             (PutDocument (name_of name.now) (compact_by T.json role.now)) result }
+        ensures parts { own.new.parts ≡ own.old.parts }
     {
         self.show();
-        let result = self.put_document(rt, head, me, name, role);
+        let result = self.put_document(rt, head, own, me, name, role);
         self.show();
         result
     }
 
-    // The look of the vault at its stored root.
-    fn look<V: Verify>(
+    // The look of the vault at its stored root. `me` has then seen the journal.
+    fn look<V: Verify, R: Wait>(
         &mut self,
+        rt: &R,
+        head: &Head<J>,
+        me: &mut Front<J>,
         first: u64,
         verifier: &V,
     ) -> Result<Option<Signed<Root>>, StepError>
-        ensures { Looks S.tells S.files S.count (V.verifies verifier.now) first
+        requires { me.old.seen.log ≢ [] }
+        ensures look { Looks S.tells S.files S.count (V.verifies verifier.now) first
             (parts_of self.old.vault) (parts_of self.new.vault) (look_doc result) }
+        ensures begun { begun_in self.new.front.seen.log ≡ begun_in me.old.seen.log }
+        ensures begins { begun_in self.old.front.seen.log ≡ begun_in me.old.seen.log }
+        ensures alone { (made : ℕ) → Alone (begun_in me.old.seen.log) (notes_in self.old.vault) (notes_in self.new.vault)
+            me.old.seen.log me.new.seen.log made made }
     {
-        self.vault.read_root(first, verifier)
+        let Locked {
+            vault,
+            front,
+            book: _,
+        } = self;
+        front.show(rt, head, me);
+        vault.read_root(first, verifier)
     }
 
-    /// The look of the vault at its stored root, as it is told through the lock.
-    pub(crate) fn read_root<V: Verify>(
+    /// The look of the vault at its stored root, as it is told through the lock, and nothing beside it.
+    pub(crate) fn read_root<V: Verify, R: Wait>(
         &mut self,
+        rt: &R,
+        head: &Head<J>,
+        me: &mut Front<J>,
         first: u64,
         verifier: &V,
     ) -> Result<Option<Signed<Root>>, StepError>
-        ensures { SharesLook S.tells S.files S.count (V.verifies verifier.now) first
-            (look_doc result) }
+        requires { me.old.seen.log ≢ [] }
+        ensures { LooksAlone S.tells S.files S.count S.changes (begun_in me.old.seen.log) me.old.seen.log me.new.seen.log
+            (V.verifies verifier.now) first (look_doc result) }
     {
         self.show();
-        let result = self.look(first, verifier);
+        let result = self.look(rt, head, me, first, verifier);
         self.show();
         result
     }
 
-    // What the lock keeps, for the proofs.
-    fn show(&self)
-        ensures { Keeps S.tells S.files (parts_of self.now.vault) }
+    /// What the lock keeps, for the proofs.
+    pub(crate) fn show(&self)
+        ensures { Keeps S.tells S.files S.count S.changes (begun_in self.now.front.seen.log)
+            (parts_of self.now.vault) }
     {
         let _ = self.vault.journal();
         let _ = self.vault.tip();
@@ -179,26 +238,36 @@ fn entries_of<S: Store>(vault: &Vault<S>) -> u64
     vault.journal().len() as u64
 }
 
-// Adds what a step of the vault noted to the history, and ties the receipt to it.
+// Adds what a step of the vault noted to the history, counts it, shows the history to `me`, and ties the receipt to it.
 fn note<J: Naming, R: Wait>(
     front: &mut Front<J>,
+    book: &mut Book<Tally<J>>,
+    own: &mut Share<Tally<J>>,
     rt: &R,
     head: &Head<J>,
-    me: &Front<J>,
+    me: &mut Front<J>,
     entries: u64,
     answer: Result<tough_vault::Receipt, StepError>,
 ) -> Result<Receipt<J>, StepError>
     requires open { is_open front.old.seen.log ≡ true }
-    requires number { IfOk answer (λ r. number_of r ≡ length front.old.seen.log) }
-    requires entries { OnOk answer (entries ≡ length front.old.seen.log + 1) }
+    requires number { IfOk answer (λ r. number_of r + 1 ≡ length front.old.seen.log) }
+    requires entries { OnOk answer (entries ≡ length front.old.seen.log) }
+    requires part { 0 < own.old.parts }
+    requires same { me.old.seen.log ≡ front.old.seen.log }
     ensures answer { untied result ≡ answer }
     ensures grows { Grows entries answer front.old.seen.log front.new.seen.log }
-    ensures later { IfOk result (IsLater (length me.now.seen.log)) }
+    ensures seen { me.new.seen.log ≡ front.new.seen.log }
+    ensures total { book.new.total + length front.old.seen.log ≡ book.old.total + length front.new.seen.log }
+    ensures own { own.new.amount + length front.old.seen.log ≡ own.old.amount + length front.new.seen.log }
+    ensures parts { own.new.parts ≡ own.old.parts }
+    ensures later { IfOk result (IsLater (length front.old.seen.log)) }
 {
     match answer {
         Ok(plain) => {
             let added = Addition::Told(plain);
-            front.add(rt, head, me, &added);
+            front.add(rt, head, &added);
+            book.add(own, 1);
+            *me = front.again();
             let Addition::Told(plain) = added else {
                 unreachable!()
             };
@@ -208,8 +277,10 @@ fn note<J: Naming, R: Wait>(
             })
         }
         Err(error) => {
-            if entries > front.count() {
-                front.add(rt, head, me, &Addition::Broken);
+            if entries >= front.count {
+                front.add(rt, head, &Addition::Broken);
+                book.add(own, 1);
+                *me = front.again();
             }
             Err(error)
         }

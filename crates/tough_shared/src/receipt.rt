@@ -1,8 +1,8 @@
 //! Receipts that are tied to one store.
 
-ghost use Rattle.std.specs.Prelude.{◌≡◌, Some, slice_get};
+ghost use Rattle.std.specs.Prelude.{◌≡◌, Some};
 ghost use Rattle.tough_vault.specs.Journal.{note_of, number_of, entry_of};
-ghost use Rattle.tough_shared.specs.Lines.{line_of};
+ghost use Rattle.tough_shared.specs.Lines.{line_of, entry_at};
 
 use crate::front::{Front, Naming};
 use tough_vault::Entry;
@@ -12,7 +12,7 @@ use tough_vault::Entry;
 pub struct Receipt<J: Naming> {
     pub(crate) plain: tough_vault::Receipt,
     pub(crate) front: Front<J>,
-    ghost stands: { slice_get front.seen.log (number_of plain)
+    ghost stands: { entry_at front.seen.log (number_of plain)
         ≡ Some (line_of (note_of (entry_of plain))) },
 }
 
@@ -36,7 +36,7 @@ impl<J: Naming> Receipt<J> {
     /// What ties it to its store: the history up to its entry.
     pub(crate) fn front(&self) -> &Front<J>
         ensures front { result.now.seen.log ≡ self.now.front.seen.log }
-        ensures stands { slice_get result.now.seen.log (number_of (plain_of self.now))
+        ensures stands { entry_at result.now.seen.log (number_of (plain_of self.now))
             ≡ Some (line_of (note_of (entry_of (plain_of self.now)))) }
     {
         &self.front
