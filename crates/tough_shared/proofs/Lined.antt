@@ -1,5 +1,5 @@
 -- A journal as lines.
-use Rattle.std.proofs.Common.{◌≡◌, ℕ, zero, suc, ◌+◌, ◌≤◌, inl, inr, ◌⊎◌, List, [], ◌∷◌, ◌++◌, length, Some, Result, Ok, Err, IfOk, OnOk, true, false, slice_get, refl, sym, ap, ◌∙◌, arith, length-append}
+use Rattle.std.proofs.Common.{◌≡◌, ℕ, zero, suc, ◌+◌, ◌≤◌, inl, inr, ◌⊎◌, List, [], ◌∷◌, ◌++◌, length, Some, Result, Ok, Err, IfOk, OnOk, true, false, slice_get, refl, sym, ap, ◌∙◌, subst, arith, length-append}
 use Rattle.std.proofs.lemmas.List.{append-nil}
 use mathlib.Core.List.{IsPrefix}
 use Rattle.tough_checks.specs.Versions.{Item}
@@ -11,6 +11,7 @@ use Rattle.tough_shared.specs.declared.line.Line.{Line}
 use Rattle.tough_shared.specs.declared.line.Line.TheVariants.{Begun, End}
 use Rattle.tough_shared.specs.Lines.{pairs_of, items_from, line_of, note_at, lines, history, begun_in, entry_at, is_end, none_left, is_open, ends_well, Grows}
 use Rattle.tough_shared.proofs.Fronts.{prefix_get, prefix_length}
+use Rattle.tough_shared.specs.Shares.{Alone}
 use Rattle.tough_shared.proofs.Going.{GoesOn}
 
 items-back : (is : List Item) → items_from (pairs_of is) ≡ is
@@ -124,28 +125,27 @@ notes-length : (es : List Entry) → length (notes_of es) ≡ length es
 notes-length [] = refl
 notes-length (e ∷ es) = ap suc (notes-length es)
 
-pub counted : (begun : ℕ) (log : List Line) (old new : List Note) (es : List Entry) (entries : ℕ) (answer : Result Receipt StepError) → log ≡ history begun old → GoesOn old new answer → new ≡ notes_of es → entries ≡ length es → OnOk answer (entries ≡ length log)
-counted begun log old new es entries (Ok r) same g is len =
-    let l : length log ≡ length old + 1 = history-length begun log old same in
+pub fits : (old new : List Note) (es : List Entry) (after : ℕ) (answer : Result Receipt StepError) → GoesOn old new answer → new ≡ notes_of es → after ≡ length es → IfOk answer (λ r. number_of r + 1 ≡ after)
+fits old new es after (Ok r) g is len =
     let m : length new ≡ length old + 1 = ap length g.0 ∙ length-append old (note_of (entry_of r) ∷ []) in
     let n : length new ≡ length es = ap length is ∙ notes-length es in
-    omega (arith, l, m, n, len)
-counted begun log old new es entries (Err e) same g is len = tt
+    omega (arith, g.1, m, n, len)
+fits old new es after (Err e) g is len = tt
 
-broke : (begun : ℕ) (log grown : List Line) (old new : List Note) (entries : ℕ) (e : StepError) → log ≡ history begun old → (new ≡ old) ⊎ (new ≡ old ++ Broken ∷ []) → entries ≡ length new → Grows entries (Err e) log grown → grown ≡ history begun new
-broke begun log grown old new entries e same (inl is) len grows =
-    let l : length log ≡ length old + 1 = history-length begun log old same in
+broke : (begun : ℕ) (log grown : List Line) (old new : List Note) (before after : ℕ) (e : StepError) → log ≡ history begun old → (new ≡ old) ⊎ (new ≡ old ++ Broken ∷ []) → before ≡ length old → after ≡ length new → Grows before after (Err e) log grown → grown ≡ history begun new
+broke begun log grown old new before after e same (inl is) was len grows =
     let m : length new ≡ length old = ap length is in
-    grows.1 (omega (arith, l, m, len)) ∙ (same ∙ ap (history begun) (sym is))
-broke begun log grown old new entries e same (inr is) len grows =
-    let l : length log ≡ length old + 1 = history-length begun log old same in
+    grows.1 (omega (arith, m, was, len)) ∙ (same ∙ ap (history begun) (sym is))
+broke begun log grown old new before after e same (inr is) was len grows =
     let m : length new ≡ length old + 1 = ap length is ∙ length-append old (Broken ∷ []) in
-    grown-lines begun log grown old new Broken same is (grows.0 (omega (arith, l, m, len)))
+    grown-lines begun log grown old new Broken same is (grows.0 (omega (arith, m, was, len)))
 
 -- the history is the journal again
-pub follows : (begun : ℕ) (log grown : List Line) (old new : List Note) (es : List Entry) (entries : ℕ) (answer : Result Receipt StepError) → log ≡ history begun old → GoesOn old new answer → new ≡ notes_of es → entries ≡ length es → Grows entries answer log grown → grown ≡ history begun new
-follows begun log grown old new es entries (Ok r) same g is len grows = grown-lines begun log grown old new (note_of (entry_of r)) same g.0 grows
-follows begun log grown old new es entries (Err e) same g is len grows = broke begun log grown old new entries e same g (len ∙ sym (ap length is ∙ notes-length es)) grows
+pub follows : (begun : ℕ) (log grown : List Line) (old new : List Note) (es fs : List Entry) (before after : ℕ) (answer : Result Receipt StepError) → log ≡ history begun old → GoesOn old new answer
+    → old ≡ notes_of es → new ≡ notes_of fs → before ≡ length es → after ≡ length fs → Grows before after answer log grown → grown ≡ history begun new
+follows begun log grown old new es fs before after (Ok r) same g was is from len grows = grown-lines begun log grown old new (note_of (entry_of r)) same g.0 grows
+follows begun log grown old new es fs before after (Err e) same g was is from len grows =
+    broke begun log grown old new before after e same g (from ∙ sym (ap length was ∙ notes-length es)) (len ∙ sym (ap length is ∙ notes-length fs)) grows
 
 -- what was counted is by so much more as the journal is longer
 pub counts : (begun : ℕ) (log grown : List Line) (old new : List Note) (made more : ℕ) → log ≡ history begun old → grown ≡ history begun new → more + length log ≡ made + length grown → more + length old ≡ made + length new
@@ -173,3 +173,18 @@ begun-there begun (x ∷ seen) log ns some p is =
     let e : (x ∷ seen) ++ p.0 ≡ Begun begun ∷ lines ns = p.1 ∙ is in
     let b : begun_in ((x ∷ seen) ++ p.0) ≡ begun = ap begun_in e in
     first-told x (seen ++ p.0) seen ∙ b
+
+-- so it does itself
+pub again : (begun : ℕ) (log : List Line) (ns : List Note) → log ≡ history begun ns → log ≡ history (begun_in log) ns
+again begun log ns e = e ∙ ap (λ n. history n ns) (sym (ap begun_in e))
+
+-- what a keeper had seen and what it has seen, where its step was all
+pub alone-by : (seen later log grown : List Line) (old new : List Note) (made more : ℕ) → (seen ≡ [] → ⊥) → IsPrefix seen log → log ≡ history (begun_in log) old
+    → later ≡ grown → grown ≡ history (begun_in log) new → more + length old ≡ made + length new → Alone (begun_in seen) old new seen later made more
+alone-by seen later log grown old new made more some begins same shown is add =
+    let b : begun_in log ≡ begun_in seen = sym (begun-there (begun_in log) seen log old some begins same) in
+    record {
+      before = subst (IsPrefix seen) (same ∙ ap (λ n. history n old) b) begins;
+      after = shown ∙ (is ∙ ap (λ n. history n new) b);
+      counted = add;
+    }

@@ -4,7 +4,7 @@ use Rattle.tough_vault.specs.declared.store.Store.{Ghosts as StoreGhosts}
 use Rattle.tough_vault.specs.declared.vault.Vault.{Vault}
 use Rattle.tough_shared.specs.declared.front.Naming.{Ghosts}
 use Rattle.tough_shared.specs.declared.closed.ClosedStore.{ClosedStore}
-use Rattle.tough_shared.specs.Lines.{begun_in}
+use Rattle.tough_shared.specs.Lines.{begun_in, told}
 
 module _ {S J : Type 0} {g : StoreGhosts S} {h : Ghosts J} where
   -- its vault, to which nothing is added any more
@@ -13,4 +13,4 @@ module _ {S J : Type 0} {g : StoreGhosts S} {h : Ghosts J} where
 
   -- how often the store that was handed in had been changed when the shared vault began over it
   abbrev pub closed_begun : ClosedStore S J g h → ℕ
-  closed_begun c = begun_in c.front.seen.log
+  closed_begun c = begun_in (told c.front.seen.log)

@@ -11,7 +11,7 @@ use Rattle.tough_shared.specs.declared.front.Naming.{Ghosts}
 use Rattle.tough_shared.specs.declared.keeper.SharedKeeper.{SharedKeeper}
 use Rattle.tough_shared.specs.declared.line.Line.{Line}
 use Rattle.tough_shared.specs.declared.receipt.Receipt.{Receipt as Tied}
-use Rattle.tough_shared.specs.Lines.{begun_in}
+use Rattle.tough_shared.specs.Lines.{begun_in, told}
 use Rattle.tough_shared.specs.Receipts.{Behind}
 use Rattle.tough_shared.specs.Shares.{Shares, SharesLook, Alone}
 
@@ -22,11 +22,11 @@ module _ {S R J : Type 0} {g : StoreGhosts S} {h : Ghosts J} where
 
   -- the history that it has seen
   abbrev pub seen_of : SharedKeeper S R J g h → List Line
-  seen_of k = k.front.seen.log
+  seen_of k = told k.front.seen.log
 
   -- how often the store had been changed when the history began
   abbrev pub begun_of : SharedKeeper S R J g h → ℕ
-  begun_of k = begun_in k.front.seen.log
+  begun_of k = begun_in (told k.front.seen.log)
 
   -- how many entries of the journal it made
   abbrev pub made_by : SharedKeeper S R J g h → ℕ

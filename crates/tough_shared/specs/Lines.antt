@@ -6,6 +6,7 @@ use Rattle.tough_vault.specs.declared.entry.Receipt.{Receipt}
 use Rattle.tough_vault.specs.Journal.{Note, Noted, Root, Timestamp, Snapshot, Cleared, Document, Broken, note_of, entry_of}
 use Rattle.tough_shared.specs.declared.line.Line.{Line}
 use Rattle.tough_shared.specs.declared.line.Line.TheVariants as line
+use Rattle.tough_shared.specs.declared.line.Mark.{Mark}
 use Rattle.tough_shared.specs.declared.line.Addition.{Addition}
 use Rattle.tough_shared.specs.declared.line.Addition.TheVariants as adds
 
@@ -78,7 +79,14 @@ line_added (adds.Told r) = line_of (note_of (entry_of r))
 line_added adds.Broken = line.Broken
 line_added adds.End = line.End
 
--- What a vault's answer adds to the history: its entry; or, where a refused step left the journal longer, that it is broken.
-abbrev pub Grows : ℕ → Result Receipt StepError → List Line → List Line → Type 0
-Grows entries (Ok r) old new = new ≡ old ++ line_of (note_of (entry_of r)) ∷ []
-Grows entries (Err e) old new = (length old ≤ entries → new ≡ old ++ line.Broken ∷ []) × (entries < length old → new ≡ old)
+-- What a vault's answer adds to the history: its entry; or, where a refused step left the journal longer than it was, that it is broken.
+abbrev pub Grows : ℕ → ℕ → Result Receipt StepError → List Line → List Line → Type 0
+Grows before after (Ok r) old new = new ≡ old ++ line_of (note_of (entry_of r)) ∷ []
+Grows before after (Err e) old new = (before < after → new ≡ old ++ line.Broken ∷ []) × (after ≤ before → new ≡ old)
+
+-- the lines alone
+abbrev pub told : List Mark → List Line
+told log = map (λ m. m.line) log
+
+abbrev pub mark : Line → ℕ → Mark
+mark l k = record { line = l; next = k }

@@ -5,6 +5,7 @@ use Rattle.tough_checks.specs.declared.checks.StepError.{StepError}
 use Rattle.tough_vault.specs.Journal.{number_of}
 use Rattle.tough_shared.specs.declared.front.Naming.{Ghosts}
 use Rattle.tough_shared.specs.declared.receipt.Receipt.{Receipt as Tied}
+use Rattle.tough_shared.specs.Lines.{told}
 
 module _ {J : Type 0} {g : Ghosts J} where
   -- the receipt of the vault
@@ -18,7 +19,7 @@ module _ {J : Type 0} {g : Ghosts J} where
 
   -- the entry stands behind so many lines, the first of which tells where the history began, and it is the last that was seen
   abbrev pub IsLater : ℕ → Tied J g → Type 0
-  IsLater least r = (least ≤ number_of r.plain + 1) × (length r.front.seen.log ≡ number_of r.plain + 2)
+  IsLater least r = (least ≤ number_of r.plain + 1) × (length (told r.front.seen.log) ≡ number_of r.plain + 2)
 
   -- the number of the receipt is at least this, and the next one's at least that
   abbrev pub Behind : ℕ → ℕ → Result (Tied J g) StepError → Type 0

@@ -24,9 +24,9 @@ no_signature key message signature = false
 
 -- What a keeper did beside others: all that it had seen of the history begins the journal before the step, it has then seen the journal behind
 -- the step whole, and the entries that it made are more by those of the step alone.
-pub record Alone (begun : ℕ) (old new : List Note) (seen after : List Line) (made more : ℕ) : Type 0 where
+pub record Alone (begun : ℕ) (old new : List Note) (seen later : List Line) (made more : ℕ) : Type 0 where
   pub before : IsPrefix seen (history begun old)
-  pub after : after ≡ history begun new
+  pub after : later ≡ history begun new
   pub counted : more + length old ≡ made + length new
 
 module _ {S : Type 0} (tells : Bool) (files : S → Files) (count changes : S → ℕ) (begun : ℕ) where

@@ -1,11 +1,11 @@
 //! A store that no thread has any more.
 
-ghost use Rattle.std.specs.Prelude.{◌≡◌, ◌++◌, ◌∷◌, [], true, false, IsSome, IfSome, IfOk, IfErr, Some, slice_get};
+ghost use Rattle.std.specs.Prelude.{◌≡◌, ◌≢◌, ◌++◌, ◌∷◌, [], true, false, IsSome, IfSome, Some, slice_get};
 ghost use Rattle.tough_vault.specs.Journal.{Legal, NothingGoesBack, has_broken, note_of, number_of, entry_of};
 ghost use Rattle.tough_vault.specs.Parts.{Holds};
 ghost use Rattle.tough_vault.specs.Vault.{store_of, journal_of, notes_in, tip_in, parts_of};
 ghost use Rattle.tough_shared.specs.Begins.{Begins};
-ghost use Rattle.tough_shared.specs.Lines.{history, begun_in};
+ghost use Rattle.tough_shared.specs.Lines.{history, begun_in, told};
 ghost use Rattle.tough_shared.specs.declared.line.Line.TheVariants.{End};
 
 use crate::front::{Front, Head, Naming};
@@ -18,31 +18,28 @@ use tough_vault::{Entry, Store, Vault};
 pub struct ClosedStore<S: Store, J: Naming> {
     vault: Vault<S>,
     front: Front<J>,
-    ghost ended: { front.seen.log ≡ history (begun_in front.seen.log) (notes_in vault) ++ End ∷ [] },
-    ghost begins: { ∥ Begins S.tells S.files S.count S.changes (begun_in front.seen.log) (parts_of vault) ∥₁ },
+    ghost ended: { told front.seen.log ≡ history (begun_in (told front.seen.log)) (notes_in vault) ++ End ∷ [] },
+    ghost begins: { ∥ Begins S.tells S.files S.count S.changes (begun_in (told front.seen.log)) (parts_of vault) ∥₁ },
 }
 
 impl<S: Store, J: Naming> ClosedStore<S, J> {
     ghost use Rattle.tough_shared.specs.Closed.{vault_of, closed_begun};
     ghost use Rattle.tough_shared.specs.Receipts.{plain_of};
 
-    /// Ends the history, so that nothing is added to the journal any more. It always can, though no proof says so.
+    /// Ends the history, so that nothing is added to the journal any more.
     pub(crate) fn seal(
         locked: Locked<S, J>,
         head: &Head<J>,
         start: &Front<J>,
-    ) -> Result<ClosedStore<S, J>, Locked<S, J>>
+    ) -> ClosedStore<S, J>
         requires { start.now.seen.log ≢ [] }
-        ensures ok { IfOk result (λ c. vault_of c ≡ locked.vault) }
-        ensures begun { IfOk result (λ c. closed_begun c ≡ begun_in start.now.seen.log) }
-        ensures err { IfErr result (λ l. l.vault ≡ locked.vault) }
+        ensures vault { vault_of result ≡ locked.vault }
+        ensures begun { closed_begun result ≡ begun_in (told start.now.seen.log) }
     {
-        locked.front.begins_as(start);
+        locked.tail.front.begins_as(start);
         locked.show();
-        match locked.end(head) {
-            Ok((vault, front)) => Ok(ClosedStore { vault, front }),
-            Err(locked) => Err(locked),
-        }
+        let (vault, front) = locked.end(head);
+        ClosedStore { vault, front }
     }
 
     /// All entries, the first one first. Replaying them gives what was accepted last, no entry is below what those before

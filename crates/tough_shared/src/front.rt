@@ -1,15 +1,16 @@
 //! The journal as all threads may know it: a history that only grows, kept by the proofs alone.
 
-ghost use Rattle.std.specs.Prelude.{◌≡◌, ◌≢◌, ℕ, ◌-◌, ◌^◌, [], ◌∷◌, ◌++◌, List, length, Some, slice_get, true, false};
+ghost use Rattle.std.specs.Prelude.{◌≡◌, ◌≢◌, ◌<◌, ◌-◌, ◌^◌, [], ◌∷◌, ◌++◌, List, length, Some, IfSome, slice_get, true};
 ghost use mathlib.Core.List.{IsPrefix};
 ghost use Rattle.tough_vault.specs.Journal.{Note, note_of, entry_of};
-ghost use Rattle.tough_shared.specs.Lines.{is_open, line_of, line_added, history, begun_in, entry_at};
-ghost use Rattle.tough_shared.specs.Rules.{head_of};
+ghost use Rattle.logbook.specs.Pages.{may_write};
+ghost use Rattle.tough_shared.specs.Lines.{is_open, line_of, line_added, history, begun_in, entry_at, told};
+ghost use Rattle.tough_shared.specs.Rules.{head_of, turn_of};
 ghost use Rattle.tough_shared.specs.declared.line.Line.TheVariants.{Begun, End};
 
-use crate::line::{Addition, Line};
+use crate::line::{Addition, Mark};
 use crate::spare::{Spare, Tally};
-use logbook::{Gain, Offer, Plain, Play, Rule, Seen, Start, Word};
+use logbook::{Gain, Offer, Pen, Plain, Play, Rule, Seen, Start, Word};
 use std::marker::{Brand, PhantomData};
 use std::sync::Wait;
 use std::sync::ledger::{Blank, Book};
@@ -18,7 +19,7 @@ use tough_vault::{Receipt, Store};
 /// The rule of the history.
 pub(crate) struct Law;
 
-impl Rule<Line, u64> for Law {
+impl Rule<Mark, u64> for Law {
     ghost use Rattle.std.specs.Prelude.{[]};
     ghost use base.Fml.{ftrue};
     ghost use Rattle.tough_shared.specs.Rules.{IsKept};
@@ -39,48 +40,90 @@ impl Rule<Line, u64> for Law {
 /// Callers trade nothing.
 pub(crate) struct Nothing;
 
-impl Gain<Line, u64> for Nothing {
+impl Gain<Mark, u64> for Nothing {
     ghost use base.Fml.{ftrue};
 
     ghost after = { λ names about answer. ftrue };
 }
 
+/// What is added first, and the pen that adds the next line.
+#[derive(Drop)]
+pub(crate) struct Opening<'a, S: Store> {
+    store: &'a S,
+    next: &'a Pen,
+}
+
+/// What is added, and the pen that adds the next line.
+#[derive(Drop)]
+pub(crate) struct Handing<'a> {
+    line: &'a Addition,
+    next: &'a Pen,
+}
+
+/// A step that adds the first line.
+pub(crate) struct Open;
+
+impl Play<Mark, u64> for Open {
+    ghost use Rattle.tough_shared.specs.Rules.{Opens};
+
+    ghost then = { Opens };
+}
+
+impl<'a, S: Store> Plain<Opening<'a, S>, Mark, u64> for Open {
+    ghost use Rattle.std.specs.Prelude.{None};
+    ghost use Rattle.tough_shared.specs.Lines.{mark};
+    ghost use Rattle.tough_shared.specs.declared.line.Line.TheVariants.{Begun};
+
+    ghost ask = { λ o. mark (Begun (S.changes o.store.now)) o.next.now.nib.key };
+
+    ghost state = { λ o. None };
+}
+
 /// A step that adds a line.
 pub(crate) struct Add;
 
-impl Play<Line, u64> for Add {
+impl Play<Mark, u64> for Add {
     ghost use Rattle.tough_shared.specs.Rules.{Adds};
 
     ghost then = { Adds };
 }
 
-impl Plain<Addition, Line, u64> for Add {
+impl<'a> Plain<Handing<'a>, Mark, u64> for Add {
     ghost use Rattle.std.specs.Prelude.{None};
+    ghost use Rattle.tough_shared.specs.Lines.{mark, line_added};
 
-    ghost ask = { line_added };
+    ghost ask = { λ h. mark (line_added h.line.now) h.next.now.nib.key };
 
-    ghost state = { λ line. None };
+    ghost state = { λ h. None };
 }
 
-/// A step that adds where the history begins.
-pub(crate) struct Begin;
+/// A step that draws a pen.
+pub(crate) struct Draw;
 
-impl<S: Store> Plain<S, Line, u64> for Begin {
-    ghost use Rattle.std.specs.Prelude.{None};
-    ghost use Rattle.tough_shared.specs.declared.line.Line.TheVariants.{Begun};
+impl Play<Mark, u64> for Draw {
+    ghost use Rattle.tough_shared.specs.Rules.{Draws};
 
-    ghost ask = { λ store. Begun (S.changes store) };
-
-    ghost state = { λ store. None };
+    ghost then = { Draws };
 }
 
-/// A step that looks how long the history is.
+/// A step that looks at the history.
 pub(crate) struct Look;
 
-impl Play<Line, u64> for Look {
+impl Play<Mark, u64> for Look {
     ghost use Rattle.tough_shared.specs.Rules.{Sees};
 
     ghost then = { Sees };
+}
+
+/// Of a step that adds nothing.
+impl Plain<(), Mark, u64> for Look {
+    ghost use Rattle.std.specs.Prelude.{None};
+    ghost use Rattle.tough_shared.specs.Lines.{mark};
+    ghost use Rattle.tough_shared.specs.declared.line.Line.TheVariants.{End};
+
+    ghost ask = { λ u. mark End 0 };
+
+    ghost state = { λ u. None };
 }
 
 /// Which history it is: what ties a receipt to its store. Each call of a program picks it; `Brand` serves.
@@ -97,8 +140,8 @@ impl Naming for Brand {
 
 /// An empty history, which has no name yet. A shared store begins with one.
 pub struct Opened {
-    head: Word<Line, u64, Law>,
-    seen: Seen<Line, u64, Law>,
+    head: Word<Mark, u64, Law>,
+    seen: Seen<Mark, u64, Law>,
     blank: Blank,
     ghost empty: { seen.log ≡ [] },
     ghost head_is: { head ≡ head_of seen.book },
@@ -141,7 +184,6 @@ impl Opened {
                 of: PhantomData,
             },
             front: Front {
-                count: 0,
                 seen,
                 of: PhantomData,
             },
@@ -184,21 +226,36 @@ impl<J: Naming> Parked<J> {
     }
 }
 
-/// The word that orders all steps: the length of the history.
+/// The word through which all steps go. It tells whether the history has begun.
 #[derive(Drop)]
 pub(crate) struct Head<J: Naming> {
-    word: Word<Line, u64, Law>,
+    word: Word<Mark, u64, Law>,
     of: PhantomData<J>,
     ghost word_is: { word ≡ head_of J.book.pages },
+}
+
+impl<J: Naming> Head<J> {
+    // A new pen.
+    fn draw(&self, front: &Front<J>) -> Pen
+        ensures book { result.book ≡ J.book.pages }
+        ensures right { result.nib.right ≡ may_write }
+        ensures key { 0 < result.nib.key }
+    {
+        let mut seen = front.seen.again();
+        let mut offer: Offer<Mark, u64, Law, Nothing> = seen.plain::<Nothing, (), Look>(&());
+        let mut pen = seen.no_pen();
+        self.word
+            .compare_exchange::<Draw, Nothing>(0, 0, &mut seen, &mut offer, &mut pen);
+        let _ = Word::<Mark, u64, Law>::tracked(0, &mut pen);
+        pen
+    }
 }
 
 /// A beginning of the history that was seen.
 #[derive(Drop)]
 pub(crate) struct Front<J: Naming> {
-    pub(crate) count: u64,
-    pub(crate) seen: Seen<Line, u64, Law>,
+    pub(crate) seen: Seen<Mark, u64, Law>,
     of: PhantomData<J>,
-    ghost counted: { count ≡ length seen.log },
     ghost book_is: { seen.book ≡ J.book.pages },
 }
 
@@ -208,91 +265,36 @@ impl<J: Naming> Front<J> {
         ensures { result.seen.log ≡ self.now.seen.log }
     {
         Front {
-            count: self.count,
             seen: self.seen.again(),
             of: PhantomData,
         }
     }
 
     /// Begins an empty history with how often the store has been changed.
-    pub(crate) fn begin<S: Store>(&mut self, head: &Head<J>, store: &S) -> bool
-        requires { self.old.seen.log ≡ [] }
-        ensures { result ≡ true → self.new.seen.log ≡ Begun (S.changes store.now) ∷ [] }
+    pub(crate) fn begin<S: Store>(self, head: &Head<J>, store: &S) -> Option<Tail<J>>
+        requires { self.seen.log ≡ [] }
+        ensures { IfSome result (λ t. told t.front.seen.log ≡ Begun (S.changes store.now) ∷ []) }
     {
-        let mut seen = self.seen.again();
-        let mut offer: Offer<Line, u64, Law, Nothing> = seen.plain::<Nothing, S, Begin>(store);
+        let next = head.draw(&self);
+        let Front { mut seen, of: _ } = self;
+        let opening = Opening { store, next: &next };
+        let mut offer: Offer<Mark, u64, Law, Nothing> =
+            seen.plain::<Nothing, Opening<'_, S>, Open>(&opening);
         let mut pen = seen.no_pen();
         let found = head
             .word
-            .compare_exchange::<Add, Nothing>(0, 1, &mut seen, &mut offer, &mut pen);
+            .compare_exchange::<Open, Nothing>(0, 1, &mut seen, &mut offer, &mut pen);
         if found != 0 {
-            return false;
+            return None;
         }
-        *self = grown(1, seen);
-        true
-    }
-
-    /// Adds a line to all that was seen, if nothing else was added.
-    pub(crate) fn try_add(&mut self, head: &Head<J>, line: &Addition) -> bool
-        requires { is_open self.old.seen.log ≡ true }
-        ensures added { result ≡ true
-            → self.new.seen.log ≡ self.old.seen.log ++ line_added line.now ∷ [] }
-        ensures same { result ≡ false → self.new.seen.log ≡ self.old.seen.log }
-    {
-        let count = self.count;
-        if count == u64::MAX {
-            return false;
-        }
-        let mut seen = self.seen.again();
-        let mut offer: Offer<Line, u64, Law, Nothing> = seen.plain::<Nothing, Addition, Add>(line);
-        let mut pen = seen.no_pen();
-        let found = head
-            .word
-            .compare_exchange::<Add, Nothing>(count, count + 1, &mut seen, &mut offer, &mut pen);
-        if found != count {
-            return false;
-        }
-        *self = grown(count + 1, seen);
-        true
-    }
-
-    /// Adds a line. The history grows under one lock alone, so it always does; a proof knows only that it waits for ever
-    /// where it doesn't.
-    pub(crate) fn add<R: Wait>(&mut self, rt: &R, head: &Head<J>, line: &Addition)
-        requires { is_open self.old.seen.log ≡ true }
-        ensures { self.new.seen.log ≡ self.old.seen.log ++ line_added line.now ∷ [] }
-    {
-        if self.try_add(head, line) {
-            return;
-        }
-        for _ in rt.forever() {}
-        unreachable!()
-    }
-
-    /// Shows all of this to `me`, which had seen no more. The history grows under one lock alone, so it is whole there; a proof
-    /// knows only that it waits for ever where it isn't.
-    pub(crate) fn show<R: Wait>(&self, rt: &R, head: &Head<J>, me: &mut Front<J>)
-        ensures begins { IsPrefix me.old.seen.log self.now.seen.log }
-        ensures same { me.new.seen.log ≡ self.now.seen.log }
-    {
-        let mut seen = self.seen.again();
-        seen.learn(&me.seen);
-        let mut offer: Offer<Line, u64, Law, Nothing> =
-            seen.plain::<Nothing, Addition, Add>(&Addition::End);
-        let found = head.word.load::<Look, Nothing>(&mut seen, &mut offer);
-        if found == self.count {
-            *me = self.again();
-            return;
-        }
-        for _ in rt.forever() {}
-        unreachable!()
+        Some(grown(seen, next))
     }
 
     /// Two fronts of one history begin alike. It does nothing when it runs.
     pub(crate) fn begins_as(&self, other: &Front<J>)
         requires this { self.now.seen.log ≢ [] }
         requires that { other.now.seen.log ≢ [] }
-        ensures { begun_in self.now.seen.log ≡ begun_in other.now.seen.log }
+        ensures { begun_in (told self.now.seen.log) ≡ begun_in (told other.now.seen.log) }
     {
         let mut both = self.seen.again();
         both.learn(&other.seen);
@@ -300,10 +302,11 @@ impl<J: Naming> Front<J> {
 
     /// In a history that has ended, what another front has seen stands at the same place. It does nothing when it runs.
     pub(crate) fn has_entry(&self, other: &Front<J>, number: u64, receipt: &Receipt)
-        requires { entry_at other.now.seen.log number
+        requires { entry_at (told other.now.seen.log) number
             ≡ Some (line_of (note_of (entry_of receipt.now))) }
-        ensures { (begun : ℕ) (ns : List Note)
-            → self.now.seen.log ≡ history begun ns ++ End ∷ []
+        ensures { (ns : List Note)
+            → told self.now.seen.log
+            ≡ history (begun_in (told self.now.seen.log)) ns ++ End ∷ []
             → slice_get ns number ≡ Some (note_of (entry_of receipt.now)) }
     {
         let mut both = self.seen.again();
@@ -311,14 +314,77 @@ impl<J: Naming> Front<J> {
     }
 }
 
-fn grown<J: Naming>(count: u64, seen: Seen<Line, u64, Law>) -> Front<J>
-    requires counted { count ≡ length seen.log }
+/// The end of the history, which its owner alone lengthens.
+#[derive(Drop)]
+pub(crate) struct Tail<J: Naming> {
+    pub(crate) front: Front<J>,
+    pen: Pen,
+    ghost some: { front.seen.log ≢ [] },
+    ghost pen_is: { pen.book ≡ J.book.pages },
+    ghost right: { pen.nib.right ≡ may_write },
+    ghost key: { 0 < pen.nib.key },
+    ghost turn: { turn_of front.seen.log ≡ pen.nib.key },
+}
+
+impl<J: Naming> Tail<J> {
+    /// What was seen, which nothing is added to any more.
+    pub(crate) fn into_front(self) -> Front<J>
+        ensures { result.seen.log ≡ self.front.seen.log }
+    {
+        let Tail { front, pen: _ } = self;
+        front
+    }
+
+    /// Adds a line.
+    pub(crate) fn add(&mut self, head: &Head<J>, line: &Addition)
+        requires { is_open (told self.old.front.seen.log) ≡ true }
+        ensures { told self.new.front.seen.log ≡ told self.old.front.seen.log ++ line_added line.now ∷ [] }
+    {
+        let next = head.draw(&self.front);
+        let mut seen = self.front.seen.again();
+        let handing = Handing { line, next: &next };
+        let mut offer: Offer<Mark, u64, Law, Nothing> =
+            seen.plain::<Nothing, Handing<'_>, Add>(&handing);
+        let Tail { front, pen } = self;
+        head.word
+            .compare_exchange::<Add, Nothing>(1, 1, &mut seen, &mut offer, pen);
+        *front = Front {
+            seen,
+            of: PhantomData,
+        };
+        *pen = next;
+    }
+
+    /// Shows all of the history to `me`, which had seen no more.
+    pub(crate) fn show(&mut self, head: &Head<J>, me: &mut Front<J>)
+        ensures begins { IsPrefix (told me.old.seen.log) (told self.old.front.seen.log) }
+        ensures same { me.new.seen.log ≡ self.old.front.seen.log }
+        ensures whole { self.new.front.seen.log ≡ self.old.front.seen.log }
+    {
+        let mut seen = self.front.seen.again();
+        seen.learn(&me.seen);
+        let mut offer: Offer<Mark, u64, Law, Nothing> = seen.plain::<Nothing, (), Look>(&());
+        let Tail { front, pen } = self;
+        head.word
+            .compare_exchange::<Look, Nothing>(1, 1, &mut seen, &mut offer, pen);
+        *me = front.again();
+    }
+}
+
+fn grown<J: Naming>(seen: Seen<Mark, u64, Law>, pen: Pen) -> Tail<J>
     requires book { seen.book ≡ J.book.pages }
-    ensures { result.seen.log ≡ seen.log }
+    requires some { seen.log ≢ [] }
+    requires pen { pen.book ≡ J.book.pages }
+    requires right { pen.nib.right ≡ may_write }
+    requires key { 0 < pen.nib.key }
+    requires turn { turn_of seen.log ≡ pen.nib.key }
+    ensures { result.front.seen.log ≡ seen.log }
 {
-    Front {
-        count,
-        seen,
-        of: PhantomData,
+    Tail {
+        front: Front {
+            seen,
+            of: PhantomData,
+        },
+        pen,
     }
 }

@@ -1,6 +1,7 @@
 //! One thread's part of a shared store.
 
 ghost use Rattle.std.specs.Prelude.{◌≡◌, ◌+◌, ◌≤◌, length};
+ghost use Rattle.tough_shared.specs.Lines.{told};
 
 use crate::front::{Front, Naming};
 use crate::receipt::Receipt;
@@ -26,7 +27,7 @@ pub struct SharedKeeper<S: Store, R: Wait, J: Naming> {
     next: u64,
     front: Front<J>,
     ghost part: { own.parts ≡ 1 },
-    ghost behind: { next + 1 ≤ length front.seen.log },
+    ghost behind: { next + 1 ≤ length (told front.seen.log) },
 }
 
 impl<S: Store + Drop, R: Wait + Drop, J: Naming> SharedKeeper<S, R, J> {
@@ -111,7 +112,7 @@ impl<S: Store + Drop, R: Wait + Drop, J: Naming> Keeper for SharedKeeper<S, R, J
         } = self;
         match store.take(rt, own, front, alloc, act, verifier) {
             Ok(receipt) => {
-                *next = receipt.front().count - 1;
+                *next = receipt.next();
                 Ok(receipt)
             }
             Err(error) => Err(error),

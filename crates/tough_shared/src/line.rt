@@ -17,6 +17,12 @@ pub(crate) enum Line {
     End,
 }
 
+/// A line of the history, and which pen adds the next one. No value of it is made.
+pub(crate) struct Mark {
+    line: Line,
+    next: u64,
+}
+
 /// What is added to the history.
 #[derive(Drop)]
 pub(crate) enum Addition {

@@ -1,7 +1,6 @@
 //! What lies under the lock: a vault, with the history that its journal is.
 
-ghost use Rattle.std.specs.Prelude.{◌≡◌, ◌≢◌, ◌+◌, ◌<◌, ◌≤◌, [], ◌∷◌, ◌++◌, ℕ, length, true, IfOk, IfErr, OnOk};
-ghost use mathlib.Core.List.{IsPrefix};
+ghost use Rattle.std.specs.Prelude.{◌≡◌, ◌≢◌, ◌+◌, ◌<◌, [], ◌∷◌, ◌++◌, ℕ, length, true, IfOk};
 ghost use Rattle.tough_vault.specs.Act.{PutDocument, Acts};
 ghost use Rattle.tough_vault.specs.Journal.{number_of};
 ghost use Rattle.tough_vault.specs.Vault.{parts_of, journal_of, notes_in, store_of};
@@ -10,17 +9,16 @@ ghost use Rattle.tough_checks.specs.DocumentName.{name_of};
 ghost use Rattle.tough_vault.specs.Looking.{Looks, look_doc};
 ghost use Rattle.tough_trust.specs.View.{act_of};
 ghost use Rattle.tough_shared.specs.Begins.{Begins};
-ghost use Rattle.tough_shared.specs.Lines.{history, begun_in, is_open, Grows};
+ghost use Rattle.tough_shared.specs.Lines.{history, begun_in, is_open, told, Grows};
 ghost use Rattle.tough_shared.specs.Receipts.{untied, IsLater};
 ghost use Rattle.tough_shared.specs.Shares.{Keeps, Shares, Alone, StepsAlone, LooksAlone, no_signature};
 ghost use Rattle.tough_shared.specs.declared.line.Line.TheVariants.{Begun, End};
 
-use crate::front::{Front, Head, Naming};
+use crate::front::{Front, Head, Naming, Tail};
 use crate::line::Addition;
 use crate::receipt::Receipt;
 use crate::spare::Tally;
 use std::alloc::Global;
-use std::sync::Wait;
 use std::sync::ledger::{Book, Share};
 use tough_roles::{Role, Root, Signed, Verify};
 use tough_trust::{Act, act_on};
@@ -30,11 +28,11 @@ use tough_vault::{DocumentName, StepError, Store, Vault};
 #[derive(Drop)]
 pub(crate) struct Locked<S: Store, J: Naming> {
     pub(crate) vault: Vault<S>,
-    pub(crate) front: Front<J>,
+    pub(crate) tail: Tail<J>,
     book: Book<Tally<J>>,
-    ghost same: { front.seen.log ≡ history (begun_in front.seen.log) (notes_in vault) },
+    ghost same: { told tail.front.seen.log ≡ history (begun_in (told tail.front.seen.log)) (notes_in vault) },
     ghost counted: { book.total ≡ length (notes_in vault) },
-    ghost begins: { ∥ Begins S.tells S.files S.count S.changes (begun_in front.seen.log) (parts_of vault) ∥₁ },
+    ghost begins: { ∥ Begins S.tells S.files S.count S.changes (begun_in (told tail.front.seen.log)) (parts_of vault) ∥₁ },
 }
 
 impl<S: Store, J: Naming> Locked<S, J> {
@@ -42,43 +40,39 @@ impl<S: Store, J: Naming> Locked<S, J> {
     pub(crate) fn new(
         alloc: Global,
         store: S,
-        front: Front<J>,
+        tail: Tail<J>,
         book: Book<Tally<J>>,
     ) -> Locked<S, J>
-        requires begun { front.seen.log ≡ Begun (S.changes store) ∷ [] }
+        requires begun { told tail.front.seen.log ≡ Begun (S.changes store) ∷ [] }
         requires book { book.total ≡ 0 }
         ensures store { store_of result.vault ≡ store }
         ensures journal { notes_in result.vault ≡ [] }
     {
         Locked {
             vault: Vault::new(alloc, store),
-            front,
+            tail,
             book,
         }
     }
 
-    /// Ends the history, so that nothing is added to the journal any more. It always can, though no proof says so.
-    pub(crate) fn end(self, head: &Head<J>) -> Result<(Vault<S>, Front<J>), Locked<S, J>>
-        ensures vault { IfOk result (λ p. p.0 ≡ self.vault) }
-        ensures front { IfOk result (λ p. p.1.seen.log ≡ history (begun_in self.front.seen.log) (notes_in self.vault) ++ End ∷ []) }
-        ensures err { IfErr result (λ l. (l.vault ≡ self.vault) × (l.front.seen.log ≡ self.front.seen.log)) }
+    /// Ends the history, so that nothing is added to the journal any more.
+    pub(crate) fn end(self, head: &Head<J>) -> (Vault<S>, Front<J>)
+        ensures vault { result.0 ≡ self.vault }
+        ensures front { told result.1.seen.log ≡ history (begun_in (told self.tail.front.seen.log)) (notes_in self.vault) ++ End ∷ [] }
     {
         let Locked {
             vault,
-            mut front,
-            book,
+            mut tail,
+            book: _,
         } = self;
-        if front.try_add(head, &Addition::End) {
-            return Ok((vault, front));
-        }
-        Err(Locked { vault, front, book })
+        tail.add(head, &Addition::End);
+        (vault, tail.into_front())
     }
 
     /// The step of the vault, which notes its entry in the history too. It is counted as an entry of `own`, and `me` has then seen the journal
     /// behind it.
-    fn take<V: Verify, R: Wait>(
+    fn take<V: Verify>(
         &mut self,
-        rt: &R,
         head: &Head<J>,
         own: &mut Share<Tally<J>>,
         me: &mut Front<J>,
@@ -90,24 +84,24 @@ impl<S: Store, J: Naming> Locked<S, J> {
         requires seen { me.old.seen.log ≢ [] }
         ensures step { Acts S.tells S.files S.count (V.verifies verifier.now) (act_of act.now)
             (parts_of self.old.vault) (parts_of self.new.vault) (untied result) }
-        ensures begun { begun_in self.new.front.seen.log ≡ begun_in me.old.seen.log }
-        ensures begins { begun_in self.old.front.seen.log ≡ begun_in me.old.seen.log }
-        ensures alone { Alone (begun_in me.old.seen.log) (notes_in self.old.vault) (notes_in self.new.vault)
-            me.old.seen.log me.new.seen.log own.old.amount own.new.amount }
+        ensures begun { begun_in (told self.new.tail.front.seen.log) ≡ begun_in (told me.old.seen.log) }
+        ensures begins { begun_in (told self.old.tail.front.seen.log) ≡ begun_in (told me.old.seen.log) }
+        ensures alone { Alone (begun_in (told me.old.seen.log)) (notes_in self.old.vault) (notes_in self.new.vault)
+            (told me.old.seen.log) (told me.new.seen.log) own.old.amount own.new.amount }
         ensures parts { own.new.parts ≡ own.old.parts }
-        ensures later { IfOk result (IsLater (length me.old.seen.log)) }
+        ensures later { IfOk result (IsLater (length (told me.old.seen.log))) }
     {
-        let Locked { vault, front, book } = self;
-        front.show(rt, head, me);
+        let Locked { vault, tail, book } = self;
+        tail.show(head, me);
+        let before = entries_of(vault);
         let answer = act_on(vault, alloc, act, verifier);
-        let entries = entries_of(vault);
-        note(front, book, own, rt, head, me, entries, answer)
+        let after = entries_of(vault);
+        note(tail, book, own, head, me, before, after, answer)
     }
 
     /// The same of a document of any role.
-    fn put_document<T: Role, R: Wait>(
+    fn put_document<T: Role>(
         &mut self,
-        rt: &R,
         head: &Head<J>,
         own: &mut Share<Tally<J>>,
         me: &mut Front<J>,
@@ -119,21 +113,21 @@ impl<S: Store, J: Naming> Locked<S, J> {
         ensures step { Acts S.tells S.files S.count no_signature
             (PutDocument (name_of name.now) (compact_by T.json role.now))
             (parts_of self.old.vault) (parts_of self.new.vault) (untied result) }
-        ensures begun { begun_in self.new.front.seen.log ≡ begun_in me.old.seen.log }
-        ensures begins { begun_in self.old.front.seen.log ≡ begun_in me.old.seen.log }
+        ensures begun { begun_in (told self.new.tail.front.seen.log) ≡ begun_in (told me.old.seen.log) }
+        ensures begins { begun_in (told self.old.tail.front.seen.log) ≡ begun_in (told me.old.seen.log) }
         ensures parts { own.new.parts ≡ own.old.parts }
     {
-        let Locked { vault, front, book } = self;
-        front.show(rt, head, me);
+        let Locked { vault, tail, book } = self;
+        tail.show(head, me);
+        let before = entries_of(vault);
         let answer = vault.put_document(name, role);
-        let entries = entries_of(vault);
-        note(front, book, own, rt, head, me, entries, answer)
+        let after = entries_of(vault);
+        note(tail, book, own, head, me, before, after, answer)
     }
 
     /// The step of the vault, as it is told through the lock, and nothing beside it.
-    pub(crate) fn step<V: Verify, R: Wait>(
+    pub(crate) fn step<V: Verify>(
         &mut self,
-        rt: &R,
         head: &Head<J>,
         own: &mut Share<Tally<J>>,
         me: &mut Front<J>,
@@ -143,21 +137,20 @@ impl<S: Store, J: Naming> Locked<S, J> {
     ) -> Result<Receipt<J>, StepError>
         requires part { 0 < own.old.parts }
         requires seen { me.old.seen.log ≢ [] }
-        ensures alone { StepsAlone S.tells S.files S.count S.changes (begun_in me.old.seen.log) me.old.seen.log me.new.seen.log
+        ensures alone { StepsAlone S.tells S.files S.count S.changes (begun_in (told me.old.seen.log)) (told me.old.seen.log) (told me.new.seen.log)
             own.old.amount own.new.amount (V.verifies verifier.now) (act_of act.now) result }
         ensures parts { own.new.parts ≡ own.old.parts }
-        ensures later { IfOk result (IsLater (length me.old.seen.log)) }
+        ensures later { IfOk result (IsLater (length (told me.old.seen.log))) }
     {
         self.show();
-        let result = self.take(rt, head, own, me, alloc, act, verifier);
+        let result = self.take(head, own, me, alloc, act, verifier);
         self.show();
         result
     }
 
     /// The same of a document of any role.
-    pub(crate) fn document_step<T: Role, R: Wait>(
+    pub(crate) fn document_step<T: Role>(
         &mut self,
-        rt: &R,
         head: &Head<J>,
         own: &mut Share<Tally<J>>,
         me: &mut Front<J>,
@@ -166,20 +159,19 @@ impl<S: Store, J: Naming> Locked<S, J> {
     ) -> Result<Receipt<J>, StepError>
         requires part { 0 < own.old.parts }
         requires seen { me.old.seen.log ≢ [] }
-        ensures step { Shares S.tells S.files S.count S.changes (begun_in me.old.seen.log) no_signature
+        ensures step { Shares S.tells S.files S.count S.changes (begun_in (told me.old.seen.log)) no_signature
             (PutDocument (name_of name.now) (compact_by T.json role.now)) result }
         ensures parts { own.new.parts ≡ own.old.parts }
     {
         self.show();
-        let result = self.put_document(rt, head, own, me, name, role);
+        let result = self.put_document(head, own, me, name, role);
         self.show();
         result
     }
 
     // The look of the vault at its stored root. `me` has then seen the journal.
-    fn look<V: Verify, R: Wait>(
+    fn look<V: Verify>(
         &mut self,
-        rt: &R,
         head: &Head<J>,
         me: &mut Front<J>,
         first: u64,
@@ -188,42 +180,41 @@ impl<S: Store, J: Naming> Locked<S, J> {
         requires { me.old.seen.log ≢ [] }
         ensures look { Looks S.tells S.files S.count (V.verifies verifier.now) first
             (parts_of self.old.vault) (parts_of self.new.vault) (look_doc result) }
-        ensures begun { begun_in self.new.front.seen.log ≡ begun_in me.old.seen.log }
-        ensures begins { begun_in self.old.front.seen.log ≡ begun_in me.old.seen.log }
-        ensures alone { (made : ℕ) → Alone (begun_in me.old.seen.log) (notes_in self.old.vault) (notes_in self.new.vault)
-            me.old.seen.log me.new.seen.log made made }
+        ensures begun { begun_in (told self.new.tail.front.seen.log) ≡ begun_in (told me.old.seen.log) }
+        ensures begins { begun_in (told self.old.tail.front.seen.log) ≡ begun_in (told me.old.seen.log) }
+        ensures alone { (made : ℕ) → Alone (begun_in (told me.old.seen.log)) (notes_in self.old.vault) (notes_in self.new.vault)
+            (told me.old.seen.log) (told me.new.seen.log) made made }
     {
         let Locked {
             vault,
-            front,
+            tail,
             book: _,
         } = self;
-        front.show(rt, head, me);
+        tail.show(head, me);
         vault.read_root(first, verifier)
     }
 
     /// The look of the vault at its stored root, as it is told through the lock, and nothing beside it.
-    pub(crate) fn read_root<V: Verify, R: Wait>(
+    pub(crate) fn read_root<V: Verify>(
         &mut self,
-        rt: &R,
         head: &Head<J>,
         me: &mut Front<J>,
         first: u64,
         verifier: &V,
     ) -> Result<Option<Signed<Root>>, StepError>
         requires { me.old.seen.log ≢ [] }
-        ensures { LooksAlone S.tells S.files S.count S.changes (begun_in me.old.seen.log) me.old.seen.log me.new.seen.log
+        ensures { LooksAlone S.tells S.files S.count S.changes (begun_in (told me.old.seen.log)) (told me.old.seen.log) (told me.new.seen.log)
             (V.verifies verifier.now) first (look_doc result) }
     {
         self.show();
-        let result = self.look(rt, head, me, first, verifier);
+        let result = self.look(head, me, first, verifier);
         self.show();
         result
     }
 
     /// What the lock keeps, for the proofs.
     pub(crate) fn show(&self)
-        ensures { Keeps S.tells S.files S.count S.changes (begun_in self.now.front.seen.log)
+        ensures { Keeps S.tells S.files S.count S.changes (begun_in (told self.now.tail.front.seen.log))
             (parts_of self.now.vault) }
     {
         let _ = self.vault.journal();
@@ -239,48 +230,50 @@ fn entries_of<S: Store>(vault: &Vault<S>) -> u64
 }
 
 // Adds what a step of the vault noted to the history, counts it, shows the history to `me`, and ties the receipt to it.
-fn note<J: Naming, R: Wait>(
-    front: &mut Front<J>,
+fn note<J: Naming>(
+    tail: &mut Tail<J>,
     book: &mut Book<Tally<J>>,
     own: &mut Share<Tally<J>>,
-    rt: &R,
     head: &Head<J>,
     me: &mut Front<J>,
-    entries: u64,
+    before: u64,
+    after: u64,
     answer: Result<tough_vault::Receipt, StepError>,
 ) -> Result<Receipt<J>, StepError>
-    requires open { is_open front.old.seen.log ≡ true }
-    requires number { IfOk answer (λ r. number_of r + 1 ≡ length front.old.seen.log) }
-    requires entries { OnOk answer (entries ≡ length front.old.seen.log) }
+    requires open { is_open (told tail.old.front.seen.log) ≡ true }
+    requires number { IfOk answer (λ r. number_of r + 1 ≡ length (told tail.old.front.seen.log)) }
+    requires fits { IfOk answer (λ r. number_of r + 1 ≡ after) }
     requires part { 0 < own.old.parts }
-    requires same { me.old.seen.log ≡ front.old.seen.log }
+    requires same { me.old.seen.log ≡ tail.old.front.seen.log }
     ensures answer { untied result ≡ answer }
-    ensures grows { Grows entries answer front.old.seen.log front.new.seen.log }
-    ensures seen { me.new.seen.log ≡ front.new.seen.log }
-    ensures total { book.new.total + length front.old.seen.log ≡ book.old.total + length front.new.seen.log }
-    ensures own { own.new.amount + length front.old.seen.log ≡ own.old.amount + length front.new.seen.log }
+    ensures grows { Grows before after answer (told tail.old.front.seen.log) (told tail.new.front.seen.log) }
+    ensures seen { me.new.seen.log ≡ tail.new.front.seen.log }
+    ensures total { book.new.total + length (told tail.old.front.seen.log)
+        ≡ book.old.total + length (told tail.new.front.seen.log) }
+    ensures own { own.new.amount + length (told tail.old.front.seen.log)
+        ≡ own.old.amount + length (told tail.new.front.seen.log) }
     ensures parts { own.new.parts ≡ own.old.parts }
-    ensures later { IfOk result (IsLater (length front.old.seen.log)) }
+    ensures later { IfOk result (IsLater (length (told tail.old.front.seen.log))) }
 {
     match answer {
         Ok(plain) => {
             let added = Addition::Told(plain);
-            front.add(rt, head, &added);
+            tail.add(head, &added);
             book.add(own, 1);
-            *me = front.again();
+            *me = tail.front.again();
             let Addition::Told(plain) = added else {
                 unreachable!()
             };
             Ok(Receipt {
                 plain,
-                front: front.again(),
+                front: tail.front.again(),
             })
         }
         Err(error) => {
-            if entries >= front.count {
-                front.add(rt, head, &Addition::Broken);
+            if after > before {
+                tail.add(head, &Addition::Broken);
                 book.add(own, 1);
-                *me = front.again();
+                *me = tail.front.again();
             }
             Err(error)
         }

@@ -1,6 +1,6 @@
 //! A vault behind one lock.
 
-ghost use Rattle.std.specs.Prelude.{◌≡◌, ◌≢◌, ◌<◌, [], length, IfOk, IfErr, IfSome};
+ghost use Rattle.std.specs.Prelude.{◌≡◌, ◌≢◌, ◌<◌, [], length, IfOk, IfErr};
 ghost use Rattle.tough_roles.specs.Root.{root_doc};
 ghost use Rattle.tough_roles.specs.Signature.{signed_doc};
 ghost use Rattle.tough_roles.specs.Snapshot.{snapshot_doc};
@@ -13,7 +13,7 @@ ghost use Rattle.tough_vault.specs.Looking.{look_doc};
 ghost use Rattle.tough_trust.specs.View.{act_of};
 ghost use Rattle.tough_shared.specs.Opened.{book_of};
 ghost use Rattle.tough_shared.specs.Closed.{closed_begun};
-ghost use Rattle.tough_shared.specs.Lines.{begun_in};
+ghost use Rattle.tough_shared.specs.Lines.{begun_in, told};
 ghost use Rattle.tough_shared.specs.Receipts.{IsLater};
 ghost use Rattle.tough_shared.specs.Shares.{Shares, SharesLook, StepsAlone, LooksAlone, no_signature};
 
@@ -31,11 +31,11 @@ use tough_roles::{Role, Root, Signed, Snapshot, Timestamp};
 use tough_trust::Act;
 use tough_vault::{DocumentName, ExpirationEnforcement, StepError, Store};
 
-// What all clones have: the head of the history, and the desk under its lock. Only a store that is closed lacks it.
+// What all clones have: the head of the history, and the desk under its lock.
 #[derive(Drop)]
 struct Shared<S: Store, J: Naming> {
     head: Head<J>,
-    desk: Mutex<Option<Desk<S, J>>>,
+    desk: Mutex<Desk<S, J>>,
 }
 
 // The vault, and the count of the entries that no keeper made.
@@ -78,20 +78,20 @@ impl<S: Store + Drop, J: Naming> SharedStore<S, J> {
     {
         let Named {
             head,
-            mut front,
+            front,
             book,
             spare,
             licence,
         } = opened.named::<J>();
         // Nothing was added yet, so it always begins; a proof knows nothing of that.
-        if !front.begin(&head, &store) {
+        let Some(tail) = front.begin(&head, &store) else {
             return Err(AllocError);
-        }
-        let start = front.again();
-        let desk = Mutex::new(Some(Desk {
-            locked: Locked::new(alloc, store, front, book),
+        };
+        let start = tail.front.again();
+        let desk = Mutex::new(Desk {
+            locked: Locked::new(alloc, store, tail, book),
             spare,
-        }));
+        });
         let shared = Arc::new(alloc, Shared { head, desk })?;
         Ok(SharedStore {
             alloc,
@@ -126,21 +126,16 @@ impl<S: Store + Drop, J: Naming> SharedStore<S, J> {
     {
         let mut me = self.start.again();
         let mut guard = self.shared.desk.lock(rt);
-        if let Some(desk) = &mut *guard {
-            let Desk { locked, spare } = desk;
-            return spare.step(
-                &self.licence,
-                locked,
-                rt,
-                &self.shared.head,
-                &mut me,
-                self.alloc,
-                act,
-                verifier,
-            );
-        }
-        for _ in rt.forever() {}
-        unreachable!()
+        let Desk { locked, spare } = &mut *guard;
+        spare.step(
+            &self.licence,
+            locked,
+            &self.shared.head,
+            &mut me,
+            self.alloc,
+            act,
+            verifier,
+        )
     }
 
     /// A count for a keeper, which has made nothing.
@@ -149,11 +144,7 @@ impl<S: Store + Drop, J: Naming> SharedStore<S, J> {
         ensures amount { result.amount ≡ 0 }
     {
         let mut guard = self.shared.desk.lock(rt);
-        if let Some(desk) = &mut *guard {
-            return desk.spare.part(rt, &self.licence);
-        }
-        for _ in rt.forever() {}
-        unreachable!()
+        guard.spare.part(rt, &self.licence)
     }
 
     /// The store while a keeper has it.
@@ -194,11 +185,9 @@ impl<S: Store + Drop, J: Naming> SharedStore<S, J> {
     {
         let mut me = self.start.again();
         let mut guard = self.shared.desk.lock(rt);
-        if let Some(desk) = &mut *guard {
-            return desk.locked.read_root(rt, &self.shared.head, &mut me, first, verifier);
-        }
-        for _ in rt.forever() {}
-        unreachable!()
+        guard
+            .locked
+            .read_root(&self.shared.head, &mut me, first, verifier)
     }
 
     /// Accepts a root, as `Vault::put_root` (TUF specification 5.3).
@@ -283,20 +272,15 @@ impl<S: Store + Drop, J: Naming> SharedStore<S, J> {
     {
         let mut me = self.start.again();
         let mut guard = self.shared.desk.lock(rt);
-        if let Some(desk) = &mut *guard {
-            let Desk { locked, spare } = desk;
-            return spare.document_step(
-                &self.licence,
-                locked,
-                rt,
-                &self.shared.head,
-                &mut me,
-                name,
-                role,
-            );
-        }
-        for _ in rt.forever() {}
-        unreachable!()
+        let Desk { locked, spare } = &mut *guard;
+        spare.document_step(
+            &self.licence,
+            locked,
+            &self.shared.head,
+            &mut me,
+            name,
+            role,
+        )
     }
 
     /// The closed store, or this one while another clone lives.
@@ -306,13 +290,13 @@ impl<S: Store + Drop, J: Naming> SharedStore<S, J> {
     {
         let SharedStore {
             alloc,
-            mut shared,
+            shared,
             licence,
             start,
         } = self;
-        match try_close(&mut shared, &start) {
-            Some(closed) => Ok(closed),
-            None => Err(SharedStore {
+        match Arc::try_unwrap(shared) {
+            Ok(shared) => Ok(closed(shared, &start)),
+            Err(shared) => Err(SharedStore {
                 alloc,
                 shared,
                 licence,
@@ -337,8 +321,8 @@ impl<S: Store + Drop, J: Naming> Quiet<S, J> {
 
     /// The history from which it began.
     pub(crate) fn start(&self) -> Front<J>
-        ensures begun { begun_in result.seen.log ≡ quiet_begun self.now }
-        ensures some { 0 < length result.seen.log }
+        ensures begun { begun_in (told result.seen.log) ≡ quiet_begun self.now }
+        ensures some { 0 < length (told result.seen.log) }
     {
         self.start.again()
     }
@@ -355,17 +339,15 @@ impl<S: Store + Drop, J: Naming> Quiet<S, J> {
     ) -> Result<Receipt<J>, StepError>
         requires part { 0 < own.old.parts }
         requires seen { me.old.seen.log ≢ [] }
-        ensures alone { StepsAlone S.tells S.files S.count S.changes (begun_in me.old.seen.log) me.old.seen.log me.new.seen.log
+        ensures alone { StepsAlone S.tells S.files S.count S.changes (begun_in (told me.old.seen.log)) (told me.old.seen.log) (told me.new.seen.log)
             own.old.amount own.new.amount (V.verifies verifier.now) (act_of act.now) result }
         ensures parts { own.new.parts ≡ own.old.parts }
-        ensures later { IfOk result (IsLater (length me.old.seen.log)) }
+        ensures later { IfOk result (IsLater (length (told me.old.seen.log))) }
     {
         let mut guard = self.shared.desk.lock(rt);
-        if let Some(desk) = &mut *guard {
-            return desk.locked.step(rt, &self.shared.head, own, me, alloc, act, verifier);
-        }
-        for _ in rt.forever() {}
-        unreachable!()
+        guard
+            .locked
+            .step(&self.shared.head, own, me, alloc, act, verifier)
     }
 
     /// The look of the vault at its stored root, under the lock.
@@ -377,15 +359,13 @@ impl<S: Store + Drop, J: Naming> Quiet<S, J> {
         verifier: &V,
     ) -> Result<Option<Signed<Root>>, StepError>
         requires { me.old.seen.log ≢ [] }
-        ensures { LooksAlone S.tells S.files S.count S.changes (begun_in me.old.seen.log) me.old.seen.log me.new.seen.log
+        ensures { LooksAlone S.tells S.files S.count S.changes (begun_in (told me.old.seen.log)) (told me.old.seen.log) (told me.new.seen.log)
             (V.verifies verifier.now) first (look_doc result) }
     {
         let mut guard = self.shared.desk.lock(rt);
-        if let Some(desk) = &mut *guard {
-            return desk.locked.read_root(rt, &self.shared.head, me, first, verifier);
-        }
-        for _ in rt.forever() {}
-        unreachable!()
+        guard
+            .locked
+            .read_root(&self.shared.head, me, first, verifier)
     }
 
     /// The store.
@@ -407,26 +387,15 @@ impl<S: Store + Drop, J: Naming> Quiet<S, J> {
     }
 }
 
-// Takes the vault out of a store that has one owner, and ends its history.
-fn try_close<S: Store + Drop, J: Naming>(
-    shared: &mut Arc<Shared<S, J>, Global>,
+// Takes the vault out of a store that has no clone, and ends its history.
+fn closed<S: Store + Drop, J: Naming>(
+    shared: Shared<S, J>,
     start: &Front<J>,
-) -> Option<ClosedStore<S, J>>
+) -> ClosedStore<S, J>
     requires { start.now.seen.log ≢ [] }
-    ensures { IfSome result (λ c. closed_begun c ≡ begun_in start.now.seen.log) }
+    ensures { closed_begun result ≡ begun_in (told start.now.seen.log) }
 {
-    let Some(shared) = Arc::get_mut(shared) else {
-        return None;
-    };
-    let Some(desk) = shared.desk.get_mut().take() else {
-        return None;
-    };
-    let Desk { locked, spare } = desk;
-    match ClosedStore::seal(locked, &shared.head, start) {
-        Ok(closed) => Some(closed),
-        Err(locked) => {
-            *shared.desk.get_mut() = Some(Desk { locked, spare });
-            None
-        }
-    }
+    let Shared { head, desk } = shared;
+    let Desk { locked, spare: _ } = desk.into_inner();
+    ClosedStore::seal(locked, &head, start)
 }

@@ -5,7 +5,7 @@ ghost use Rattle.tough_checks.specs.DocumentName.{name_of};
 ghost use Rattle.tough_roles.specs.Written.{compact_by};
 ghost use Rattle.tough_trust.specs.View.{act_of};
 ghost use Rattle.tough_vault.specs.Act.{PutDocument};
-ghost use Rattle.tough_shared.specs.Lines.{begun_in};
+ghost use Rattle.tough_shared.specs.Lines.{begun_in, told};
 ghost use Rattle.tough_shared.specs.Shares.{Shares, no_signature};
 
 use crate::front::{Front, Head, Licence, Naming};
@@ -68,11 +68,10 @@ impl<J: Naming> Spare<J> {
     }
 
     /// A step that no keeper counts.
-    pub(crate) fn step<S: Store, V: Verify, R: Wait>(
+    pub(crate) fn step<S: Store, V: Verify>(
         &mut self,
         licence: &Licence<J>,
         locked: &mut Locked<S, J>,
-        rt: &R,
         head: &Head<J>,
         me: &mut Front<J>,
         alloc: Global,
@@ -80,31 +79,30 @@ impl<J: Naming> Spare<J> {
         verifier: &V,
     ) -> Result<Receipt<J>, StepError>
         requires { me.old.seen.log ≢ [] }
-        ensures { Shares S.tells S.files S.count S.changes (begun_in me.old.seen.log)
+        ensures { Shares S.tells S.files S.count S.changes (begun_in (told me.old.seen.log))
             (V.verifies verifier.now) (act_of act.now) result }
     {
         let _ = licence;
         let Spare { share, left: _ } = self;
-        locked.step(rt, head, share, me, alloc, act, verifier)
+        locked.step(head, share, me, alloc, act, verifier)
     }
 
     /// The same of a document of any role.
-    pub(crate) fn document_step<S: Store, T: Role, R: Wait>(
+    pub(crate) fn document_step<S: Store, T: Role>(
         &mut self,
         licence: &Licence<J>,
         locked: &mut Locked<S, J>,
-        rt: &R,
         head: &Head<J>,
         me: &mut Front<J>,
         name: &DocumentName,
         role: &Signed<T>,
     ) -> Result<Receipt<J>, StepError>
         requires { me.old.seen.log ≢ [] }
-        ensures { Shares S.tells S.files S.count S.changes (begun_in me.old.seen.log)
+        ensures { Shares S.tells S.files S.count S.changes (begun_in (told me.old.seen.log))
             no_signature (PutDocument (name_of name.now) (compact_by T.json role.now)) result }
     {
         let _ = licence;
         let Spare { share, left: _ } = self;
-        locked.document_step(rt, head, share, me, name, role)
+        locked.document_step(head, share, me, name, role)
     }
 }

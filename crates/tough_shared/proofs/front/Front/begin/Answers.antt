@@ -1,7 +1,7 @@
-use Rattle.std.proofs.Common.{sym, ◌∙◌, ap, length}
-use Rattle.tough_shared.specs.Lines.{is_open}
+use Rattle.std.proofs.Common.{sym, ◌∙◌, ap}
+use Rattle.tough_shared.specs.Lines.{mark}
 use Rattle.tough_shared.specs.declared.line.Line.TheVariants.{Begun}
-use Rattle.tough_shared.proofs.Adding.{adds_moves}
+use Rattle.tough_shared.proofs.Adding.{opens_moves}
 use Rattle.tough_shared.proofs.front.Front.begin.Goals as goal
 
 pub compare_exchange-found-requires : goal.compare_exchange-found-requires
@@ -9,12 +9,10 @@ compare_exchange-found-requires g c =
     let h = c.args.head.now.word_is in
     let offer = c.plain-offer.ensures in
     let pen = c.no_pen-pen.ensures in
-    let me = c.args.self.now in
-    let log = ap (λ s. s.log) c.again-seen.ensures ∙ c.requires in
-    let book = ap (λ s. s.book) c.again-seen.ensures ∙ me.book_is in (
+    let book = c.args.self.book_is in (
       ap (λ w. w.tracked) h,
       book ∙ sym (ap (λ w. w.book) h),
       pen.0 ∙ (book ∙ sym (ap (λ w. w.book) h)),
       offer.0,
-      rw (ap (λ w. w.key) h, pen.1, offer.1, offer.3) (adds_moves c.again-seen.result.log (Begun (g.S.Store.changes c.args.store.now)) 0 (ap length log) (ap is_open log)),
+      rw (ap (λ w. w.key) h, pen.1, offer.1, offer.3, c.requires) (opens_moves (mark (Begun (g.S.Store.changes c.args.store.now)) c.draw-next.result.nib.key)),
     )
