@@ -134,7 +134,7 @@ pub draws_moves : (v : List Mark) (m : Mark) → Moves IsKept shown moved 0 (v, 
 draws_moves v m cs log kept pre away =
     let len : 0 < length cs = some-cells cs (gate_of log) kept.gate in
     let after : IsKept (cs ++ (0, false) ∷ []) (log ++ []) = subst (IsKept (cs ++ (0, false) ∷ [])) (sym (append-nil log))
-        (record { gate = gate-more cs ((0, false) ∷ []) (gate_of log) kept.gate; turns = chained-more cs (cs ++ (0, false) ∷ []) log (used-more cs ((0, false) ∷ [])) kept.turns; ends = kept.ends }) in (
+    (record { gate = gate-more cs ((0, false) ∷ []) (gate_of log) kept.gate; turns = chained-more cs (cs ++ (0, false) ∷ []) log (used-more cs ((0, false) ∷ [])) kept.turns; ends = kept.ends }) in (
       len,
       ap (λ (c : Cell). c.1) kept.gate,
       (
@@ -159,11 +159,11 @@ adds_moves v p m some may key turn still_open cs log kept pre away =
     let used : IsUsed (set cs p.key (p.value, true)) (turn_of log) = subst (IsUsed (set cs p.key (p.value, true))) (sym mine) (used-here cs p.key p.value a.0) in
     let one : gate_of log ≡ 1 = ap gate_of same ∙ gate-some v some in
     let after : IsKept (set cs p.key (p.value, true)) (log ++ m ∷ []) =
-        record {
-          gate = gate-set cs p.key (p.value, true) key ∙ (kept.gate ∙ ap (λ (n : ℕ). (n, true)) (one ∙ sym (gate-push log m)));
-          turns = chained-push cs (set cs p.key (p.value, true)) log m (λ j. used-set cs p.key j p.value) used kept.turns;
-          ends = ap ends_well (told-push log m) ∙ ends_push (told log) m.line (ap (λ l. is_open (told l)) same ∙ still_open);
-        } in (
+    record {
+      gate = gate-set cs p.key (p.value, true) key ∙ (kept.gate ∙ ap (λ (n : ℕ). (n, true)) (one ∙ sym (gate-push log m)));
+      turns = chained-push cs (set cs p.key (p.value, true)) log m (λ j. used-set cs p.key j p.value) used kept.turns;
+      ends = ap ends_well (told-push log m) ∙ ends_push (told log) m.line (ap (λ l. is_open (told l)) same ∙ still_open);
+    } in (
       some-cells cs (gate_of log) kept.gate,
       ap (λ (c : Cell). c.1) kept.gate,
       (

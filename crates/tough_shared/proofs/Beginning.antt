@@ -23,9 +23,10 @@ module _ {S : Type 0} (tells : Bool) (files : S → Files) (count changes : S �
   stepped was is old new verifies act result same acts b =
       subst (λ (n : ℕ). ∥ Begins tells files count changes n new ∥₁) (sym same) (∥∥₁_map b (led was old new (inl (verifies, act, result, acts))))
 
-  pub looked : (begun : ℕ) (old new : Parts S) (verifies : Verifies) (first : ℕ) (result : Result (Option (SignedDoc RootDoc)) StepError) → Looks tells files count verifies first old new result
-      → ∥ Begins tells files count changes begun old ∥₁ → ∥ Begins tells files count changes begun new ∥₁
-  looked begun old new verifies first result looks b = ∥∥₁_map b (led begun old new (inr (verifies, first, result, looks)))
+  pub looked : (was is : ℕ) (old new : Parts S) (verifies : Verifies) (first : ℕ) (result : Result (Option (SignedDoc RootDoc)) StepError) → is ≡ was → Looks tells files count verifies first old new result
+      → ∥ Begins tells files count changes was old ∥₁ → ∥ Begins tells files count changes is new ∥₁
+  looked was is old new verifies first result same looks b =
+      subst (λ (n : ℕ). ∥ Begins tells files count changes n new ∥₁) (sym same) (∥∥₁_map b (led was old new (inr (verifies, first, result, looks))))
 
   -- nothing yet
   pub begins : (store : S) (new : Parts S) → new ≡ record { store = store; notes = []; tip = no_tip } → Begins tells files count changes (changes store) new

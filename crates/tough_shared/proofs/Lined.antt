@@ -188,3 +188,32 @@ alone-by seen later log grown old new made more some begins same shown is add =
       after = shown ∙ (is ∙ ap (λ n. history n new) b);
       counted = add;
     }
+
+grows-to : (old new : List Note) (answer : Result Receipt StepError) → GoesOn old new answer → length old ≤ length new
+grows-to old new (Ok r) g = let m : length new ≡ length old + 1 = ap length g.0 ∙ length-append old (note_of (entry_of r) ∷ []) in omega (arith, m)
+grows-to old new (Err e) (inl is) = let m : length new ≡ length old = ap length is in omega (arith, m)
+grows-to old new (Err e) (inr is) = let m : length new ≡ length old + 1 = ap length is ∙ length-append old (Broken ∷ []) in omega (arith, m)
+
+longer-by : (begun : ℕ) (old new : List Note) (seen later : List Line) (made more : ℕ) → Alone begun old new seen later made more → length old ≤ length new → length seen ≤ length later
+longer-by begun old new seen later made more a le =
+    let p : length seen ≤ length (history begun old) = prefix_length seen (history begun old) a.before in
+    let l : length (history begun old) ≡ length old + 1 = history-length begun (history begun old) old refl in
+    let m : length later ≡ length new + 1 = history-length begun later new a.after in
+    omega (arith, p, l, m, le)
+
+-- a keeper has then seen no less
+pub longer : (begun : ℕ) (old new : List Note) (seen later : List Line) (made more : ℕ) (answer : Result Receipt StepError) → Alone begun old new seen later made more → GoesOn old new answer → length seen ≤ length later
+longer begun old new seen later made more answer a g = longer-by begun old new seen later made more a (grows-to old new answer g)
+
+pub as-long-as : (begun : ℕ) (old new : List Note) (seen later : List Line) (made more : ℕ) → Alone begun old new seen later made more → new ≡ old → length seen ≤ length later
+as-long-as begun old new seen later made more a is = let m : length new ≡ length old = ap length is in longer-by begun old new seen later made more a (omega (arith, m))
+
+-- the receipt's number is behind all that it had seen, and it has then seen just the entry
+pub ahead : (begun : ℕ) (old new : List Note) (seen later : List Line) (made more : ℕ) (r : Receipt) → Alone begun old new seen later made more → GoesOn old new (Ok r)
+    → (length seen ≤ number_of r + 1) × (length later ≡ number_of r + 2)
+ahead begun old new seen later made more r a g =
+    let p : length seen ≤ length (history begun old) = prefix_length seen (history begun old) a.before in
+    let l : length (history begun old) ≡ length old + 1 = history-length begun (history begun old) old refl in
+    let m : length later ≡ length new + 1 = history-length begun later new a.after in
+    let n : length new ≡ length old + 1 = ap length g.0 ∙ length-append old (note_of (entry_of r) ∷ []) in
+    (omega (arith, p, l, g.1), omega (arith, m, n, g.1))

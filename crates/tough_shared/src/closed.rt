@@ -27,11 +27,7 @@ impl<S: Store, J: Naming> ClosedStore<S, J> {
     ghost use Rattle.tough_shared.specs.Receipts.{plain_of};
 
     /// Ends the history, so that nothing is added to the journal any more.
-    pub(crate) fn seal(
-        locked: Locked<S, J>,
-        head: &Head<J>,
-        start: &Front<J>,
-    ) -> ClosedStore<S, J>
+    pub(crate) fn seal(locked: Locked<S, J>, head: &Head<J>, start: &Front<J>) -> ClosedStore<S, J>
         requires { start.now.seen.log ≢ [] }
         ensures vault { vault_of result ≡ locked.vault }
         ensures begun { closed_begun result ≡ begun_in (told start.now.seen.log) }

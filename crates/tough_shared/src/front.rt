@@ -134,8 +134,11 @@ pub trait Naming {
 }
 
 impl Naming for Brand {
-    ghost book = { record { pages = record { number = 0; log_name = 0; cells_name = 0 }; ledger =
-        0 } };
+    ghost book = { record {
+      pages = record { number = 0; log_name = 0; cells_name = 0 };
+      ledger =
+          0;
+    } };
 }
 
 /// An empty history, which has no name yet. A shared store begins with one.
@@ -278,8 +281,9 @@ impl<J: Naming> Front<J> {
         let next = head.draw(&self);
         let Front { mut seen, of: _ } = self;
         let opening = Opening { store, next: &next };
-        let mut offer: Offer<Mark, u64, Law, Nothing> =
-            seen.plain::<Nothing, Opening<'_, S>, Open>(&opening);
+        let mut offer: Offer<Mark, u64, Law, Nothing> = seen.plain::<Nothing, Opening<'_, S>, Open>(
+            &opening,
+        );
         let mut pen = seen.no_pen();
         let found = head
             .word
@@ -343,8 +347,9 @@ impl<J: Naming> Tail<J> {
         let next = head.draw(&self.front);
         let mut seen = self.front.seen.again();
         let handing = Handing { line, next: &next };
-        let mut offer: Offer<Mark, u64, Law, Nothing> =
-            seen.plain::<Nothing, Handing<'_>, Add>(&handing);
+        let mut offer: Offer<Mark, u64, Law, Nothing> = seen.plain::<Nothing, Handing<'_>, Add>(
+            &handing,
+        );
         let Tail { front, pen } = self;
         head.word
             .compare_exchange::<Add, Nothing>(1, 1, &mut seen, &mut offer, pen);

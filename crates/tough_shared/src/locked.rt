@@ -37,12 +37,7 @@ pub(crate) struct Locked<S: Store, J: Naming> {
 
 impl<S: Store, J: Naming> Locked<S, J> {
     /// A new vault over a store, where the history begins with how often that was changed.
-    pub(crate) fn new(
-        alloc: Global,
-        store: S,
-        tail: Tail<J>,
-        book: Book<Tally<J>>,
-    ) -> Locked<S, J>
+    pub(crate) fn new(alloc: Global, store: S, tail: Tail<J>, book: Book<Tally<J>>) -> Locked<S, J>
         requires begun { told tail.front.seen.log ≡ Begun (S.changes store) ∷ [] }
         requires book { book.total ≡ 0 }
         ensures store { store_of result.vault ≡ store }

@@ -388,10 +388,7 @@ impl<S: Store + Drop, J: Naming> Quiet<S, J> {
 }
 
 // Takes the vault out of a store that has no clone, and ends its history.
-fn closed<S: Store + Drop, J: Naming>(
-    shared: Shared<S, J>,
-    start: &Front<J>,
-) -> ClosedStore<S, J>
+fn closed<S: Store + Drop, J: Naming>(shared: Shared<S, J>, start: &Front<J>) -> ClosedStore<S, J>
     requires { start.now.seen.log ≢ [] }
     ensures { closed_begun result ≡ begun_in (told start.now.seen.log) }
 {
