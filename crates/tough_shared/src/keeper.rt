@@ -1,7 +1,8 @@
 //! One thread's part of a shared store.
 
 ghost use Rattle.std.specs.Prelude.{◌≡◌, ◌+◌, ◌≤◌, length};
-ghost use Rattle.tough_shared.specs.Lines.{told};
+ghost use Rattle.tough_shared.specs.Lines.{begun_in, told};
+ghost use Rattle.tough_shared.specs.Stores.{begun_of as handed_in, quiet_begun};
 
 use crate::front::{Front, Naming};
 use crate::receipt::Receipt;
@@ -28,11 +29,11 @@ pub struct SharedKeeper<S: Store, R: Wait, J: Naming> {
     front: Front<J>,
     ghost part: { own.parts ≡ 1 },
     ghost behind: { next + 1 ≤ length (told front.seen.log) },
+    ghost begun: { quiet_begun store ≡ begun_in (told front.seen.log) },
 }
 
 impl<S: Store + Drop, R: Wait + Drop, J: Naming> SharedKeeper<S, R, J> {
     ghost use Rattle.tough_shared.specs.Keeping.{next_of, begun_of, made_by};
-    ghost use Rattle.tough_shared.specs.Stores.{begun_of as handed_in};
 
     /// A keeper that has given no receipt yet, and made no entry.
     pub fn new(rt: R, store: SharedStore<S, J>) -> SharedKeeper<S, R, J>
@@ -53,7 +54,9 @@ impl<S: Store + Drop, R: Wait + Drop, J: Naming> SharedKeeper<S, R, J> {
     }
 
     /// The store.
-    pub fn into_store(self) -> SharedStore<S, J> {
+    pub fn into_store(self) -> SharedStore<S, J>
+        ensures { handed_in result ≡ begun_of self }
+    {
         let SharedKeeper {
             store,
             rt: _,

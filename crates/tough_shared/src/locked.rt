@@ -255,14 +255,15 @@ fn note<J: Naming>(
             let added = Addition::Told(plain);
             tail.add(head, &added);
             book.add(own, 1);
-            *me = tail.front.again();
             let Addition::Told(plain) = added else {
                 unreachable!()
             };
-            Ok(Receipt {
+            let receipt = Receipt {
                 plain,
                 front: tail.front.again(),
-            })
+            };
+            *me = receipt.front.again();
+            Ok(receipt)
         }
         Err(error) => {
             if after > before {

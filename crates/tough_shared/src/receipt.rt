@@ -31,7 +31,7 @@ impl<J: Naming> Receipt<J> {
     pub(crate) fn next(&self) -> u64
         ensures { result ≡ number_of (plain_of self.now) + 1 }
     {
-        self.plain.number() + 1
+        self.number() + 1
     }
 
     /// A copy of the entry.

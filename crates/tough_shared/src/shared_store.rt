@@ -345,9 +345,8 @@ impl<S: Store + Drop, J: Naming> Quiet<S, J> {
         ensures later { IfOk result (IsLater (length (told me.old.seen.log))) }
     {
         let mut guard = self.shared.desk.lock(rt);
-        guard
-            .locked
-            .step(&self.shared.head, own, me, alloc, act, verifier)
+        let Desk { locked, spare: _ } = &mut *guard;
+        locked.step(&self.shared.head, own, me, alloc, act, verifier)
     }
 
     /// The look of the vault at its stored root, under the lock.

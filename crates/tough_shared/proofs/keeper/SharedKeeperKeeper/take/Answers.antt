@@ -1,4 +1,4 @@
-use Rattle.std.proofs.Common.{Ok, ◌∙◌, arith}
+use Rattle.std.proofs.Common.{Ok, ap, sym, ◌∙◌, arith}
 use Rattle.tough_trust.specs.View.{act_of}
 use Rattle.tough_shared.specs.Lines.{begun_in, told}
 use Rattle.tough_shared.specs.Receipts.{plain_of, untied}
@@ -13,7 +13,7 @@ invariant_of-self g c =
     let seen = told k.front.seen.log in
     let n = goes_on g.S.Store.tells g.S.Store.files g.S.Store.count (g.V.Verify.verifies c.args.verifier.now) (act_of c.args.act.now) s.old s.new (Ok (plain_of c.in-Ok.receipt)) s.step in
     let a = ahead (begun_in seen) s.old.notes s.new.notes seen (told c.take.new.me.seen.log) k.own.amount c.take.new.own.amount (plain_of c.in-Ok.receipt) c.in-Ok.ensures.alone.1 n in
-    record { part = c.take.ensures.parts ∙ k.part; behind = omega (arith, a.1, c.next.ensures) }
+    record { part = c.take.ensures.parts ∙ k.part; behind = omega (arith, a.1, c.next.ensures); begun = k.begun ∙ sym (ap begun_in c.in-Ok.ensures.alone.1.after) }
 
 pub invariant_of-self-in-Err-1 : goal.invariant_of-self-in-Err-1
 invariant_of-self-in-Err-1 g c =
@@ -22,7 +22,7 @@ invariant_of-self-in-Err-1 g c =
     let seen = told k.front.seen.log in
     let n = goes_on g.S.Store.tells g.S.Store.files g.S.Store.count (g.V.Verify.verifies c.args.verifier.now) (act_of c.args.act.now) s.old s.new (untied c.take.result) s.step in
     let le = longer (begun_in seen) s.old.notes s.new.notes seen (told c.take.new.me.seen.log) k.own.amount c.take.new.own.amount (untied c.take.result) c.take.ensures.alone.1 n in
-    record { part = c.take.ensures.parts ∙ k.part; behind = omega (arith, le, k.behind) }
+    record { part = c.take.ensures.parts ∙ k.part; behind = omega (arith, le, k.behind); begun = k.begun ∙ sym (ap begun_in c.take.ensures.alone.1.after) }
 
 pub returns-in-Ok : goal.returns-in-Ok
 returns-in-Ok g c =
