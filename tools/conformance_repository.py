@@ -13,6 +13,7 @@ from cryptography.hazmat.primitives.asymmetric.ed25519 import Ed25519PrivateKey
 
 LATER, PAST = "2999-12-31T23:59:59Z", "2020-01-01T00:00:00Z"
 KINDS = ("ed25519", "ecdsa", "rsa")
+DEMO = "demo"  # a signature is the digest of the public key and the message, so everybody can sign; keys look like those of Ed25519
 TOP_LEVEL = ("root", "timestamp", "snapshot", "targets")
 PSS = padding.PSS(padding.MGF1(hashes.SHA256()), padding.PSS.DIGEST_LENGTH)
 
@@ -36,8 +37,10 @@ def digest(data):
 
 @functools.cache
 def secret(kind, name):
-    """The secret of this name: made of it, but for RSA, where it is drawn once a run."""
+    """The secret of this name: made of it, but for RSA, where it is drawn once a run. The demonstration scheme has none: this is the public part."""
     seed = hashlib.sha256(name.encode()).digest()
+    if kind == DEMO:
+        return seed
     if kind == "ed25519":
         return Ed25519PrivateKey.from_private_bytes(seed)
     if kind == "ecdsa":
@@ -52,10 +55,13 @@ class Key:
 
     def __init__(self, kind, name, made=None):
         self.kind, self.secret, self.padding = kind, made or secret(kind, name), PSS
-        self.json = {"keytype": kind, "scheme": self.SCHEMES[kind], "keyval": {"public": self.public()}}
+        shown = "ed25519" if kind == DEMO else kind
+        self.json = {"keytype": shown, "scheme": self.SCHEMES[shown], "keyval": {"public": self.public()}}
         self.id = digest(canonical(self.json).encode())
 
     def public(self):
+        if self.kind == DEMO:
+            return self.secret.hex()
         key = self.secret.public_key()
         if self.kind == "ed25519":
             return key.public_bytes_raw().hex()
@@ -70,7 +76,9 @@ class Key:
 
     def sign(self, body):
         message = canonical(body).encode()
-        if self.kind == "ed25519":
+        if self.kind == DEMO:
+            sig = hashlib.sha256(self.secret + message).digest()
+        elif self.kind == "ed25519":
             sig = self.secret.sign(message)
         elif self.kind == "ecdsa":
             sig = self.secret.sign(message, ec.ECDSA(hashes.SHA256()))

@@ -15,6 +15,7 @@ import json
 import os
 import sys
 
+import case_files
 from cryptography.hazmat.primitives import hashes, serialization
 from cryptography.hazmat.primitives.asymmetric import ec, padding, rsa
 from cryptography.hazmat.primitives.asymmetric.ed25519 import Ed25519PrivateKey
@@ -227,9 +228,7 @@ def cases():
 
 def main(words):
     if len(words) == 2 and words[0] == "--cases":
-        with open(words[1], "w", encoding="utf-8") as file:
-            json.dump(list(cases()), file, indent=1)
-            file.write("\n")
+        case_files.write(words[1], cases(), "cryptography")
     elif len(words) in (1, 2, 3) and not words[0].startswith("-") and {*words[1:2]} <= {"ed25519", "ecdsa", "rsa", "mixed"}:
         write(*words)
     else:
