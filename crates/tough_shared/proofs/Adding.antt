@@ -1,10 +1,10 @@
 -- The steps keep the rule.
-use Rattle.std.proofs.Common.{◌≡◌, ℕ, zero, suc, ◌+◌, ◌<◌, ◌≤◌, ◌==◌, cond, Bool, true, false, List, [], ◌∷◌, ◌++◌, length, set, refl, ap, sym, ◌∙◌, subst, arith, inl, None}
+use Rattle.std.proofs.Common.{◌≡◌, ℕ, zero, suc, ◌<◌, ◌==◌, cond, Bool, true, false, List, [], ◌∷◌, ◌++◌, length, set, refl, ap, sym, ◌∙◌, subst, arith, inl, None}
 use Rattle.std.proofs.lemmas.List.{append-nil}
 use Rattle.std.proofs.lemmas.Bool.Decides.{nat_tests}
 use mathlib.Core.List.{IsPrefix}
 use prog.Atomic.{either}
-use Rattle.logbook.specs.Pages.{Cell, cell, Nib, may_write, may_make, keeps, gives, adds, no_nib, step, Moves, Goes}
+use Rattle.logbook.specs.Pages.{Cell, cell, Nib, may_write, keeps, gives, adds, no_nib, step, Moves, Goes}
 use Rattle.tough_shared.specs.declared.line.Line.{Line}
 use Rattle.tough_shared.specs.declared.line.Mark.{Mark}
 use Rattle.tough_shared.specs.Lines.{is_end, is_open, ends_well, told}

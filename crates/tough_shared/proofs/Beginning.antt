@@ -1,5 +1,5 @@
 -- What led on from where a shared vault began.
-use Rattle.std.proofs.Common.{◌≡◌, ◌⊎◌, ℕ, zero, suc, [], Bool, Option, Result, refl, ap, sym, subst, inl, inr}
+use Rattle.std.proofs.Common.{◌≡◌, ℕ, zero, suc, [], Bool, Option, Result, refl, sym, subst, inl, inr}
 use Rattle.std.proofs.Math.Logic.{∥∥₁_map}
 use Rattle.tough_keys.specs.Same.{Verifies}
 use Rattle.tough_roles.specs.Root.{RootDoc}
@@ -11,7 +11,7 @@ use Rattle.tough_vault.specs.Journal.{no_tip}
 use Rattle.tough_vault.specs.Looking.{Looks}
 use Rattle.tough_vault.specs.Step.{Parts}
 use Rattle.tough_vault.specs.Stored.{Files}
-use Rattle.tough_shared.specs.Begins.{Leads, Runs, Begins}
+use Rattle.tough_shared.specs.Begins.{Leads, Begins}
 
 module _ {S : Type 0} (tells : Bool) (files : S → Files) (count changes : S → ℕ) where
   -- one more step or look

@@ -12,7 +12,6 @@ use crate::line::{Addition, Mark};
 use crate::spare::{Spare, Tally};
 use logbook::{Gain, Offer, Pen, Plain, Play, Rule, Seen, Start, Word};
 use std::marker::{Brand, PhantomData};
-use std::sync::Wait;
 use std::sync::ledger::{Blank, Book};
 use tough_vault::{Receipt, Store};
 

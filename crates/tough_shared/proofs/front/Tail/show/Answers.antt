@@ -1,4 +1,4 @@
-use Rattle.std.proofs.Common.{sym, ◌∙◌, ap, subst, List}
+use Rattle.std.proofs.Common.{sym, ◌∙◌, ap}
 use Rattle.tough_shared.specs.Lines.{mark}
 use Rattle.tough_shared.specs.declared.line.Line.TheVariants.{End}
 use Rattle.tough_shared.proofs.Adding.{looks_moves}

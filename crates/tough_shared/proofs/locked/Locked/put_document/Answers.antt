@@ -4,11 +4,11 @@ use Rattle.tough_roles.specs.Written.{compact_by}
 use Rattle.tough_vault.specs.Act.{PutDocument}
 use Rattle.tough_shared.specs.Shares.{no_signature}
 use Rattle.tough_vault.specs.Vault.{parts_of, journal_of, notes_in}
-use Rattle.tough_shared.specs.Lines.{is_open, begun_in, told, history}
+use Rattle.tough_shared.specs.Lines.{is_open, begun_in, told}
 use Rattle.tough_shared.proofs.Adding.{told-none}
 use Rattle.tough_shared.proofs.Beginning.{stepped}
 use Rattle.tough_shared.proofs.Going.{goes_on}
-use Rattle.tough_shared.proofs.Lined.{lines-open, numbered, fits, follows, counts, counts-all, begun-there, again, alone-by}
+use Rattle.tough_shared.proofs.Lined.{lines-open, numbered, fits, follows, counts-all, begun-there, again}
 use Rattle.tough_shared.proofs.locked.Locked.put_document.Goals as goal
 
 pub note-requires-clause-open : goal.note-requires-clause-open

@@ -1,7 +1,7 @@
 use Rattle.std.proofs.Common.{ap, sym, ◌∙◌, refl}
 use Rattle.tough_trust.specs.View.{act_of}
 use Rattle.tough_vault.specs.Vault.{parts_of, journal_of, notes_in}
-use Rattle.tough_shared.specs.Lines.{is_open, begun_in, told, history}
+use Rattle.tough_shared.specs.Lines.{is_open, begun_in, told}
 use Rattle.tough_shared.proofs.Adding.{told-none}
 use Rattle.tough_shared.proofs.Beginning.{stepped}
 use Rattle.tough_shared.proofs.Going.{goes_on}
