@@ -2,5 +2,6 @@ mod Fronts
 mod Adding
 mod Lined
 pub mod Going
+mod Beginning
 mod Telling
 pub mod Rising

@@ -1,9 +1,12 @@
+pub mod Histories
 pub mod Lines
 pub mod Rules
 pub mod Opened
+pub mod Begins
 pub mod Receipts
 pub mod Shares
 pub mod Checking
+pub mod Stores
 pub mod Keeping
 pub mod Closed
 pub mod Telling

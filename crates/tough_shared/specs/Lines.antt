@@ -1,11 +1,12 @@
 -- Lines of a history: a journal's entries as plain data, and the end.
-use Rattle.std.specs.Prelude.{◌≡◌, ◌<◌, ◌≤◌, ℕ, List, [], ◌∷◌, ◌++◌, map, length, Option, None, Some, Result, Ok, Err, Bool, true, false, if◌then◌else◌}
+use Rattle.std.specs.Prelude.{◌≡◌, ◌<◌, ◌≤◌, ℕ, List, [], ◌∷◌, ◌++◌, map, Option, None, Some, Result, Ok, Err, Bool, true, false, if◌then◌else◌, slice_get}
 use Rattle.tough_checks.specs.Versions.{Item}
 use Rattle.tough_checks.specs.declared.checks.StepError.{StepError}
 use Rattle.tough_vault.specs.declared.entry.Receipt.{Receipt}
 use Rattle.tough_vault.specs.Journal.{Note, Noted, Root, Timestamp, Snapshot, Cleared, Document, Broken, note_of, entry_of}
 use Rattle.tough_shared.specs.declared.line.Line.{Line}
 use Rattle.tough_shared.specs.declared.line.Line.TheVariants as line
+use Rattle.tough_shared.specs.declared.line.Mark.{Mark}
 use Rattle.tough_shared.specs.declared.line.Addition.{Addition}
 use Rattle.tough_shared.specs.declared.line.Addition.TheVariants as adds
 
@@ -26,6 +27,7 @@ line_of Broken = line.Broken
 
 -- the entry that a line is, if it is one
 abbrev pub note_at : Line → Option Note
+note_at (line.Begun n) = None
 note_at (line.Noted t) = Some (Noted t)
 note_at (line.Root v cleared) = Some (Root v cleared)
 note_at (line.Timestamp v w had) = Some (Timestamp (record { version = v; snapshot = w }) had)
@@ -38,6 +40,20 @@ note_at line.End = None
 -- these entries, one a line
 abbrev pub lines : List Note → List Line
 lines ns = map line_of ns
+
+-- a history: how often the store had been changed before, and the entries
+abbrev pub history : ℕ → List Note → List Line
+history begun ns = line.Begun begun ∷ lines ns
+
+-- how often the store had been changed before
+abbrev pub begun_in : List Line → ℕ
+begun_in (line.Begun n ∷ ls) = n
+begun_in _ = 0
+
+-- the line of the entry with this number
+abbrev pub entry_at : List Line → ℕ → Option Line
+entry_at [] k = None
+entry_at (l ∷ ls) k = slice_get ls k
 
 abbrev pub is_end : Line → Bool
 is_end line.End = true
@@ -63,7 +79,14 @@ line_added (adds.Told r) = line_of (note_of (entry_of r))
 line_added adds.Broken = line.Broken
 line_added adds.End = line.End
 
--- What a vault's answer adds to the history: its entry; or, where a refused step left the journal longer than the history, that it is broken.
-abbrev pub Grows : ℕ → Result Receipt StepError → List Line → List Line → Type 0
-Grows entries (Ok r) old new = new ≡ old ++ line_of (note_of (entry_of r)) ∷ []
-Grows entries (Err e) old new = (length old < entries → new ≡ old ++ line.Broken ∷ []) × (entries ≤ length old → new ≡ old)
+-- What a vault's answer adds to the history: its entry; or, where a refused step left the journal longer than it was, that it is broken.
+abbrev pub Grows : ℕ → ℕ → Result Receipt StepError → List Line → List Line → Type 0
+Grows before after (Ok r) old new = new ≡ old ++ line_of (note_of (entry_of r)) ∷ []
+Grows before after (Err e) old new = (before < after → new ≡ old ++ line.Broken ∷ []) × (after ≤ before → new ≡ old)
+
+-- the lines alone
+abbrev pub told : List Mark → List Line
+told log = map (λ m. m.line) log
+
+abbrev pub mark : Line → ℕ → Mark
+mark l k = record { line = l; next = k }

@@ -1,6 +1,6 @@
 //! What the steps of a keeper promise together.
 
-ghost use Rattle.std.specs.Prelude.{List, Result, length};
+ghost use Rattle.std.specs.Prelude.{ℕ, List, Result, length};
 ghost use Rattle.std.specs.Borrow.{MutBor};
 ghost use Rattle.tough_keys.specs.Same.{Verifies};
 ghost use Rattle.tough_checks.specs.declared.checks.StepError.{StepError};
@@ -26,11 +26,11 @@ use tough_vault::Store;
 /// on it; `VerifyMetadata`, `VersionMismatch`, `ExpiredMetadata` and `DatastoreSerialize` come only where that is so of it; and an
 /// `OlderMetadata` has its version as the new one, below the current one.
 pub fn shared_steps_tell<S: Store, J: Naming>()
-    ensures { (verifies : Verifies) (act : Act) (result : Result (Receipt J (record {
+    ensures { (begun : ℕ) (verifies : Verifies) (act : Act) (result : Result (Receipt J (record {
       book =
           J.book;
     })) StepError)
-        → Shares S.tells S.files S.count verifies act result
+        → Shares S.tells S.files S.count S.changes begun verifies act result
         → AnswersTo verifies act (untied result) }
 {}
 

@@ -9,6 +9,7 @@ mod line;
 mod locked;
 mod receipt;
 mod shared_store;
+mod spare;
 
 pub use closed::ClosedStore;
 pub use front::{Naming, Opened};
