@@ -26,7 +26,7 @@ returns g c = λ signers e r outdir before after outcome released well fills beg
     c.released_loads.ensures signers e r outcome begun tells untouched well released
     (λ now shows.
     let all = may now shows in
-    let free = all.1.0 in
+    let free = all.1 in
     let found = c.released_is_found.ensures v core.setting now signers e r released all.0 in
     let reads = c.written_reads_back.ensures outdir (written r) before after free.plain fills in
     let same : (answers : List AnswerDoc) (q : RequestDoc) → AllHonest v (files_of r) now core answers → question (run v core answers) ≡ Fetch q → files_in outdir after q.name ≡ files_of r q.name
@@ -39,6 +39,6 @@ returns g c = λ signers e r outdir before after outcome released well fills beg
       all.0,
       λ answers q honest asked.
           subst (ServesName g.T.Transport.refuses g.T.Transport.serves (transport_of from) (part.base_of l) q.name) (same answers q honest asked)
-          (all.1.1 answers q (honest-same v (files_of r) (files_in outdir after) now core same answers honest) asked),
+          (all.2 answers q (honest-same v (files_of r) (files_in outdir after) now core same answers honest) asked),
     ))
     finishes fine
