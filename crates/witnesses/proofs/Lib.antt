@@ -1,0 +1,4 @@
+pub mod Assembling
+pub mod Asking
+pub mod Trails
+pub mod Honest

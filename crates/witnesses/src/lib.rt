@@ -1,0 +1,10 @@
+//! Examples on plain devices, of which the premises of the laws hold.
+#![tactic(auto)]
+
+pub mod honest;
+pub mod load;
+mod unmet;
+pub mod update;
+pub mod world;
+
+pub use unmet::Unmet;

@@ -1,0 +1,212 @@
+//! The laws of an update.
+
+ghost use Rattle.std.specs.Prelude.{◌≡◌, ◌≢◌, ◌<◌, true, false, None, Some, IfOk, OnOk, length};
+ghost use Rattle.tough_keys.specs.Demo.{demo_verifies};
+ghost use Rattle.tough_roles.specs.Chain.{ReachesUnder};
+ghost use Rattle.tough_roles.specs.Readable.{IsTextOf};
+ghost use Rattle.tough_roles.specs.Root.{root_doc};
+ghost use Rattle.tough_roles.specs.Signature.{signed_doc};
+ghost use Rattle.tough_roles.specs.Snapshot.{snapshot_doc};
+ghost use Rattle.tough_roles.specs.Timestamp.{timestamp_doc, metafile_doc, metafile_in};
+ghost use Rattle.tough_schema.specs.Whole.{tree_doc};
+ghost use Rattle.tough_checks.specs.Checks.{is_expired};
+ghost use Rattle.tough_checks.specs.Files.{snapshot_file, targets_file};
+ghost use Rattle.tough_vault.specs.Steps.{time_text};
+ghost use Rattle.tough_trust.specs.Requests.{fits_request};
+ghost use Rattle.tough_trust.specs.View.{request_doc};
+ghost use Rattle.witnesses.specs.Served.{IsRoot, IsTimestamp, IsSnapshot, IsTargets, HasLoadable};
+
+use crate::Unmet;
+use jiff::Timestamp as Instant;
+use std::alloc::Global;
+use tough_net::Limits;
+use tough_roles::{DemoVerify, Metafile, Role, RoleType, Root, Signed, Snapshot, Timestamp};
+use tough_schema::Targets;
+use tough_trust::{
+    Request, check_tree, first_root, snapshot_request, targets_request, timestamp_request,
+};
+use tough_vault::{ExpirationEnforcement, MemoryStore, Vault, check_expiry};
+
+// A document that hasn't expired by then.
+fn in_time(role: RoleType, start: Instant, expires: Instant) -> Result<(), Unmet>
+    ensures { OnOk result (is_expired true start.nanosecond expires.nanosecond ≡ false) }
+{
+    match check_expiry(role, ExpirationEnforcement::Safe, start, expires) {
+        Ok(()) => Ok(()),
+        Err(_) => Err(Unmet::Input),
+    }
+}
+
+// A moment that has a text in a store.
+fn has_text(alloc: Global, start: Instant) -> Result<(), Unmet>
+    ensures { OnOk result (time_text start.nanosecond ≢ None) }
+{
+    let mut vault = Vault::new(alloc, MemoryStore::new(alloc));
+    match vault.note_time(start) {
+        Ok(_) => Ok(()),
+        Err(_) => Err(Unmet::Input),
+    }
+}
+
+// Bytes that fit what is asked for.
+fn fits(request: &Request, bytes: &[u8]) -> Result<(), Unmet>
+    ensures { OnOk result (fits_request (request_doc request.now) bytes.now ≡ true) }
+{
+    if request.fits(bytes) {
+        Ok(())
+    } else {
+        Err(Unmet::Input)
+    }
+}
+
+// The document that the bytes are, signed as the root demands and not expired.
+fn document<T: Role + Drop>(
+    alloc: Global,
+    root: &Root,
+    start: Instant,
+    bytes: &[u8],
+) -> Result<Signed<T>, Unmet>
+    ensures read { IfOk result (λ s. IsTextOf T.is_read s bytes.now) }
+    ensures fresh { IfOk result (λ s. T.is_fresh s.signed) }
+    ensures signed { IfOk result (λ s. ReachesUnder demo_verifies (root_doc root.now) T.TYPE T.json
+        (signed_doc (λ x. x) s)) }
+    ensures in_time { IfOk result
+        (λ s. is_expired true start.nanosecond (T.head s.signed).expires ≡ false) }
+{
+    let Ok(document) = Signed::<T>::read(alloc, bytes) else {
+        return Err(Unmet::Input);
+    };
+    if root.verify_role(alloc, &document, &DemoVerify).is_err() {
+        return Err(Unmet::Input);
+    }
+    in_time(T::TYPE, start, document.signed.expires())?;
+    Ok(document)
+}
+
+// The root that is handed in.
+fn root_in(alloc: Global, start: Instant, bytes: &[u8]) -> Result<Signed<Root>, Unmet>
+    ensures { IfOk result (λ s. IsRoot demo_verifies start.nanosecond bytes.now
+        (signed_doc root_doc s)) }
+{
+    tough_roles::laws::signed_root();
+    let Ok(root) = first_root(alloc, bytes, &DemoVerify) else {
+        return Err(Unmet::Input);
+    };
+    if root.compact(alloc).is_err() {
+        return Err(Unmet::Input);
+    }
+    if root.signed.version.get() != 1 || root.signed.consistent_snapshot {
+        return Err(Unmet::Input);
+    }
+    in_time(RoleType::Root, start, root.signed.expires)?;
+    Ok(root)
+}
+
+// The timestamp.
+fn timestamp_in(
+    alloc: Global,
+    limits: &Limits,
+    root: &Root,
+    start: Instant,
+    bytes: &[u8],
+) -> Result<Signed<Timestamp>, Unmet>
+    ensures { IfOk result (λ s. IsTimestamp demo_verifies start.nanosecond limits.now
+        (root_doc root.now) bytes.now (signed_doc timestamp_doc s)) }
+{
+    tough_plain::laws::written_is_read();
+    tough_plain::laws::signed_is_plain();
+    let timestamp = document::<Timestamp>(alloc, root, start, bytes)?;
+    let request = timestamp_request(alloc, limits)?;
+    fits(&request, bytes)?;
+    if timestamp.signed.meta.len() != 1 {
+        return Err(Unmet::Input);
+    }
+    Ok(timestamp)
+}
+
+// The snapshot that is listed so.
+fn snapshot_in(
+    alloc: Global,
+    limits: &Limits,
+    root: &Root,
+    start: Instant,
+    listed: &Metafile,
+    bytes: &[u8],
+) -> Result<Signed<Snapshot>, Unmet>
+    ensures { IfOk result (λ s. IsSnapshot demo_verifies start.nanosecond limits.now
+        (root_doc root.now) (Some (metafile_doc listed.now)) bytes.now (signed_doc snapshot_doc s)) }
+{
+    tough_plain::laws::written_is_read();
+    tough_plain::laws::signed_is_plain();
+    let snapshot = document::<Snapshot>(alloc, root, start, bytes)?;
+    let request = snapshot_request(alloc, limits, false, listed)?;
+    fits(&request, bytes)?;
+    if snapshot.signed.version.get() != listed.version.get() {
+        return Err(Unmet::Input);
+    }
+    Ok(snapshot)
+}
+
+// The targets that are listed so, which delegate to no role.
+fn targets_in(
+    alloc: Global,
+    limits: &Limits,
+    root: &Root,
+    start: Instant,
+    listed: &Metafile,
+    bytes: &[u8],
+) -> Result<Signed<Targets>, Unmet>
+    ensures { IfOk result (λ s. IsTargets demo_verifies start.nanosecond limits.now
+        (root_doc root.now) (Some (metafile_doc listed.now)) bytes.now (signed_doc tree_doc s)) }
+{
+    tough_plain::laws::written_is_read();
+    tough_plain::laws::signed_is_plain();
+    tough_schema::laws::trees_tell_their_top();
+    let targets = document::<Targets>(alloc, root, start, bytes)?;
+    let request = targets_request(alloc, limits, false, listed)?;
+    fits(&request, bytes)?;
+    if targets.signed.version.get() != listed.version.get() {
+        return Err(Unmet::Input);
+    }
+    if targets.compact(alloc).is_err() {
+        return Err(Unmet::Input);
+    }
+    if !targets.signed.role_names(alloc)?.is_empty() {
+        return Err(Unmet::Input);
+    }
+    if check_tree(alloc, &targets.signed).is_err() {
+        return Err(Unmet::Input);
+    }
+    Ok(targets)
+}
+
+/// Witness of `tough_update::laws::loads`: documents of a repository that was read, of which all is found out that makes them loadable at
+/// this moment. It holds of a repository that `tough_demo` made (`tests`).
+pub fn loadable(
+    alloc: Global,
+    limits: &Limits,
+    start: Instant,
+    trusted: &[u8],
+    timestamp: &[u8],
+    snapshot: &[u8],
+    targets: &[u8],
+) -> Result<(), Unmet>
+    ensures { OnOk result (HasLoadable demo_verifies start.nanosecond limits.now
+        (record { trusted = trusted.now; timestamp = timestamp.now; snapshot = snapshot.now; targets = targets.now })) }
+{
+    if limits.max_root_updates == 0 {
+        return Err(Unmet::Input);
+    }
+    has_text(alloc, start)?;
+    let root = root_in(alloc, start, trusted)?;
+    let first = timestamp_in(alloc, limits, &root.signed, start, timestamp)?;
+    let Some(listed) = first.signed.metafile("snapshot.json") else {
+        return Err(Unmet::Input);
+    };
+    let second = snapshot_in(alloc, limits, &root.signed, start, listed, snapshot)?;
+    let Some(listed) = second.signed.metafile("targets.json") else {
+        return Err(Unmet::Input);
+    };
+    targets_in(alloc, limits, &root.signed, start, listed, targets)?;
+    Ok(())
+}
