@@ -2,3 +2,4 @@ pub mod Assembling
 pub mod Asking
 pub mod Trails
 pub mod Honest
+pub mod Living

@@ -1,3 +1,5 @@
 pub mod Served
 pub mod Steps
 pub mod Devices
+pub mod Growing
+pub mod Lived

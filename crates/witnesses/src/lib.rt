@@ -1,10 +1,15 @@
 //! Examples on plain devices, of which the premises of the laws hold.
 #![tactic(auto)]
 
+pub mod growth;
 pub mod honest;
+pub mod keeping;
 pub mod load;
 mod unmet;
 pub mod update;
 pub mod world;
 
 pub use unmet::Unmet;
+
+#[cfg(test)]
+mod tests;

@@ -1,9 +1,17 @@
 //! The laws of a load, over any devices on which it ends with documents.
 
-ghost use Rattle.std.specs.Prelude.{Ok, IfOk};
-ghost use Rattle.tough_update.specs.Stages.{LoadedDoc};
+ghost use Rattle.std.specs.Prelude.{◌≡◌, List, Ok, IfOk};
+ghost use Rattle.url.specs.Parts.{Parts};
+ghost use Rattle.tough_trust.specs.Steps.{Keeping};
+ghost use Rattle.tough_update.specs.Answered.{AnswerDoc};
+ghost use Rattle.tough_update.specs.Runs.{run, Along, IsFresh};
+ghost use Rattle.tough_update.specs.Stages.{CoreDoc, LoadedDoc, Done};
+ghost use Rattle.tough_update.specs.View.{core_doc};
 ghost use Rattle.tough_load.specs.Advancing.{Finishes};
-ghost use Rattle.tough_load.specs.Loader.{IsBegun};
+ghost use Rattle.tough_load.specs.Loader.{IsBegun, first_core, settings_of, transport_of, verifier_of, held_of};
+ghost use Rattle.tough_load.specs.Loading.{Deed, Trail};
+ghost use Rattle.tough_load.specs.Vouching.{Vouches};
+ghost use Rattle.tough_load.specs.Words as part;
 ghost use Rattle.tough_load.specs.declared.load.Load.{Load as LoadDoc};
 
 use crate::Unmet;
@@ -13,8 +21,10 @@ use tough_load::{Clock, Keeper, Load, RepositoryLoader, drive};
 use tough_net::Transport;
 use tough_roles::Verify;
 
-/// Witness of `tough_load::laws::loads_are_trusted` and `tough_load::laws::loads_count_few`: the load that a loader makes, which is driven to its
-/// end, and ends with documents. It does so over devices in memory (`tests`).
+/// Witness of `tough_load::laws::loads_are_trusted`, `tough_load::laws::loads_count_few`, `tough_load::laws::notes_the_time`,
+/// `tough_load::laws::receipts_are_of_steps`, `tough_update::laws::trusts`, `tough_rising::laws::vault_receipts_rise load` and
+/// `tough_rising::laws::shared_receipts_rise load`: the load that a loader makes, which is driven to its end, and ends with documents. It does so
+/// over devices in memory (`tests`).
 pub fn ended_load<R, T, V, C, K>(
     rt: &R,
     loader: RepositoryLoader<'_, T, V, C, K>,
@@ -25,10 +35,21 @@ where
     V: Verify + Drop,
     C: Clock + Drop,
     K: Keeper,
-    ensures { IfOk result (λ ended. (load : LoadDoc T K C V T.Stream K.Receipt) × (d : LoadedDoc)
-        × IsBegun loader load
+    ensures finishes { IfOk result
+        (λ ended. (load : LoadDoc T K C V T.Stream K.Receipt) × (d : LoadedDoc) × IsBegun loader load
         × Finishes T.refuses T.serves K.keeps K.reads C.may_give T.Stream.yields V.verifies load (Ok d)
         ended) }
+    ensures vouches { IfOk result (λ ended. (base : Parts) × (d : LoadedDoc)
+        × Vouches T.refuses T.serves K.keeps K.reads C.may_give T.Stream.yields
+        (V.verifies (verifier_of loader)) base (transport_of loader)
+        (first_core (settings_of loader)) (held_of loader) (core_doc (part.core_of ended))
+        (part.held_of ended) d) }
+    ensures steps { IfOk result
+        (λ ended. (k : Keeping K K.Receipt) × (steps : List (Deed K.Receipt))
+        × Trail K.keeps K.reads (V.verifies (verifier_of loader)) k steps (part.keeping_of ended)) }
+    ensures runs { IfOk result (λ ended. (c : CoreDoc) × (answers : List AnswerDoc) × (d : LoadedDoc)
+        × IsFresh c × Along (V.verifies (verifier_of loader)) c answers
+        × ((run (V.verifies (verifier_of loader)) c answers).stage ≡ Done (Ok d))) }
 {
     let Ok(mut load) = loader.load() else {
         return Err(Unmet::Input);

@@ -1,6 +1,6 @@
 //! The laws over steps and lives on one store.
 
-ghost use Rattle.std.specs.Prelude.{[], ◌∷◌, ℕ, true, IfOk, OnOk};
+ghost use Rattle.std.specs.Prelude.{◌≡◌, [], ◌∷◌, ℕ, true, Some, IfOk, OnOk};
 ghost use Rattle.tough_roles.specs.Readable.{IsTextOf};
 ghost use Rattle.tough_roles.specs.Root.{RootDoc};
 ghost use Rattle.tough_roles.specs.Signature.{SignedDoc};
@@ -10,14 +10,26 @@ ghost use Rattle.tough_vault.specs.Act.{NoteTime, PutRoot, AdvanceTimestamp, Adv
 ghost use Rattle.tough_vault.specs.Journal.{note_of};
 ghost use Rattle.tough_vault.specs.Vault.{parts_of};
 ghost use Rattle.tough_trust.specs.View.{act_of};
+ghost use Rattle.witnesses.specs.Lived.{tells_broken, HasLives, HasOnePolicy};
 ghost use Rattle.witnesses.specs.Steps.{IsPlain, Took, HasTrail};
+ghost use Rattle.std.specs.List.{list_any};
+ghost use Rattle.tough_keys.specs.Demo.{demo_verifies};
+ghost use Rattle.tough_checks.specs.Files.{root_file};
+ghost use Rattle.tough_checks.specs.StoredDocuments.{stored_root};
+ghost use Rattle.tough_roles.specs.Root.{root_doc};
+ghost use Rattle.tough_roles.specs.Signature.{signed_doc};
+ghost use Rattle.tough_vault.specs.Memory.{memory_files};
+ghost use Rattle.tough_world.specs.Lives.{AreFresh};
 
 use crate::Unmet;
 use jiff::Timestamp as Instant;
 use std::alloc::Global;
+use tough_checks::read_root;
+use tough_net::Limits;
 use tough_roles::{DemoVerify, Role, Root, Signed, Snapshot, Timestamp};
 use tough_trust::{Act, act_on};
-use tough_vault::{Entry, ExpirationEnforcement, MemoryStore, Vault};
+use tough_vault::{Entry, ExpirationEnforcement, MemoryStore, Store, Vault};
+use tough_world::{Core, Life, Turn, run_lives};
 
 // The document that the bytes are.
 fn read<T: Role + Drop>(alloc: Global, bytes: &[u8]) -> Result<Signed<T>, Unmet>
@@ -91,4 +103,81 @@ pub fn steps(
     };
     step(alloc, &mut vault, &snapshotted)?;
     Ok(())
+}
+
+// A life of one update from this root, to which nothing was answered yet.
+fn life(alloc: Global, trusted: &[u8], schedule: Vec<Turn>) -> Result<Life, Unmet>
+    ensures fresh { IfOk result (λ l. AreFresh l.cores.items) }
+    ensures schedule { IfOk result (λ l. l.schedule ≡ schedule) }
+{
+    let trusted = Vec::from_slice(alloc, trusted)?;
+    let enforcement = ExpirationEnforcement::Safe;
+    let mut cores = Vec::new(alloc);
+    cores.push(Core::new(trusted, Limits::default(), enforcement))?;
+    Ok(Life { cores, schedule })
+}
+
+// Whether a journal tells a write that failed.
+fn is_broken(journal: &[Entry]) -> bool
+    ensures { result ≡ list_any (λ e. tells_broken (note_of e)) journal.now }
+{
+    journal.iter().any(|entry| matches!(entry, Entry::Broken))
+}
+
+// Whether one of them does.
+fn are_broken(journals: &[Vec<Entry>]) -> bool
+    ensures { result
+        ≡ list_any (λ j. list_any (λ e. tells_broken (note_of e)) j.items) journals.now }
+{
+    journals.iter().any(|journal| is_broken(journal.as_slice()))
+}
+
+// The root that the store holds.
+fn held(alloc: Global, store: &mut MemoryStore) -> Result<Signed<Root>, Unmet>
+    ensures { IfOk result (λ r. stored_root demo_verifies (memory_files store.old root_file)
+        ≡ Some (signed_doc root_doc r)) }
+{
+    let Ok(found) = store.read(alloc, "root.json") else {
+        return Err(Unmet::Input);
+    };
+    match read_root(alloc, &DemoVerify, &found)? {
+        Some(root) => Ok(root),
+        None => Err(Unmet::Input),
+    }
+}
+
+/// Witness of `tough_world::laws::lives_take_steps`, `tough_world::laws::lives_raise_roots` and `tough_world::laws::stored_is_chained`: two lives
+/// on a store that held nothing, each of one update, by schedules that leave a root stored.
+pub fn two_lives(
+    alloc: Global,
+    trusted: &[u8],
+    first: Vec<Turn>,
+    second: Vec<Turn>,
+) -> Result<(), Unmet>
+    ensures { OnOk result HasLives }
+{
+    let mut lives = Vec::new(alloc);
+    lives.push(life(alloc, trusted, first)?)?;
+    lives.push(life(alloc, trusted, second)?)?;
+    let (store, journals) = match run_lives(alloc, MemoryStore::new(alloc), DemoVerify, lives) {
+        Ok(ended) => ended,
+        Err(_) => return Err(Unmet::Memory),
+    };
+    if are_broken(journals.as_slice()) {
+        return Err(Unmet::Input);
+    }
+    let mut store = store;
+    held(alloc, &mut store)?;
+    Ok(())
+}
+
+/// Witness of `tough_world::laws::lives_go_on`: a life of one update that takes no turn. It has a journal without entries, so that the law says
+/// little of it.
+pub fn idle_life(alloc: Global, trusted: &[u8]) -> Result<Life, Unmet>
+    ensures { IfOk result HasOnePolicy }
+{
+    let store = MemoryStore::new(alloc);
+    let idle = life(alloc, trusted, Vec::new(alloc))?;
+    drop(store);
+    Ok(idle)
 }
