@@ -3,3 +3,4 @@ pub mod Asking
 pub mod Trails
 pub mod Honest
 pub mod Living
+pub mod Noting

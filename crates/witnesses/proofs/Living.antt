@@ -51,35 +51,3 @@ one-whole (e ∷ es) ns h k = broken-more (note_of e) (notes_of es ++ ns) (or-le
 pub all-whole : (js : List (Vec Entry Global)) → list_any (λ j. list_any (λ e. tells_broken (note_of e)) j.items) js ≡ false → has_broken (joined (journals_of js)) ≡ false
 all-whole [] h = refl
 all-whole (j ∷ js) h = one-whole j.items (joined (journals_of js)) (or-left (list_any (λ e. tells_broken (note_of e)) j.items) _ h) (all-whole js (or-right (list_any (λ e. tells_broken (note_of e)) j.items) _ h))
-
--- ---- a life that takes no turn
-
-fresh-under : (P Q : Option Policy) (cs : List Core) → AreFresh cs → AllUnder P Q cs
-fresh-under P Q [] h = tt
-fresh-under P Q (c ∷ cs) (h, hs) = (subst (λ (s : StageDoc). StageUnder P Q s) (sym h) tt, fresh-under P Q cs hs)
-
-along-none : (holds : WorldDoc MemoryStore → Type 0) (ts : List Turn) (w x : WorldDoc MemoryStore) (run : Runs true memory_files no_failure demo_verifies w ts x) → ts ≡ [] → holds w
-    → AlongRun true memory_files no_failure demo_verifies holds ts w x run
-along-none holds [] w x run is h = h
-along-none holds (t ∷ ts) w x run is h = absurd (cc (is))
-
-none-stored : (file : Option (List ℕ)) (r : SignedDoc RootDoc) → file ≡ None → stored_root demo_verifies file ≡ Some r → ⊥
-none-stored None r is h = cc (h)
-none-stored (Some bytes) r is h = cc (is)
-
-pub one-policy : (l : Life) (store : MemoryStore) → AreFresh l.cores.items → l.schedule.items ≡ [] → memory_files store root_file ≡ None → HasOnePolicy l
-one-policy l store fresh idle empty =
-    let w = begun l store in
-    let run : Runs true memory_files no_failure demo_verifies w l.schedule.items w = subst (λ (ts : List Turn). Runs true memory_files no_failure demo_verifies w ts w) (sym idle) refl in
-    record {
-      lives = l ∷ [];
-      journals = [] ∷ [];
-      old = store;
-      new = store;
-      P = None;
-      Q = None;
-      lived = (w, (run, (refl, refl)));
-      fresh = (fresh, tt);
-      policy = (along-none (λ x. AllUnder None None x.cores × RootUnder demo_verifies None None (memory_files x.parts.store root_file)) l.schedule.items w w run idle (fresh-under None None l.cores.items fresh, λ r is. absurd (none-stored (memory_files store root_file) r empty is)), tt);
-      unbroken = refl;
-    }

@@ -3,7 +3,12 @@
 ghost use Rattle.std.specs.Prelude.{◌≡◌, List, Ok, IfOk};
 ghost use Rattle.url.specs.Parts.{Parts};
 ghost use Rattle.tough_trust.specs.Steps.{Keeping};
+ghost use Rattle.tough_trust.specs.Requests.{RequestDoc};
 ghost use Rattle.tough_update.specs.Answered.{AnswerDoc};
+ghost use Rattle.tough_update.specs.Counted.{Counted};
+ghost use Rattle.tough_update.specs.Machine.{question};
+ghost use Rattle.tough_update.specs.Questions.{Fetch};
+ghost use Rattle.tough_update.specs.declared.counts.Counts.{Counts};
 ghost use Rattle.tough_update.specs.Runs.{run, Along, IsFresh};
 ghost use Rattle.tough_update.specs.Stages.{CoreDoc, LoadedDoc, Done};
 ghost use Rattle.tough_update.specs.View.{core_doc};
@@ -22,8 +27,8 @@ use tough_net::Transport;
 use tough_roles::Verify;
 
 /// Witness of `tough_load::laws::loads_are_trusted`, `tough_load::laws::loads_count_few`, `tough_load::laws::notes_the_time`,
-/// `tough_load::laws::receipts_are_of_steps`, `tough_update::laws::trusts`, `tough_rising::laws::vault_receipts_rise load` and
-/// `tough_rising::laws::shared_receipts_rise load`: the load that a loader makes, which is driven to its end, and ends with documents. It does so
+/// `tough_load::laws::receipts_are_of_steps`, `tough_update::laws::trusts`, `tough_update::laws::asks`, `tough_update::laws::asks_few`,
+/// `tough_update::laws::counts_few`, `tough_rising::laws::vault_receipts_rise load` and `tough_rising::laws::shared_receipts_rise load`: the load that a loader makes, which is driven to its end, and ends with documents. It does so
 /// over devices in memory (`tests`).
 pub fn ended_load<R, T, V, C, K>(
     rt: &R,
@@ -50,12 +55,22 @@ where
     ensures runs { IfOk result (λ ended. (c : CoreDoc) × (answers : List AnswerDoc) × (d : LoadedDoc)
         × IsFresh c × Along (V.verifies (verifier_of loader)) c answers
         × ((run (V.verifies (verifier_of loader)) c answers).stage ≡ Done (Ok d))) }
+    ensures asks { IfOk result (λ ended. (c : CoreDoc) × (answers : List AnswerDoc) × (r : RequestDoc)
+        × IsFresh c × (question (run (V.verifies (verifier_of loader)) c answers) ≡ Fetch r)) }
+    ensures counts { IfOk result (λ ended. (c : CoreDoc) × (n : Counts) × (d : LoadedDoc)
+        × Counted (V.verifies (verifier_of loader)) c n × (c.stage ≡ Done (Ok d))) }
 {
+    tough_load::laws::loads_count_few::<T, V, C, K>();
     let Ok(mut load) = loader.load() else {
         return Err(Unmet::Input);
     };
     match drive(rt, &mut load) {
-        Ok(Ok(_)) => Ok(load),
+        Ok(Ok(loaded)) => {
+            if loaded.root().signed.version.get() == u64::MAX {
+                return Err(Unmet::Input);
+            }
+            Ok(load)
+        }
         _ => Err(Unmet::Input),
     }
 }

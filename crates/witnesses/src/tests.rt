@@ -82,7 +82,7 @@ fn worlds(rt: HostRuntime) -> Result<(), Fail> {
     let first = turns(rt.alloc(), start, &made)?;
     let second = turns(rt.alloc(), start, &made)?;
     assert!(rt; world::two_lives(rt.alloc(), root, first, second).is_ok());
-    assert!(rt; world::idle_life(rt.alloc(), root).is_ok());
+    assert!(rt; world::noted_life(rt.alloc(), start, root).is_ok());
     Ok(())
 }
 

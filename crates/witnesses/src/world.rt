@@ -19,7 +19,10 @@ ghost use Rattle.tough_checks.specs.StoredDocuments.{stored_root};
 ghost use Rattle.tough_roles.specs.Root.{root_doc};
 ghost use Rattle.tough_roles.specs.Signature.{signed_doc};
 ghost use Rattle.tough_vault.specs.Memory.{memory_files};
-ghost use Rattle.tough_world.specs.Lives.{AreFresh};
+ghost use Rattle.tough_update.specs.Stages.{Moment};
+ghost use Rattle.tough_update.specs.View.{core_doc};
+ghost use Rattle.tough_update.specs.declared.machine.Core.{Core as CoreDoc};
+ghost use Rattle.tough_world.specs.declared.lives.Life.{Life as LifeDoc};
 
 use crate::Unmet;
 use jiff::Timestamp as Instant;
@@ -29,7 +32,7 @@ use tough_net::Limits;
 use tough_roles::{DemoVerify, Role, Root, Signed, Snapshot, Timestamp};
 use tough_trust::{Act, act_on};
 use tough_vault::{Entry, ExpirationEnforcement, MemoryStore, Store, Vault};
-use tough_world::{Core, Life, Turn, run_lives};
+use tough_world::{Answer, Core, Life, Turn, run_lives};
 
 // The document that the bytes are.
 fn read<T: Role + Drop>(alloc: Global, bytes: &[u8]) -> Result<Signed<T>, Unmet>
@@ -107,8 +110,8 @@ pub fn steps(
 
 // A life of one update from this root, to which nothing was answered yet.
 fn life(alloc: Global, trusted: &[u8], schedule: Vec<Turn>) -> Result<Life, Unmet>
-    ensures fresh { IfOk result (λ l. AreFresh l.cores.items) }
-    ensures schedule { IfOk result (λ l. l.schedule ≡ schedule) }
+    ensures { IfOk result (λ l. (c : CoreDoc) × (l.cores.items ≡ c ∷ [])
+        × ((core_doc c).stage ≡ Moment) × (l.schedule ≡ schedule)) }
 {
     let trusted = Vec::from_slice(alloc, trusted)?;
     let enforcement = ExpirationEnforcement::Safe;
@@ -171,13 +174,29 @@ pub fn two_lives(
     Ok(())
 }
 
-/// Witness of `tough_world::laws::lives_go_on`: a life of one update that takes no turn. It has a journal without entries, so that the law says
-/// little of it.
-pub fn idle_life(alloc: Global, trusted: &[u8]) -> Result<Life, Unmet>
-    ensures { IfOk result HasOnePolicy }
+/// Witness of `tough_world::laws::lives_go_on`: a life of one update, which is told a moment, and notes it.
+pub fn noted_life(alloc: Global, start: Instant, trusted: &[u8]) -> Result<(), Unmet>
+    ensures { OnOk result ((life : LifeDoc) × HasOnePolicy life) }
 {
-    let store = MemoryStore::new(alloc);
-    let idle = life(alloc, trusted, Vec::new(alloc))?;
+    let mut schedule = Vec::new(alloc);
+    schedule.push(Turn {
+        load: 0,
+        answer: Answer::Moment(start),
+    })?;
+    schedule.push(Turn {
+        load: 0,
+        answer: Answer::Step,
+    })?;
+    let life = life(alloc, trusted, schedule)?;
+    let mut lives = Vec::new(alloc);
+    lives.push(life)?;
+    let (store, journals) = match run_lives(alloc, MemoryStore::new(alloc), DemoVerify, lives) {
+        Ok(ended) => ended,
+        Err(_) => return Err(Unmet::Memory),
+    };
     drop(store);
-    Ok(idle)
+    if are_broken(journals.as_slice()) {
+        return Err(Unmet::Input);
+    }
+    Ok(())
 }
