@@ -7,9 +7,9 @@ What is wanted comes from RFC 8032: the vectors of 7.1 as they stand there, and 
 is written there. Keys and signatures of other secrets are made by Python's `cryptography`. The secrets are fixed, so each run writes the same.
 """
 import hashlib
-import json
 import sys
 
+import case_files
 from cryptography.hazmat.primitives.asymmetric.ed25519 import Ed25519PrivateKey
 
 # ---- RFC 8032, section 6
@@ -272,8 +272,8 @@ def cases():
     yield from of_small_order()
     yield from off_the_curve(*map(bytes.fromhex, VECTORS["TEST 2"][1:]))
     for name, secret, key, message, signature in by_another():
-        yield from made(name, secret, key, message, signature)
-        yield checked(name, key, message, signature)
+        for case in (*made(name, secret, key, message, signature), checked(name, key, message, signature)):
+            yield {**case, "source": "cryptography"}
     yield from of_keys()
 
 
@@ -281,9 +281,7 @@ def main(words):
     if len(words) != 1 or words[0].startswith("-"):
         print(__doc__, file=sys.stderr)
         return 2
-    with open(words[0], "w", encoding="utf-8") as file:
-        json.dump(list(cases()), file, indent=1)
-        file.write("\n")
+    case_files.write(words[0], cases(), "RFC 8032")
     return 0
 
 

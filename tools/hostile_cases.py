@@ -4,9 +4,9 @@
 The answers that are wanted are worked out by hand from the rules: a poll takes at most 64 pieces, a bound is one byte too many, a role is fetched
 once for each entry that isn't above it, and what was accepted once is never accepted older.
 """
-import json
 import os
 
+import case_files
 from demo_repository import KEY, KEYID, file_of, signed
 
 ROLE = {"keyids": [KEYID], "threshold": 1}
@@ -84,7 +84,7 @@ def cases():
     yield polls(load, "of a timestamp with another entry", ["No snapshot meta in timestamp.json version 1"], **EVER, files=repository(meta={"x.json": entry}))
     line = "\n  root 1 timestamp 1 snapshot 1 targets 1"
     yield {"call": "Load::poll in pieces", "name": "of 1, 2, 7 and 100 bytes", **EVER, "files": three, "lengths": [1, 2, 7, 100], "answer": line * 4}
-    calls = ("open latest_known_time", "write latest_known_time", "write root", "open timestamp", "write timestamp", "open snapshot", "write snapshot", "write targets")
+    calls = ("open latest_known_time", "write latest_known_time", "open root", "open root", "write root", "open timestamp", "write timestamp", "open snapshot", "write snapshot", "write targets")
     loaded = "\n  root 1 timestamp 1 snapshot 1 targets 1"
     for fault, what in (("fails", "fails"), ("lacks memory", "finds no memory"), ("spoils", "fails, and spoils what it writes")):
         for number, call in enumerate(calls):
@@ -92,7 +92,7 @@ def cases():
             yield polls("load", f"of which call {number} on the store {what}, and then another", [refused, loaded],
                         **EVER, base="http://h/m/", files=plain, loads=[{f"{fault} after": number}, {}])
     five, six, four = (repository(timestamp_version=it) for it in (5, 6, 4))
-    lives = [{"files": five, "spoils after": 12, "keeps the vault": True}, {"files": six, "keeps the vault": True}, {"files": four}, {"files": four}]
+    lives = [{"files": five, "spoils after": 16, "keeps the vault": True}, {"files": six, "keeps the vault": True}, {"files": four}, {"files": four}]
     words = ["timestamp 5", "Failed to write timestamp.json in the store", "OlderMetadata timestamp 5 4", "timestamp 4"]
     yield polls("load", "of an older timestamp after a write that spoiled the newer one, in the same life and in the next", words,
                 **EVER, base="http://h/m/", loads=lives)
@@ -103,9 +103,7 @@ def cases():
 
 def main():
     path = os.path.join(os.path.dirname(__file__), "..", "crates", "trials", "data", "hostile.json")
-    with open(path, "w", encoding="utf-8") as out:
-        json.dump(list(cases()), out, ensure_ascii=False, separators=(",", ":"))
-        out.write("\n")
+    case_files.write(path, cases(), "hand")
 
 
 main()

@@ -1,12 +1,12 @@
 #!/usr/bin/env python3
 """Repositories that another implementation signs: by keys of Python's `cryptography`.
 
-    tools/real_repository.py FOLDER [KIND]  writes one into FOLDER: root.json, which is trusted, metadata/ and targets/
-    tools/real_repository.py --cases FILE   writes the cases that `trials` answers on them, and on them with signatures that are wrong
+    tools/real_repository.py FOLDER [KIND [ROLES]]  writes one into FOLDER: root.json, which is trusted, metadata/ and targets/
+    tools/real_repository.py --cases FILE           writes the cases that `trials` answers on them, and on them with wrong signatures
 
 KIND is ed25519, ecdsa (P-256), rsa (RSASSA-PSS) or mixed, where the three keys of each role are one of each kind. The root is rotated once:
 root 1 has three keys and root 2 three others, and root 2 is signed by all of them. Each role has three keys, of which two have to sign, and a
-role `packages` is delegated. Snapshots are consistent; a target lies under its digest, a dot and its whole name. Keys of Ed25519 and P-256
+role `packages` is delegated, with ROLES others, which list nothing, by its keys. Snapshots are consistent; a target lies under its digest, a dot and its whole name. Keys of Ed25519 and P-256
 are made of fixed secrets; those of RSA, and the salts of its signatures, are fresh in each run.
 """
 import functools
@@ -15,6 +15,7 @@ import json
 import os
 import sys
 
+import case_files
 from cryptography.hazmat.primitives import hashes, serialization
 from cryptography.hazmat.primitives.asymmetric import ec, padding, rsa
 from cryptography.hazmat.primitives.asymmetric.ed25519 import Ed25519PrivateKey
@@ -102,18 +103,21 @@ def spoil(signature):
 
 class Repository:
     """Its documents by their files' names. `signers` are the roles whose keys sign a document, where these aren't its own, and `spoilt` is
-    how many signatures of a document are wrong, for each role whose keys sign it, the first or, where the number is negative, the last."""
+    how many signatures of a document are wrong, for each role whose keys sign it, the first or, where the number is negative, the last.
+    `others` is how many roles are delegated beside `packages`."""
 
-    def __init__(self, kind="ed25519", signers=None, spoilt=None):
+    def __init__(self, kind="ed25519", signers=None, spoilt=None, others=0):
         self.kind, self.signers, self.spoilt = kind, signers or {}, spoilt or {}
         self.trusted = self.signed("root 1", self.root(1))
         packages = self.signed("packages", body("targets", 1, targets={"packages/app.bin": described(APP)}))
-        role = {"name": "packages", "paths": ["packages/*"], "terminating": False, **self.policy("packages")}
-        delegations = {"keys": self.listed("packages"), "roles": [role]}
+        empty = self.signed("packages", body("targets", 1, targets={})) if others else None
+        delegated = {"packages": packages} | {f"other {i}": empty for i in range(others)}
+        roles = [{"name": it, "paths": [f"{it}/*"], "terminating": False, **self.policy("packages")} for it in delegated]
+        delegations = {"keys": self.listed("packages"), "roles": roles}
         note = {"note": 'a "quoted" text, and a \\'}
         hello = {**described(HELLO), "custom": note}
         targets = self.signed("targets", body("targets", 1, targets={"hello.txt": hello}, delegations=delegations))
-        meta = {"targets.json": {"version": 1, **described(targets)}, "packages.json": {"version": 1, **described(packages)}}
+        meta = {f"{it}.json": {"version": 1, **described(text)} for it, text in {"targets": targets, **delegated}.items()}
         snapshot = self.signed("snapshot", body("snapshot", 1, meta=meta))
         timestamp = self.signed("timestamp", body("timestamp", 1, meta={"snapshot.json": {"version": 1, **described(snapshot)}}))
         self.metadata = {
@@ -122,7 +126,7 @@ class Repository:
             "timestamp.json": timestamp,
             "1.snapshot.json": snapshot,
             "1.targets.json": targets,
-            "1.packages.json": packages,
+            **{f"1.{it.replace(' ', '%20')}.json": text for it, text in delegated.items()},
         }
         self.targets = {f"{digest(data)}.{name}": data for name, data in (("hello.txt", HELLO), ("packages/app.bin", APP))}
 
@@ -153,8 +157,8 @@ def described(data):
     return {"length": len(data), "hashes": {"sha256": digest(data)}}
 
 
-def write(folder, kind="ed25519"):
-    repository = Repository(kind)
+def write(folder, kind="ed25519", others="0"):
+    repository = Repository(kind, others=int(others))
     files = {"root.json": repository.trusted}
     files |= {f"metadata/{name}": data for name, data in repository.metadata.items()}
     files |= {f"targets/{name}": data for name, data in repository.targets.items()}
@@ -224,10 +228,8 @@ def cases():
 
 def main(words):
     if len(words) == 2 and words[0] == "--cases":
-        with open(words[1], "w", encoding="utf-8") as file:
-            json.dump(list(cases()), file, indent=1)
-            file.write("\n")
-    elif len(words) in (1, 2) and not words[0].startswith("-") and {*words[1:]} <= {"ed25519", "ecdsa", "rsa", "mixed"}:
+        case_files.write(words[1], cases(), "cryptography")
+    elif len(words) in (1, 2, 3) and not words[0].startswith("-") and {*words[1:2]} <= {"ed25519", "ecdsa", "rsa", "mixed"}:
         write(*words)
     else:
         print(__doc__, file=sys.stderr)

@@ -10,6 +10,7 @@ import hashlib
 import json
 import pathlib
 
+import case_files
 from demo_repository import KEY, KEYID, PUBLIC, file_of, key_of, keyid_of, signed
 
 TOP = pathlib.Path(__file__).resolve().parent.parent
@@ -61,7 +62,7 @@ def cases():
 def main():
     made = [NAME.format(it) for it in range(100)]
     others = [it for it in json.loads(LOADS.read_text()) if it["name"] not in made]
-    LOADS.write_text(json.dumps([*others, *cases()], indent=1, ensure_ascii=False) + "\n")
+    case_files.write(LOADS, [*others, *cases()], "hand")
 
 
 if __name__ == "__main__":

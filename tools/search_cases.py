@@ -9,6 +9,8 @@ import json
 import pathlib
 import re
 
+import case_files
+
 FILE = pathlib.Path(__file__).resolve().parent.parent / "crates/trials/data/trees.json"
 LAST = '{"spec_version":"1","version":1,"expires":"2030-01-01T00:00:00Z","targets":{"x":{"length":7,"hashes":{"sha256":"00"}}}}'
 
@@ -79,7 +81,7 @@ def main():
             case["steps"] += [f"search {it}" for it in names]
             case["answer"] = "; ".join(answers + [f"{search(tree, it, False)} {search(tree, it, True)}" for it in names])
     cases.append({"call": "Nodes::search", "name": "a chain of 1,000 roles", "document": LAST, "times": 1000, "answer": "1000/1000 1000/1000"})
-    FILE.write_text(json.dumps(cases, indent=1) + "\n")
+    case_files.write(FILE, cases, "hand")
 
 
 if __name__ == "__main__":

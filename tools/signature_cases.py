@@ -9,10 +9,10 @@ some 1,000 bits (RFC 8017, 3.1), which are found faster than two large ones.
 """
 import base64
 import hashlib
-import json
 import math
 import sys
 
+import case_files
 from cryptography.exceptions import InvalidSignature
 from cryptography.hazmat.primitives import hashes
 from cryptography.hazmat.primitives.asymmetric import ec, padding, rsa, utils
@@ -427,9 +427,7 @@ def main(words):
         print(__doc__, file=sys.stderr)
         return 2
     for path, cases in zip(words, (rsa_cases(), ecdsa_cases())):
-        with open(path, "w", encoding="utf-8") as file:
-            json.dump(list(cases), file, indent=1)
-            file.write("\n")
+        case_files.write(path, cases, "cryptography")
     return 0
 
 

@@ -9,4 +9,4 @@ mod prefix;
 pub use filename::{FILE_NAME, encode_filename, encodes_apart};
 pub use name::{NameError, TargetName, resolves_once};
 pub use pattern::{PathPattern, PatternError};
-pub use prefix::PathHashPrefix;
+pub use prefix::{PathHashPrefix, digits_of};

@@ -155,9 +155,9 @@ pub struct AddRole<'a, T: Transport> {
 impl<T: Transport> Future for AddRole<'_, T> {
     type Output = Result<(), Error>;
 
-    ghost can_poll = { λ m. IfSome m.fetch (CanPoll T.Stream.can_poll) };
+    ghost can_poll = { λ m. IfSome (fetch_in m) (CanPoll T.Stream.can_poll) };
 
-    ghost needs = { λ m n. IsSomeAnd m.fetch (λ f. T.Stream.needs (collected f) n) };
+    ghost needs = { λ m n. IsSomeAnd (fetch_in m) (λ f. T.Stream.needs (collected f) n) };
 
     ghost gives = { λ m r. (new : ReleaseDoc) × Adds T.refuses T.serves T.Stream.yields (fetch_in m)
         (editor_doc (editor_in m).now) (url_in m) (role_in m) new r };

@@ -293,9 +293,9 @@ pub struct UpdateDelegatedTargets<'a, T: Transport, V> {
 impl<T: Transport, V: Verify> Future for UpdateDelegatedTargets<'_, T, V> {
     type Output = Result<(), Error>;
 
-    ghost can_poll = { λ m. IfSome m.fetch (CanPoll T.Stream.can_poll) };
+    ghost can_poll = { λ m. IfSome (fetch_in m) (CanPoll T.Stream.can_poll) };
 
-    ghost needs = { λ m n. IsSomeAnd m.fetch (λ f. T.Stream.needs (collected f) n) };
+    ghost needs = { λ m n. IsSomeAnd (fetch_in m) (λ f. T.Stream.needs (collected f) n) };
 
     ghost gives = { λ m r. (new : ReleaseDoc) × Updates T.refuses T.serves T.Stream.yields
         (V.verifies (verifier_in m)) (editor_doc (editor_in m).now) (url_in m) (name_in m)

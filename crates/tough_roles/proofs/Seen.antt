@@ -17,16 +17,16 @@ or_idle : (a b : Bool) → a || (a || b) ≡ a || b
 or_idle true b = refl
 or_idle false b = refl
 
-or_swap : (a b c : Bool) → a || (b || c) ≡ b || (a || c)
+pub or_swap : (a b c : Bool) → a || (b || c) ≡ b || (a || c)
 or_swap true true c = refl
 or_swap true false c = refl
 or_swap false b c = refl
 
-or_assoc : (a b c : Bool) → (a || b) || c ≡ a || (b || c)
+pub or_assoc : (a b c : Bool) → (a || b) || c ≡ a || (b || c)
 or_assoc true b c = refl
 or_assoc false b c = refl
 
-or_comm : (a b : Bool) → a || b ≡ b || a
+pub or_comm : (a b : Bool) → a || b ≡ b || a
 or_comm true true = refl
 or_comm true false = refl
 or_comm false true = refl

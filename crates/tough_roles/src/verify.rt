@@ -1,6 +1,6 @@
 //! Whether a role is signed by enough keys.
 
-ghost use Rattle.std.specs.Prelude.{◌≡◌, ◌≤◌, ◌<◌, ◌&&◌, Some, [], true, false, IfOk, MatchOption, count_by, length};
+ghost use Rattle.std.specs.Prelude.{◌≡◌, ◌≤◌, ◌<◌, ◌&&◌, ℕ, List, Some, [], true, false, IfOk, MatchOption, count_by, length};
 ghost use Rattle.std.specs.List.{list_any, HoldsAt};
 ghost use Rattle.std.specs.Str.{bytes_eq};
 ghost use Rattle.tough_roles.specs.Signature.{signature_doc, signatures_doc, signed_doc};
@@ -22,11 +22,33 @@ use tough_decoded::{Decoded, Hex};
 use tough_json::error::WriteError;
 use tough_keys::{Key, Verify};
 
-// Whether an identifier is listed.
-fn is_listed(keyids: &[Decoded<Hex>], keyid: &Decoded<Hex>) -> bool
-    ensures { result ≡ list_any (λ id. bytes_eq id.bytes keyid.now.bytes) keyids.now }
-{
-    keyids.iter().any(|id| id == keyid)
+// The identifiers that a role lists, and their bytes in order, so that n looks cost n log n.
+#[derive(Drop)]
+struct Listed<'a> {
+    keyids: &'a [Decoded<Hex>],
+    bytes: BTreeSet<&'a [u8]>,
+    ghost same: { (sought : List ℕ) → list_any (λ k. bytes_eq sought k.now) bytes.keys
+        ≡ list_any (λ id. bytes_eq sought id.bytes) keyids.now },
+}
+
+impl<'a> Listed<'a> {
+    // The identifiers of this list.
+    fn of(alloc: Global, keyids: &'a [Decoded<Hex>]) -> Result<Listed<'a>, AllocError>
+        ensures { IfOk result (λ l. l.keyids.now ≡ keyids.now) }
+    {
+        let mut bytes = BTreeSet::new(alloc);
+        for keyid in keyids {
+            bytes.insert(keyid.as_slice())?;
+        }
+        Ok(Listed { keyids, bytes })
+    }
+
+    // Whether an identifier is listed.
+    fn has(&self, keyid: &Decoded<Hex>) -> bool
+        ensures { result ≡ list_any (λ id. bytes_eq id.bytes keyid.now.bytes) self.now.keyids.now }
+    {
+        self.bytes.contains(keyid.as_slice())
+    }
 }
 
 // Whether a signature is by a known key.
@@ -48,32 +70,32 @@ fn is_signed<V: Verify>(
 // Whether a signature is by a listed and known key.
 fn counts<V: Verify>(
     keys: &BTreeMap<Decoded<Hex>, Key>,
-    keyids: &[Decoded<Hex>],
+    listed: &Listed<'_>,
     text: &[u8],
     signature: &Signature,
     verifier: &V,
 ) -> bool
     ensures { result ≡ is_valid (V.verifies verifier.now) (keys_doc keys.now.entries)
-        (bytes_of keyids.now) text.now (signature_doc signature.now) }
+        (bytes_of listed.now.keyids.now) text.now (signature_doc signature.now) }
 {
-    is_listed(keyids, &signature.keyid) && is_signed(keys, text, signature, verifier)
+    listed.has(&signature.keyid) && is_signed(keys, text, signature, verifier)
 }
 
 // How many signatures are by listed and known keys.
 fn valid_count<V: Verify>(
     keys: &BTreeMap<Decoded<Hex>, Key>,
-    keyids: &[Decoded<Hex>],
+    listed: &Listed<'_>,
     text: &[u8],
     signatures: &[Signature],
     verifier: &V,
 ) -> usize
     ensures { result ≡ count_by
-        (λ s. is_valid (V.verifies verifier.now) (keys_doc keys.now.entries) (bytes_of keyids.now)
-        text.now (signature_doc s)) signatures.now }
+        (λ s. is_valid (V.verifies verifier.now) (keys_doc keys.now.entries)
+        (bytes_of listed.now.keyids.now) text.now (signature_doc s)) signatures.now }
 {
     signatures
         .iter()
-        .filter(|signature| counts(keys, keyids, text, signature, verifier))
+        .filter(|signature| counts(keys, listed, text, signature, verifier))
         .count()
 }
 
@@ -117,7 +139,8 @@ pub(crate) fn judge<V: Verify>(
         return Err(Error::DuplicateKeyId { keyid });
     }
     let threshold = keys.threshold.get();
-    let valid = valid_count(known, &keys.keyids, text, signatures, verifier) as u64;
+    let listed = Listed::of(alloc, &keys.keyids)?;
+    let valid = valid_count(known, &listed, text, signatures, verifier) as u64;
     if valid < threshold {
         return Err(Error::SignatureThreshold {
             role,

@@ -6,6 +6,7 @@ ghost use Rattle.tough_schema.specs.Target.{target_doc};
 ghost use Rattle.tough_schema.specs.Search.{matches, search, IsNotFound};
 
 use crate::delegations::DelegatedRole;
+use crate::hashed::Hashed;
 use crate::nodes::Nodes;
 use crate::target::Target;
 use crate::targets::Targets;
@@ -14,10 +15,10 @@ use tough_names::TargetName;
 use tough_roles::Error;
 
 impl DelegatedRole {
-    pub(crate) fn matches(&self, name: &TargetName) -> bool
-        ensures { result ≡ matches name.now (role_tree self.now).0 }
+    pub(crate) fn matches(&self, name: &Hashed<'_>) -> bool
+        ensures { result ≡ matches name.now.name.now (role_tree self.now).0 }
     {
-        self.paths.matches(name)
+        self.paths.matches_hashed(name)
     }
 }
 

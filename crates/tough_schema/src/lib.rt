@@ -11,6 +11,7 @@ mod fall;
 pub mod file_digest;
 mod find;
 mod from_path;
+mod hashed;
 mod held;
 mod key_holder;
 pub mod laws;

@@ -7,6 +7,7 @@ ghost use Rattle.tough_schema.specs.Matching.{pattern_matches, prefix_matches, p
 ghost use Rattle.tough_schema.specs.Delegations.{delegated_role_doc, delegations_doc};
 
 use crate::delegations::{DelegatedRole, Delegations, PathSet};
+use crate::hashed::Hashed;
 use tough_names::{PathHashPrefix, PathPattern, TargetName};
 
 fn fits(pattern: &PathPattern, name: &TargetName) -> bool
@@ -15,22 +16,16 @@ fn fits(pattern: &PathPattern, name: &TargetName) -> bool
     pattern.matches(name)
 }
 
-fn begins(prefix: &PathHashPrefix, name: &TargetName) -> bool
-    ensures { result ≡ prefix_matches name.now.resolved prefix.now }
-{
-    prefix.matches(name)
-}
-
 fn some_fits(patterns: &[PathPattern], name: &TargetName) -> bool
     ensures { result ≡ list_any (pattern_matches name.now.resolved) patterns.now }
 {
     patterns.iter().any(|pattern| fits(pattern, name))
 }
 
-fn some_begins(prefixes: &[PathHashPrefix], name: &TargetName) -> bool
-    ensures { result ≡ list_any (prefix_matches name.now.resolved) prefixes.now }
+fn some_begins(prefixes: &[PathHashPrefix], name: &Hashed<'_>) -> bool
+    ensures { result ≡ list_any (prefix_matches name.now.name.now.resolved) prefixes.now }
 {
-    prefixes.iter().any(|prefix| begins(prefix, name))
+    prefixes.iter().any(|prefix| name.begins(prefix))
 }
 
 impl PathSet {
@@ -40,7 +35,25 @@ impl PathSet {
     {
         match self {
             PathSet::Paths(patterns) => some_fits(patterns, name),
+            PathSet::PathHashPrefixes(prefixes) => some_begins(prefixes, &Hashed::new(name)),
+        }
+    }
+
+    // Whether a pattern or a prefix of the set matches the resolved name.
+    pub(crate) fn matches_hashed(&self, name: &Hashed<'_>) -> bool
+        ensures { result ≡ paths_match name.now.name.now.resolved (paths_doc self.now) }
+    {
+        match self {
+            PathSet::Paths(patterns) => some_fits(patterns, name.name),
             PathSet::PathHashPrefixes(prefixes) => some_begins(prefixes, name),
+        }
+    }
+
+    // Whether the set is one of prefixes.
+    pub(crate) fn has_prefixes(&self) -> bool {
+        match self {
+            PathSet::Paths(_) => false,
+            PathSet::PathHashPrefixes(_) => true,
         }
     }
 }
@@ -49,8 +62,9 @@ impl PathSet {
 fn some_role(roles: &[DelegatedRole], name: &TargetName) -> bool
     ensures { result ≡ some_match name.now.resolved (map delegated_role_doc roles.now) }
 {
+    let hashed = Hashed::new(name);
     for role in roles {
-        if role.paths.matches(name) {
+        if role.paths.matches_hashed(&hashed) {
             return true;
         }
     }

@@ -15,6 +15,7 @@ ghost use Rattle.tough_schema.specs.Rest.{sight, names_then, end_then, past_to, 
 
 use crate::below::{roles_of, roles_under};
 use crate::delegations::DelegatedRole;
+use crate::hashed::Hashed;
 use crate::target::Target;
 use crate::targets::Targets;
 use std::alloc::{AllocError, Global};
@@ -175,11 +176,11 @@ fn document_of<'a>(role: &'a DelegatedRole) -> Option<&'a Targets>
 // Looks at a role, and notes its name if it is reached.
 fn see(
     role: &DelegatedRole,
-    name: &TargetName,
+    name: &Hashed<'_>,
     reached: &mut BTreeSet<String>,
 ) -> Result<Sight, AllocError>
     ensures sight { IfOk result
-        (λ s. s ≡ sight name.now (names_in reached.old) (role_tree role.now)) }
+        (λ s. s ≡ sight name.now.name.now (names_in reached.old) (role_tree role.now)) }
     ensures names { IfOk result
         (λ s. names_in reached.new ≡ names_then s (role_tree role.now) (names_in reached.old)) }
 {
@@ -190,7 +191,7 @@ fn see(
         return Ok(Sight::Other);
     }
     reached.insert(role.name.clone()?)?;
-    if lists(role, name) {
+    if lists(role, name.name) {
         return Ok(Sight::Lists);
     }
     Ok(Sight::Open)
@@ -282,6 +283,7 @@ impl<'a> Nodes<'a> {
         ensures tests { IfOk result
             (λ f. f.tests ≡ (whole permissive name.now (tree_of self.now)).tests) }
     {
+        let hashed = Hashed::new(name);
         let mut reached = BTreeSet::new(alloc);
         let mut course = Course {
             at: 0,
@@ -290,7 +292,7 @@ impl<'a> Nodes<'a> {
         };
         while course.at < course.end {
             let node = self.entries[course.at];
-            match see(node.role, name, &mut reached)? {
+            match see(node.role, &hashed, &mut reached)? {
                 Sight::Lists => {
                     return Ok(Found {
                         node: Some(course.at + 1),

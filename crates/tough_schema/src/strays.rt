@@ -12,6 +12,7 @@ ghost use Rattle.tough_schema.specs.Strays.{any_name, strays_of, strays_below, a
 
 use crate::below::roles_of;
 use crate::delegations::{DelegatedRole, PathSet};
+use crate::hashed::Hashed;
 use crate::target::Target;
 use crate::targets::Targets;
 use std::alloc::{AllocError, Global};
@@ -19,8 +20,8 @@ use std::collections::{BTreeMap, BTreeSet};
 use tough_names::TargetName;
 
 // Whether the path sets of all these roles match the name.
-fn all_match(above: &[&DelegatedRole], name: &TargetName) -> bool
-    ensures { result ≡ all_match above.now name.now }
+fn all_match(above: &[&DelegatedRole], name: &Hashed<'_>) -> bool
+    ensures { result ≡ all_match above.now name.now.name.now }
 {
     above.iter().all(|role| role.matches(name))
 }
@@ -58,8 +59,14 @@ fn add_strays<'a>(
         ≡ names_of found.old.items ++ strays_of (way is_open above.now)
         (listing_doc targets.now.entries)) }
 {
+    let has_prefixes = is_open && above.iter().any(|role| role.paths.has_prefixes());
     for (name, _) in targets.iter() {
-        if !(is_open && all_match(above, name)) {
+        let hashed = if has_prefixes {
+            Hashed::new(name)
+        } else {
+            Hashed::bare(name)
+        };
+        if !(is_open && all_match(above, &hashed)) {
             found.push(name)?;
         }
     }

@@ -1,5 +1,6 @@
-//! Answers the cases of files, one after another. A case is an object with the call that it tries (`call`), a name, the call's input, and the
-//! answer that an outside source gives: the whole of it (`answer`), or words that stand in it in this order (`words`).
+//! Answers the cases of files, one after another. A case is an object with the call that it tries (`call`), a name, the call's input, the
+//! answer that is wanted of it, the whole of it (`answer`) or words that stand in it in this order (`words`), and where that comes from
+//! (`source`: `original`, an RFC, `cryptography` or `hand`).
 //!
 //! `trials FILE..` prints a line for each case, the call, the case's name and what was answered; below it, where that isn't what is wanted,
 //! what was wanted; and at the end of a file how many cases it has, and how many were answered otherwise. A case with a member that its call

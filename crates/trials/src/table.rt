@@ -4,7 +4,7 @@ use std::alloc::{AllocError, Global};
 use trials_calls::case::text;
 
 // The members of every case.
-const COMMON: &str = "call,name,answer,words";
+const COMMON: &str = "call,name,source,answer,words";
 
 /// Each call, with the members of its cases, beside those of every case, and the members of the objects in their lists.
 pub const CALLS: [(&str, &str, &str); 95] = [
@@ -246,7 +246,7 @@ fn unknown<'a>(case: &'a Value, members: &str, inner: &str) -> Option<&'a str> {
     None
 }
 
-/// What is wrong with a case: its call, a member that its call doesn't know, or that nothing is wanted of the answer.
+/// What is wrong with a case: its call, a member that its call doesn't know, that nothing is wanted of the answer, or that this has no source.
 pub fn fault_of(alloc: Global, case: &Value) -> Result<Option<String>, AllocError> {
     let Some((members, inner)) = members_of(text(case, "call")) else {
         return Ok(Some(String::from_str(alloc, "no such call")?));
@@ -256,6 +256,9 @@ pub fn fault_of(alloc: Global, case: &Value) -> Result<Option<String>, AllocErro
     }
     if case.get("answer").is_none() && case.get("words").is_none() {
         return Ok(Some(String::from_str(alloc, "no answer is wanted")?));
+    }
+    if text(case, "source").is_empty() {
+        return Ok(Some(String::from_str(alloc, "no source of its answer")?));
     }
     Ok(None)
 }

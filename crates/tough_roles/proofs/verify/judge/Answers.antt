@@ -29,7 +29,7 @@ returns-then-valid-threshold g c = λ absent.
     let n = c.valid_count-valid.result in
     let valid = is_valid v keys (bytes_of r.keyids) c.args.text.now in
     let count : n ≡ count_by valid ss =
-    c.valid_count-valid.ensures ∙ ap (λ ids. count_by (λ s. is_valid v keys (bytes_of ids) c.args.text.now (signature_doc s)) c.args.signatures.now) c.deref.ensures.value ∙ count_by-map valid signature_doc c.args.signatures.now in
+    c.valid_count-valid.ensures ∙ ap (λ ids. count_by (λ s. is_valid v keys (bytes_of ids) c.args.text.now (signature_doc s)) c.args.signatures.now) (c.in_ok-listed.ensures ∙ c.deref.ensures.value) ∙ count_by-map valid signature_doc c.args.signatures.now in
     verdict-counted v absent c.args.role keys r c.args.text.now ss n (never _ _ c.in_default.not-Some c.in_ok-twice.ensures) count ∙ ap (λ x. counted c.args.role x n) (sym c.get-threshold.ensures.value)
     ∙ ap (λ b. if b then Ok tt else Err (SignatureThreshold c.args.role t n)) (lt-leb t n c.if-valid-threshold.true)
 
@@ -43,6 +43,6 @@ returns g c = λ absent.
     let n = c.valid_count-valid.result in
     let valid = is_valid v keys (bytes_of r.keyids) c.args.text.now in
     let count : n ≡ count_by valid ss =
-    c.valid_count-valid.ensures ∙ ap (λ ids. count_by (λ s. is_valid v keys (bytes_of ids) c.args.text.now (signature_doc s)) c.args.signatures.now) c.deref.ensures.value ∙ count_by-map valid signature_doc c.args.signatures.now in
+    c.valid_count-valid.ensures ∙ ap (λ ids. count_by (λ s. is_valid v keys (bytes_of ids) c.args.text.now (signature_doc s)) c.args.signatures.now) (c.in_ok-listed.ensures ∙ c.deref.ensures.value) ∙ count_by-map valid signature_doc c.args.signatures.now in
     verdict-counted v absent c.args.role keys r c.args.text.now ss n (never _ _ c.in_default.not-Some c.in_ok-twice.ensures) count ∙ ap (λ x. counted c.args.role x n) (sym c.get-threshold.ensures.value)
     ∙ ap (λ b. if b then Ok tt else Err (SignatureThreshold c.args.role t n)) (le-leb t n c.if-valid-threshold.false)

@@ -1,7 +1,8 @@
-use Rattle.std.proofs.Common.{ℕ, ◌<◌, length, sym, ap, subst, ◌∙◌, arith}
+use Rattle.std.proofs.Common.{◌≡◌, ℕ, ◌<◌, length, sym, ap, subst, ◌∙◌, arith}
 use Rattle.std.proofs.Math.Logic.{∥∥₁_elim}
 use Rattle.std.proofs.Props.{props}
 use Rattle.tough_schema.specs.declared.nodes.Course.{Course}
+use Rattle.tough_schema.specs.Rest.{sight}
 use Rattle.tough_schema.specs.Visited.{names_in}
 use Rattle.tough_schema.specs.Whole.{tree_doc, role_tree}
 use Rattle.tough_schema.proofs.Rests.{IsCourse, course-prop, course-start, course-on, course-further, course-found, course-ended, ends-behind}
@@ -29,7 +30,7 @@ loop-course-preserved c =
     let now = names_in c.see.new.reached in
     ∥∥₁_elim c.args.self.now.whole (course-prop c.args.permissive c.args.name.now c.then-course.result now t (length ns))
     (λ h. subst (λ (x : Course). IsCourse c.args.permissive c.args.name.now x now t (length ns)) (sym c.then-course.ensures)
-    (course-on c.args.permissive c.args.name.now c.loop-course.course before now t ns c.index-node.result.now c.in_ok-sight.sight h c.loop-course.invariant c.loop-course-test.true c.index-node.ensures c.in_ok-sight.ensures.sight c.in_ok-sight.ensures.names c.in_default.not-Lists))
+    (course-on c.args.permissive c.args.name.now c.loop-course.course before now t ns c.index-node.result.now c.in_ok-sight.sight h c.loop-course.invariant c.loop-course-test.true c.index-node.ensures (subst (λ n. c.in_ok-sight.sight ≡ sight n (names_in c.loop-course.reached) (role_tree c.index-node.result.now.role.now)) c.new-hashed.ensures c.in_ok-sight.ensures.sight) c.in_ok-sight.ensures.names c.in_default.not-Lists))
 
 pub loop-course-smaller : goal.loop-course-smaller
 loop-course-smaller c =
@@ -45,12 +46,12 @@ loop-course-smaller c =
 pub returns-in-Lists-clause-node : goal.returns-in-Lists-clause-node
 returns-in-Lists-clause-node c =
     ∥∥₁_elim c.args.self.now.whole (Prim.hlevel props)
-    (λ h. (course-found c.args.permissive c.args.name.now c.loop-course.course (names_in c.loop-course.reached) (tree_doc c.args.self.now.top.now) c.args.self.now.entries.items c.index-node.result.now c.in_ok-sight.sight h c.loop-course.invariant c.loop-course-test.true c.index-node.ensures c.in_ok-sight.ensures.sight c.in-Lists.is).0)
+    (λ h. (course-found c.args.permissive c.args.name.now c.loop-course.course (names_in c.loop-course.reached) (tree_doc c.args.self.now.top.now) c.args.self.now.entries.items c.index-node.result.now c.in_ok-sight.sight h c.loop-course.invariant c.loop-course-test.true c.index-node.ensures (subst (λ n. c.in_ok-sight.sight ≡ sight n (names_in c.loop-course.reached) (role_tree c.index-node.result.now.role.now)) c.new-hashed.ensures c.in_ok-sight.ensures.sight) c.in-Lists.is).0)
 
 pub returns-in-Lists-clause-tests : goal.returns-in-Lists-clause-tests
 returns-in-Lists-clause-tests c =
     ∥∥₁_elim c.args.self.now.whole (Prim.hlevel props)
-    (λ h. (course-found c.args.permissive c.args.name.now c.loop-course.course (names_in c.loop-course.reached) (tree_doc c.args.self.now.top.now) c.args.self.now.entries.items c.index-node.result.now c.in_ok-sight.sight h c.loop-course.invariant c.loop-course-test.true c.index-node.ensures c.in_ok-sight.ensures.sight c.in-Lists.is).1)
+    (λ h. (course-found c.args.permissive c.args.name.now c.loop-course.course (names_in c.loop-course.reached) (tree_doc c.args.self.now.top.now) c.args.self.now.entries.items c.index-node.result.now c.in_ok-sight.sight h c.loop-course.invariant c.loop-course-test.true c.index-node.ensures (subst (λ n. c.in_ok-sight.sight ≡ sight n (names_in c.loop-course.reached) (role_tree c.index-node.result.now.role.now)) c.new-hashed.ensures c.in_ok-sight.ensures.sight) c.in-Lists.is).1)
 
 pub returns-clause-node : goal.returns-clause-node
 returns-clause-node c =

@@ -1,0 +1,40 @@
+-- Files of a folder that are replaced one after another, each by one rename of a whole file (POSIX 1003.1, rename: "the link named new shall remain visible to other threads throughout").
+use Rattle.std.specs.Prelude.{◌≡◌, ◌⊎◌, ℕ, List, [], ◌∷◌, Option, Some, None, string_bytes}
+use Rattle.std.specs.Path.{path_join}
+use Rattle.tough_files.specs.Changes.{put, temp_path}
+use Rattle.tough_files.specs.Contents.{Contents, Node, file, Same, node_at}
+use Rattle.tough_replace.specs.declared.replace.NewFile.{NewFile}
+
+-- a file's name in the folder, and its bytes
+abbrev pub FileDoc : Type 0
+FileDoc = List ℕ × List ℕ
+
+abbrev pub file_doc : NewFile → FileDoc
+file_doc f = (f.name.now, f.bytes.now)
+
+-- A file with these bytes stands where nothing stood, and nothing else was changed.
+pub record IsNew (path bytes : List ℕ) (before after : Contents) : Type 0 where
+  pub fresh : node_at before path ≡ None
+  pub holds : Same (put before path (Some (file bytes))) after
+
+-- Nothing was changed, but that a new file may be left at the path.
+abbrev pub IsLeftAt : List ℕ → Contents → Contents → Type 0
+IsLeftAt path before after = Same before after ⊎ ((bytes : List ℕ) × IsNew path bytes before after)
+
+-- Nothing was changed, but that a temporary file may be left in the folder.
+abbrev pub IsLeft : List ℕ → Contents → Contents → Type 0
+IsLeft folder before after = Same before after ⊎ ((number : ℕ) × (bytes : List ℕ) × IsNew (temp_path folder number) bytes before after)
+
+-- The file stands in the folder under its name, and nothing else was changed.
+abbrev pub IsReplaced : List ℕ → FileDoc → Contents → Contents → Type 0
+IsReplaced folder f before after = Same (put before (path_join folder f.0) (Some (file f.1))) after
+
+-- all of them, in their order
+abbrev pub AreReplaced : List ℕ → List FileDoc → Contents → Contents → Type 0
+AreReplaced folder [] before after = Same before after
+AreReplaced folder (f ∷ fs) before after = (mid : Contents) × IsReplaced folder f before mid × AreReplaced folder fs mid after
+
+-- Those before one of them were replaced, in their order, and that one and those behind it weren't.
+abbrev pub StopsAmong : List ℕ → List FileDoc → Contents → Contents → Type 0
+StopsAmong folder [] before after = ⊥
+StopsAmong folder (f ∷ fs) before after = IsLeft folder before after ⊎ ((mid : Contents) × IsReplaced folder f before mid × StopsAmong folder fs mid after)

@@ -1,0 +1,8 @@
+//! Files of a folder that are replaced whole, one after another: each is the old one or the new one, whatever call is the last.
+//!
+//! Not promised: that a file survives a loss of power, which the files' own calls would have to sync.
+#![tactic(auto)]
+
+mod replace;
+
+pub use replace::{NewFile, ReplaceError, replace_file, replace_files};
