@@ -24,11 +24,13 @@ pub fn read_documents(
     ensures top { IfOk result (λ r. IsFresh r.0.signed) }
     ensures document { IfOk result (λ r. IsFreshDelegated r.1.signed) }
 {
-    let Ok(top) = Signed::<Targets>::read(alloc, targets) else {
-        return Err(Unmet::Input);
+    let top = match Signed::<Targets>::read(alloc, targets) {
+        Ok(top) => top,
+        Err(_) => return Err(Unmet::Input),
     };
-    let Ok(document) = Signed::<DelegatedTargets>::read(alloc, delegated) else {
-        return Err(Unmet::Input);
+    let document = match Signed::<DelegatedTargets>::read(alloc, delegated) {
+        Ok(document) => document,
+        Err(_) => return Err(Unmet::Input),
     };
     Ok((top, document))
 }

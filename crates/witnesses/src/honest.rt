@@ -112,8 +112,9 @@ pub fn honest_load<R: RandomSource + AllocGlobal>(
         snapshot,
         targets,
     )?;
-    let Ok(base) = with_slash(alloc, metadata.clone()?) else {
-        return Err(Unmet::Input);
+    let base = match with_slash(alloc, metadata.clone()?) {
+        Ok(base) => base,
+        Err(_) => return Err(Unmet::Input),
     };
     let transport = transport(alloc, &base, timestamp, snapshot, targets)?;
     let mut vault = Vault::new(alloc, MemoryStore::new(alloc));
@@ -122,8 +123,9 @@ pub fn honest_load<R: RandomSource + AllocGlobal>(
         .verifier(DemoVerify)
         .clock(FixedClock(start))
         .keeper(&mut vault);
-    let Ok(mut load) = loader.load() else {
-        return Err(Unmet::Input);
+    let mut load = match loader.load() {
+        Ok(load) => load,
+        Err(_) => return Err(Unmet::Input),
     };
     match drive(rt, &mut load) {
         Ok(Ok(_)) => Ok(()),

@@ -61,8 +61,9 @@ where
         × Counted (V.verifies (verifier_of loader)) c n × (c.stage ≡ Done (Ok d))) }
 {
     tough_load::laws::loads_count_few::<T, V, C, K>();
-    let Ok(mut load) = loader.load() else {
-        return Err(Unmet::Input);
+    let mut load = match loader.load() {
+        Ok(load) => load,
+        Err(_) => return Err(Unmet::Input),
     };
     match drive(rt, &mut load) {
         Ok(Ok(loaded)) => {

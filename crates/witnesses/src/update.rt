@@ -1,6 +1,6 @@
 //! The laws of an update.
 
-ghost use Rattle.std.specs.Prelude.{◌≡◌, ◌≢◌, ◌<◌, true, false, None, Some, IfOk, OnOk, length};
+ghost use Rattle.std.specs.Prelude.{◌≡◌, ◌≢◌, [], true, false, None, Some, IfOk, OnOk, length};
 ghost use Rattle.tough_keys.specs.Demo.{demo_verifies};
 ghost use Rattle.tough_roles.specs.Chain.{ReachesUnder};
 ghost use Rattle.tough_roles.specs.Readable.{IsTextOf};
@@ -14,7 +14,20 @@ ghost use Rattle.tough_checks.specs.Files.{snapshot_file, targets_file};
 ghost use Rattle.tough_vault.specs.Steps.{time_text};
 ghost use Rattle.tough_trust.specs.Requests.{fits_request};
 ghost use Rattle.tough_trust.specs.View.{request_doc};
-ghost use Rattle.witnesses.specs.Served.{IsRoot, IsTimestamp, IsSnapshot, IsTargets, HasLoadable};
+ghost use Rattle.std.specs.Prelude.{option_and_then};
+ghost use Rattle.tough_json.specs.Pieces.{text_in};
+ghost use Rattle.tough_json.specs.declared.pieces.Form.TheVariants as forms;
+ghost use Rattle.tough_roles.specs.Document.{document_json};
+ghost use Rattle.tough_roles.specs.Root.{root_json};
+ghost use Rattle.tough_roles.specs.Snapshot.{snapshot_json};
+ghost use Rattle.tough_roles.specs.Timestamp.{timestamp_json};
+ghost use Rattle.tough_roles.specs.declared.role_type.RoleType.TheVariants as types;
+ghost use Rattle.tough_schema.specs.Entries.{entry_names, first_missing};
+ghost use Rattle.tough_schema.specs.Targets.{targets_doc, targets_json};
+ghost use Rattle.tough_checks.specs.Documents.{root_in, root_text, timestamp_in, snapshot_in};
+ghost use Rattle.tough_trust.specs.Listed.{targets_in, targets_text};
+ghost use Rattle.tough_trust.specs.Requests.{timestamp_request, snapshot_request, targets_request};
+ghost use Rattle.witnesses.specs.Served.{HasLoadable};
 
 use crate::Unmet;
 use jiff::Timestamp as Instant;
@@ -59,6 +72,17 @@ fn fits(request: &Request, bytes: &[u8]) -> Result<(), Unmet>
     }
 }
 
+// A document that has a compact text.
+fn is_written<T: Role>(alloc: Global, document: &Signed<T>) -> Result<(), Unmet>
+    ensures { OnOk result (option_and_then (text_in forms.Compact) (document_json T.json document.now)
+        ≢ None) }
+{
+    match document.compact(alloc) {
+        Ok(_) => Ok(()),
+        Err(_) => Err(Unmet::Input),
+    }
+}
+
 // The document that the bytes are, signed as the root demands and not expired.
 fn document<T: Role + Drop>(
     alloc: Global,
@@ -73,8 +97,9 @@ fn document<T: Role + Drop>(
     ensures in_time { IfOk result
         (λ s. is_expired true start.nanosecond (T.head s.signed).expires ≡ false) }
 {
-    let Ok(document) = Signed::<T>::read(alloc, bytes) else {
-        return Err(Unmet::Input);
+    let document = match Signed::<T>::read(alloc, bytes) {
+        Ok(document) => document,
+        Err(_) => return Err(Unmet::Input),
     };
     if root.verify_role(alloc, &document, &DemoVerify).is_err() {
         return Err(Unmet::Input);
@@ -85,20 +110,25 @@ fn document<T: Role + Drop>(
 
 // The root that is handed in.
 fn root_in(alloc: Global, start: Instant, bytes: &[u8]) -> Result<Signed<Root>, Unmet>
-    ensures { IfOk result (λ s. IsRoot demo_verifies start.nanosecond bytes.now
-        (signed_doc root_doc s)) }
+    ensures reading { IfOk result (λ s. root_in bytes.now ≡ Some (signed_doc root_doc s)) }
+    ensures signed { IfOk result (λ s. ReachesUnder demo_verifies (root_doc s.signed) types.Root
+        root_json (signed_doc root_doc s)) }
+    ensures in_time { IfOk result
+        (λ s. is_expired true start.nanosecond (root_doc s.signed).head.expires ≡ false) }
+    ensures stored { IfOk result (λ s. root_text (signed_doc root_doc s) ≢ None) }
+    ensures first { IfOk result (λ s. (root_doc s.signed).head.version ≡ 1) }
+    ensures plain { IfOk result (λ s. (root_doc s.signed).consistent_snapshot ≡ false) }
 {
-    tough_roles::laws::signed_root();
-    let Ok(root) = first_root(alloc, bytes, &DemoVerify) else {
-        return Err(Unmet::Input);
+    tough_plain::laws::written_is_read();
+    let root = match first_root(alloc, bytes, &DemoVerify) {
+        Ok(root) => root,
+        Err(_) => return Err(Unmet::Input),
     };
-    if root.compact(alloc).is_err() {
-        return Err(Unmet::Input);
-    }
+    is_written(alloc, &root)?;
+    in_time(RoleType::Root, start, root.signed.expires)?;
     if root.signed.version.get() != 1 || root.signed.consistent_snapshot {
         return Err(Unmet::Input);
     }
-    in_time(RoleType::Root, start, root.signed.expires)?;
     Ok(root)
 }
 
@@ -110,8 +140,14 @@ fn timestamp_in(
     start: Instant,
     bytes: &[u8],
 ) -> Result<Signed<Timestamp>, Unmet>
-    ensures { IfOk result (λ s. IsTimestamp demo_verifies start.nanosecond limits.now
-        (root_doc root.now) bytes.now (signed_doc timestamp_doc s)) }
+    ensures reading { IfOk result
+        (λ s. timestamp_in bytes.now ≡ Some (signed_doc timestamp_doc s)) }
+    ensures signed { IfOk result (λ s. ReachesUnder demo_verifies (root_doc root.now) types.Timestamp
+        timestamp_json (signed_doc timestamp_doc s)) }
+    ensures in_time { IfOk result
+        (λ s. is_expired true start.nanosecond (timestamp_doc s.signed).head.expires ≡ false) }
+    ensures fits { OnOk result (fits_request (timestamp_request limits.now) bytes.now ≡ true) }
+    ensures alone { IfOk result (λ s. length (timestamp_doc s.signed).meta ≡ 1) }
 {
     tough_plain::laws::written_is_read();
     tough_plain::laws::signed_is_plain();
@@ -133,8 +169,16 @@ fn snapshot_in(
     listed: &Metafile,
     bytes: &[u8],
 ) -> Result<Signed<Snapshot>, Unmet>
-    ensures { IfOk result (λ s. IsSnapshot demo_verifies start.nanosecond limits.now
-        (root_doc root.now) (Some (metafile_doc listed.now)) bytes.now (signed_doc snapshot_doc s)) }
+    ensures reading { IfOk result
+        (λ s. snapshot_in bytes.now ≡ Some (signed_doc snapshot_doc s)) }
+    ensures signed { IfOk result (λ s. ReachesUnder demo_verifies (root_doc root.now) types.Snapshot
+        snapshot_json (signed_doc snapshot_doc s)) }
+    ensures in_time { IfOk result
+        (λ s. is_expired true start.nanosecond (snapshot_doc s.signed).head.expires ≡ false) }
+    ensures fits { OnOk result (fits_request (snapshot_request limits.now false
+        (metafile_doc listed.now)) bytes.now ≡ true) }
+    ensures version { IfOk result
+        (λ s. (snapshot_doc s.signed).head.version ≡ (metafile_doc listed.now).version) }
 {
     tough_plain::laws::written_is_read();
     tough_plain::laws::signed_is_plain();
@@ -147,6 +191,27 @@ fn snapshot_in(
     Ok(snapshot)
 }
 
+// Targets that delegate to no role.
+fn has_no_role(alloc: Global, targets: &Targets) -> Result<(), Unmet>
+    ensures { OnOk result (entry_names (tree_doc targets.now) ≡ []) }
+{
+    if targets.role_names(alloc)?.is_empty() {
+        Ok(())
+    } else {
+        Err(Unmet::Input)
+    }
+}
+
+// Targets of which each listed name is found.
+fn finds_all(alloc: Global, targets: &Targets) -> Result<(), Unmet>
+    ensures { OnOk result (first_missing (tree_doc targets.now) ≡ None) }
+{
+    match check_tree(alloc, targets) {
+        Ok(()) => Ok(()),
+        Err(_) => Err(Unmet::Input),
+    }
+}
+
 // The targets that are listed so, which delegate to no role.
 fn targets_in(
     alloc: Global,
@@ -156,27 +221,31 @@ fn targets_in(
     listed: &Metafile,
     bytes: &[u8],
 ) -> Result<Signed<Targets>, Unmet>
-    ensures { IfOk result (λ s. IsTargets demo_verifies start.nanosecond limits.now
-        (root_doc root.now) (Some (metafile_doc listed.now)) bytes.now (signed_doc tree_doc s)) }
+    ensures reading { IfOk result
+        (λ s. targets_in bytes.now ≡ Some (signed_doc targets_doc s)) }
+    ensures signed { IfOk result (λ s. ReachesUnder demo_verifies (root_doc root.now) types.Targets
+        targets_json (signed_doc targets_doc s)) }
+    ensures in_time { IfOk result
+        (λ s. is_expired true start.nanosecond (targets_doc s.signed).head.expires ≡ false) }
+    ensures stored { IfOk result (λ s. targets_text (signed_doc targets_doc s) ≢ None) }
+    ensures fits { OnOk result (fits_request (targets_request limits.now false
+        (metafile_doc listed.now)) bytes.now ≡ true) }
+    ensures version { IfOk result
+        (λ s. (targets_doc s.signed).head.version ≡ (metafile_doc listed.now).version) }
+    ensures alone { IfOk result (λ s. entry_names (tree_doc s.signed) ≡ []) }
+    ensures found { IfOk result (λ s. first_missing (tree_doc s.signed) ≡ None) }
 {
     tough_plain::laws::written_is_read();
     tough_plain::laws::signed_is_plain();
-    tough_schema::laws::trees_tell_their_top();
     let targets = document::<Targets>(alloc, root, start, bytes)?;
     let request = targets_request(alloc, limits, false, listed)?;
     fits(&request, bytes)?;
-    if targets.signed.version.get() != listed.version.get() {
+    if targets.signed.version().get() != listed.version.get() {
         return Err(Unmet::Input);
     }
-    if targets.compact(alloc).is_err() {
-        return Err(Unmet::Input);
-    }
-    if !targets.signed.role_names(alloc)?.is_empty() {
-        return Err(Unmet::Input);
-    }
-    if check_tree(alloc, &targets.signed).is_err() {
-        return Err(Unmet::Input);
-    }
+    is_written(alloc, &targets)?;
+    has_no_role(alloc, &targets.signed)?;
+    finds_all(alloc, &targets.signed)?;
     Ok(targets)
 }
 
@@ -194,6 +263,7 @@ pub fn loadable(
     ensures { OnOk result (HasLoadable demo_verifies start.nanosecond limits.now
         (record { trusted = trusted.now; timestamp = timestamp.now; snapshot = snapshot.now; targets = targets.now })) }
 {
+    tough_schema::laws::trees_tell_their_top();
     if limits.max_root_updates == 0 {
         return Err(Unmet::Input);
     }

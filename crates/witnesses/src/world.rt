@@ -140,8 +140,9 @@ fn held(alloc: Global, store: &mut MemoryStore) -> Result<Signed<Root>, Unmet>
     ensures { IfOk result (λ r. stored_root demo_verifies (memory_files store.old root_file)
         ≡ Some (signed_doc root_doc r)) }
 {
-    let Ok(found) = store.read(alloc, "root.json") else {
-        return Err(Unmet::Input);
+    let found = match store.read(alloc, "root.json") {
+        Ok(found) => found,
+        Err(_) => return Err(Unmet::Input),
     };
     match read_root(alloc, &DemoVerify, &found)? {
         Some(root) => Ok(root),
