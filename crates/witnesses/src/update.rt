@@ -109,6 +109,7 @@ fn document<T: Role + Drop>(
 }
 
 // The root that is handed in.
+#[tactic(auto, using(crate::proofs::Plain::reads, crate::proofs::Plain::under))]
 fn root_in(alloc: Global, start: Instant, bytes: &[u8]) -> Result<Signed<Root>, Unmet>
     ensures reading { IfOk result (λ s. root_in bytes.now ≡ Some (signed_doc root_doc s)) }
     ensures signed { IfOk result (λ s. ReachesUnder demo_verifies (root_doc s.signed) types.Root
@@ -119,7 +120,6 @@ fn root_in(alloc: Global, start: Instant, bytes: &[u8]) -> Result<Signed<Root>, 
     ensures first { IfOk result (λ s. (root_doc s.signed).head.version ≡ 1) }
     ensures plain { IfOk result (λ s. (root_doc s.signed).consistent_snapshot ≡ false) }
 {
-    tough_plain::laws::written_is_read();
     let root = match first_root(alloc, bytes, &DemoVerify) {
         Ok(root) => root,
         Err(_) => return Err(Unmet::Input),
@@ -133,6 +133,7 @@ fn root_in(alloc: Global, start: Instant, bytes: &[u8]) -> Result<Signed<Root>, 
 }
 
 // The timestamp.
+#[tactic(auto, using(crate::proofs::Plain::reads, crate::proofs::Plain::under))]
 fn timestamp_in(
     alloc: Global,
     limits: &Limits,
@@ -149,8 +150,6 @@ fn timestamp_in(
     ensures fits { OnOk result (fits_request (timestamp_request limits.now) bytes.now ≡ true) }
     ensures alone { IfOk result (λ s. length (timestamp_doc s.signed).meta ≡ 1) }
 {
-    tough_plain::laws::written_is_read();
-    tough_plain::laws::signed_is_plain();
     let timestamp = document::<Timestamp>(alloc, root, start, bytes)?;
     let request = timestamp_request(alloc, limits)?;
     fits(&request, bytes)?;
@@ -161,6 +160,7 @@ fn timestamp_in(
 }
 
 // The snapshot that is listed so.
+#[tactic(auto, using(crate::proofs::Plain::reads, crate::proofs::Plain::under))]
 fn snapshot_in(
     alloc: Global,
     limits: &Limits,
@@ -180,8 +180,6 @@ fn snapshot_in(
     ensures version { IfOk result
         (λ s. (snapshot_doc s.signed).head.version ≡ (metafile_doc listed.now).version) }
 {
-    tough_plain::laws::written_is_read();
-    tough_plain::laws::signed_is_plain();
     let snapshot = document::<Snapshot>(alloc, root, start, bytes)?;
     let request = snapshot_request(alloc, limits, false, listed)?;
     fits(&request, bytes)?;
@@ -213,6 +211,7 @@ fn finds_all(alloc: Global, targets: &Targets) -> Result<(), Unmet>
 }
 
 // The targets that are listed so, which delegate to no role.
+#[tactic(auto, using(crate::proofs::Plain::reads, crate::proofs::Plain::under))]
 fn targets_in(
     alloc: Global,
     limits: &Limits,
@@ -235,8 +234,6 @@ fn targets_in(
     ensures alone { IfOk result (λ s. entry_names (tree_doc s.signed) ≡ []) }
     ensures found { IfOk result (λ s. first_missing (tree_doc s.signed) ≡ None) }
 {
-    tough_plain::laws::written_is_read();
-    tough_plain::laws::signed_is_plain();
     let targets = document::<Targets>(alloc, root, start, bytes)?;
     let request = targets_request(alloc, limits, false, listed)?;
     fits(&request, bytes)?;

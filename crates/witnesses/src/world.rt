@@ -82,7 +82,6 @@ pub fn steps(
         × HasTrail (NoteTime start.nanosecond ∷ PutRoot root ∷ AdvanceTimestamp root.role t start.nanosecond true
         ∷ AdvanceSnapshot root.role listed s start.nanosecond true ∷ [])) }
 {
-    tough_plain::laws::written_is_read();
     let root = read::<Root>(alloc, trusted)?;
     let first = read::<Timestamp>(alloc, timestamp)?;
     let second = read::<Snapshot>(alloc, snapshot)?;
