@@ -4,12 +4,20 @@ use Rattle.std.specs.Fmt.{digits}
 use Rattle.tough_keys.specs.Same.{Verifies}
 use Rattle.tough_roles.specs.Names.{versioned, file_name}
 use Rattle.tough_roles.specs.Root.{RootDoc}
-use Rattle.tough_roles.specs.Signature.{SignedDoc}
+use Rattle.tough_roles.specs.Signature.{SignedDoc, signed_doc, signatures_doc}
+use Rattle.tough_roles.specs.Chain.{ReachesUnder}
+use Rattle.tough_roles.specs.declared.role_type.RoleType.TheVariants as role
+use Rattle.tough_roles.specs.declared.signed.Signed.{Signed}
+use Rattle.tough_schema.specs.Entries.{first_missing}
+use Rattle.tough_schema.specs.Targets.{TargetsDoc, targets_doc, targets_json}
+use Rattle.tough_schema.specs.declared.targets.Targets.{Targets}
+use Rattle.tough_checks.specs.Checks.{is_expired}
+use Rattle.tough_trust.specs.Listed.{targets_in, targets_text}
 use Rattle.tough_roles.specs.Snapshot.{SnapshotDoc}
 use Rattle.tough_roles.specs.Timestamp.{TimestampDoc, MetafileDoc, metafile_in}
 use Rattle.tough_schema.specs.Entries.{entry_names}
 use Rattle.tough_schema.specs.Fresh.{carriers_below}
-use Rattle.tough_schema.specs.Whole.{TreeDoc, tree, Branches, no_branches, unloaded, loaded, OwnDoc}
+use Rattle.tough_schema.specs.Whole.{TreeDoc, tree, Branches, no_branches, unloaded, loaded, OwnDoc, tree_doc, top_doc}
 use Rattle.tough_net.specs.declared.limits.Limits.{Limits}
 use Rattle.tough_checks.specs.Files.{snapshot_file, targets_file}
 use Rattle.tough_vault.specs.Steps.{time_text}
@@ -49,6 +57,29 @@ snapshot-there f consistent version is = subst (λ c. files_of f (file_name c ve
 
 targets-there : (f : Repository) (consistent : Bool) (version : ℕ) → consistent ≡ false → files_of f (file_name consistent version (codes "targets.json")) ≡ Some f.targets
 targets-there f consistent version is = subst (λ c. files_of f (file_name c version (codes "targets.json")) ≡ Some f.targets) (sym is) refl
+
+-- of targets that were read it is known as of their tree
+module _ (verifies : Verifies) (start : ℤ) (limits : Limits) (root : RootDoc) (entry : Option MetafileDoc) (listed : MetafileDoc) (bytes : List ℕ) (g : Signed Targets) where
+  abbrev page : SignedDoc TargetsDoc
+  page = signed_doc targets_doc g
+
+  pub targets-of : targets_doc g.signed ≡ top_doc (tree_doc g.signed) → entry ≡ Some listed → targets_in bytes ≡ Some page → ReachesUnder verifies root role.Targets targets_json page
+      → is_expired true start page.role.head.expires ≡ false → targets_text page ≢ None → fits_request (targets_request limits false listed) bytes ≡ true → page.role.head.version ≡ listed.version
+      → entry_names (tree_doc g.signed) ≡ [] → first_missing (tree_doc g.signed) ≡ None → IsTargets verifies start limits root entry bytes (signed_doc tree_doc g)
+  targets-of top is reading signed in_time stored fits version alone found =
+      let same : page ≡ top_page (signed_doc tree_doc g) = ap (λ (r : TargetsDoc). let p : SignedDoc TargetsDoc = record { role = r; signatures = signatures_doc g.signatures.items } in p) top in
+      record {
+        listed = listed;
+        is = is;
+        reading = reading ∙ ap Some same;
+        signed = subst (λ (p : SignedDoc TargetsDoc). ReachesUnder verifies root role.Targets targets_json p) same signed;
+        in_time = subst (λ (p : SignedDoc TargetsDoc). is_expired true start p.role.head.expires ≡ false) same in_time;
+        stored = subst (λ (p : SignedDoc TargetsDoc). targets_text p ≢ None) same stored;
+        fits = fits;
+        version = subst (λ (p : SignedDoc TargetsDoc). p.role.head.version ≡ listed.version) same version;
+        alone = alone;
+        found = found;
+      }
 
 module _ (verifies : Verifies) (start : ℤ) (limits : Limits) (f : Repository) where
   pub loadable-of : (root : SignedDoc RootDoc) (t : SignedDoc TimestampDoc) (s : SignedDoc SnapshotDoc) (g : SignedDoc TreeDoc) → 0 < limits.max_root_updates → time_text start ≢ None → IsRoot verifies start f.trusted root

@@ -1,6 +1,5 @@
+pub mod Plain
 pub mod Assembling
 pub mod Asking
-pub mod Trails
-pub mod Honest
-pub mod Living
-pub mod Noting
+pub mod Ending
+pub mod HonestLoads

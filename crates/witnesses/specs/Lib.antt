@@ -2,4 +2,3 @@ pub mod Served
 pub mod Steps
 pub mod Devices
 pub mod Growing
-pub mod Lived

@@ -1,6 +1,6 @@
 //! What is served is loaded.
 
-ghost use Rattle.std.specs.Prelude.{◌≡◌, None, Some, IfOk, OnOk, codes};
+ghost use Rattle.std.specs.Prelude.{◌≡◌, false, None, Some, IfOk, OnOk};
 ghost use Rattle.std.specs.Str.{bytes_eq};
 ghost use Rattle.url.specs.Parts.{serialize};
 ghost use Rattle.tough_net.specs.MemoryFiles.{file_at};

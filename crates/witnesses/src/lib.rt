@@ -3,15 +3,10 @@
 
 pub mod growth;
 pub mod honest;
-pub mod keeping;
 pub mod load;
 pub mod streams;
 mod unmet;
 pub mod update;
 pub mod vectors;
-pub mod world;
 
 pub use unmet::Unmet;
-
-#[cfg(test)]
-mod tests;

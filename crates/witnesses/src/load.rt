@@ -41,24 +41,24 @@ where
     C: Clock + Drop,
     K: Keeper,
     ensures finishes { IfOk result
-        (λ ended. (load : LoadDoc T K C V T.Stream K.Receipt) × (d : LoadedDoc) × IsBegun loader load
+        (λ ended. (load : LoadDoc T K C V T.Stream K.Receipt) × (d : LoadedDoc) × IsBegun loader.entry load
         × Finishes T.refuses T.serves K.keeps K.reads C.may_give T.Stream.yields V.verifies load (Ok d)
         ended) }
     ensures vouches { IfOk result (λ ended. (base : Parts) × (d : LoadedDoc)
         × Vouches T.refuses T.serves K.keeps K.reads C.may_give T.Stream.yields
-        (V.verifies (verifier_of loader)) base (transport_of loader)
-        (first_core (settings_of loader)) (held_of loader) (core_doc (part.core_of ended))
+        (V.verifies (verifier_of loader.entry)) base (transport_of loader.entry)
+        (first_core (settings_of loader.entry)) (held_of loader.entry) (core_doc (part.core_of ended))
         (part.held_of ended) d) }
     ensures steps { IfOk result
         (λ ended. (k : Keeping K K.Receipt) × (steps : List (Deed K.Receipt))
-        × Trail K.keeps K.reads (V.verifies (verifier_of loader)) k steps (part.keeping_of ended)) }
+        × Trail K.keeps K.reads (V.verifies (verifier_of loader.entry)) k steps (part.keeping_of ended)) }
     ensures runs { IfOk result (λ ended. (c : CoreDoc) × (answers : List AnswerDoc) × (d : LoadedDoc)
-        × IsFresh c × Along (V.verifies (verifier_of loader)) c answers
-        × ((run (V.verifies (verifier_of loader)) c answers).stage ≡ Done (Ok d))) }
+        × IsFresh c × Along (V.verifies (verifier_of loader.entry)) c answers
+        × ((run (V.verifies (verifier_of loader.entry)) c answers).stage ≡ Done (Ok d))) }
     ensures asks { IfOk result (λ ended. (c : CoreDoc) × (answers : List AnswerDoc) × (r : RequestDoc)
-        × IsFresh c × (question (run (V.verifies (verifier_of loader)) c answers) ≡ Fetch r)) }
+        × IsFresh c × (question (run (V.verifies (verifier_of loader.entry)) c answers) ≡ Fetch r)) }
     ensures counts { IfOk result (λ ended. (c : CoreDoc) × (n : Counts) × (d : LoadedDoc)
-        × Counted (V.verifies (verifier_of loader)) c n × (c.stage ≡ Done (Ok d))) }
+        × Counted (V.verifies (verifier_of loader.entry)) c n × (c.stage ≡ Done (Ok d))) }
 {
     tough_load::laws::loads_count_few::<T, V, C, K>();
     let mut load = match loader.load() {

@@ -1,6 +1,6 @@
 //! The laws of an update.
 
-ghost use Rattle.std.specs.Prelude.{◌≡◌, ◌≢◌, [], true, false, None, Some, IfOk, OnOk, length};
+ghost use Rattle.std.specs.Prelude.{◌≡◌, ◌≢◌, ◌<◌, [], true, false, None, Some, IfOk, OnOk, length};
 ghost use Rattle.tough_keys.specs.Demo.{demo_verifies};
 ghost use Rattle.tough_roles.specs.Chain.{ReachesUnder};
 ghost use Rattle.tough_roles.specs.Readable.{IsTextOf};
@@ -35,9 +35,7 @@ use std::alloc::Global;
 use tough_net::Limits;
 use tough_roles::{DemoVerify, Metafile, Role, RoleType, Root, Signed, Snapshot, Timestamp};
 use tough_schema::Targets;
-use tough_trust::{
-    Request, check_tree, first_root, snapshot_request, targets_request, timestamp_request,
-};
+use tough_trust::{Request, check_tree, snapshot_request, targets_request, timestamp_request};
 use tough_vault::{ExpirationEnforcement, MemoryStore, Vault, check_expiry};
 
 // A document that hasn't expired by then.
@@ -48,6 +46,16 @@ fn in_time(role: RoleType, start: Instant, expires: Instant) -> Result<(), Unmet
         Ok(()) => Ok(()),
         Err(_) => Err(Unmet::Input),
     }
+}
+
+// Limits that let a root be asked for.
+fn has_update(limits: &Limits) -> Result<(), Unmet>
+    ensures { OnOk result (0 < limits.now.max_root_updates) }
+{
+    if limits.max_root_updates == 0 {
+        return Err(Unmet::Input);
+    }
+    Ok(())
 }
 
 // A moment that has a text in a store.
@@ -108,6 +116,39 @@ fn document<T: Role + Drop>(
     Ok(document)
 }
 
+// A root of version 1, whose snapshots aren't consistent, and that hasn't expired by then.
+fn is_first(start: Instant, root: &Root) -> Result<(), Unmet>
+    ensures in_time { OnOk result
+        (is_expired true start.nanosecond (root_doc root.now).head.expires ≡ false) }
+    ensures first { OnOk result ((root_doc root.now).head.version ≡ 1) }
+    ensures plain { OnOk result ((root_doc root.now).consistent_snapshot ≡ false) }
+{
+    in_time(RoleType::Root, start, root.expires)?;
+    if root.version.get() != 1 {
+        return Err(Unmet::Input);
+    }
+    if root.consistent_snapshot {
+        return Err(Unmet::Input);
+    }
+    Ok(())
+}
+
+// The root that the bytes are, if it verifies itself.
+#[tactic(auto, using(crate::proofs::Plain::reads, crate::proofs::Plain::under))]
+fn root_of(alloc: Global, bytes: &[u8]) -> Result<Signed<Root>, Unmet>
+    ensures reading { IfOk result (λ s. root_in bytes.now ≡ Some (signed_doc root_doc s)) }
+    ensures signed { IfOk result (λ s. ReachesUnder demo_verifies (root_doc s.signed) types.Root
+        root_json (signed_doc root_doc s)) }
+{
+    let Ok(root) = Signed::<Root>::read(alloc, bytes) else {
+        return Err(Unmet::Input);
+    };
+    if root.signed.verify_role(alloc, &root, &DemoVerify).is_err() {
+        return Err(Unmet::Input);
+    }
+    Ok(root)
+}
+
 // The root that is handed in.
 #[tactic(auto, using(crate::proofs::Plain::reads, crate::proofs::Plain::under))]
 fn root_in(alloc: Global, start: Instant, bytes: &[u8]) -> Result<Signed<Root>, Unmet>
@@ -120,15 +161,9 @@ fn root_in(alloc: Global, start: Instant, bytes: &[u8]) -> Result<Signed<Root>, 
     ensures first { IfOk result (λ s. (root_doc s.signed).head.version ≡ 1) }
     ensures plain { IfOk result (λ s. (root_doc s.signed).consistent_snapshot ≡ false) }
 {
-    let root = match first_root(alloc, bytes, &DemoVerify) {
-        Ok(root) => root,
-        Err(_) => return Err(Unmet::Input),
-    };
+    let root = root_of(alloc, bytes)?;
     is_written(alloc, &root)?;
-    in_time(RoleType::Root, start, root.signed.expires)?;
-    if root.signed.version.get() != 1 || root.signed.consistent_snapshot {
-        return Err(Unmet::Input);
-    }
+    is_first(start, &root.signed)?;
     Ok(root)
 }
 
@@ -261,9 +296,7 @@ pub fn loadable(
         (record { trusted = trusted.now; timestamp = timestamp.now; snapshot = snapshot.now; targets = targets.now })) }
 {
     tough_schema::laws::trees_tell_their_top();
-    if limits.max_root_updates == 0 {
-        return Err(Unmet::Input);
-    }
+    has_update(limits)?;
     has_text(alloc, start)?;
     let root = root_in(alloc, start, trusted)?;
     let first = timestamp_in(alloc, limits, &root.signed, start, timestamp)?;

@@ -3,7 +3,7 @@ use Rattle.std.proofs.Common.{◌≡◌, ◌<◌, ◌+◌, ℕ, ℤ, List, [], �
 use Rattle.std.specs.Prelude.{◌⊎◌, ◌^◌}
 use Rattle.std.specs.Fmt.{digits}
 use Rattle.url.specs.Parts.{Parts, serialize}
-use Rattle.url.specs.Parser.{parse_url}
+use Rattle.url.specs.Parser.{Parsed, parse_url}
 use Rattle.tough_keys.specs.Demo.{demo_verifies}
 use Rattle.tough_roles.specs.Names.{versioned, file_name}
 use Rattle.tough_net.specs.Errors.{IsMemory, error_kind}
@@ -14,7 +14,12 @@ use Rattle.tough_net.specs.declared.error.TransportErrorKind.TheVariants.{FileNo
 use Rattle.tough_net.specs.declared.limits.Limits.{Limits}
 use Rattle.tough_net.specs.declared.memory.MemoryTransport.{MemoryTransport}
 use Rattle.tough_vault.specs.Memory.{memory_files}
-use Rattle.tough_vault.specs.Vault.{parts_of}
+use Rattle.tough_vault.specs.Vault.{parts_of, store_of, tip_in}
+use Rattle.tough_vault.specs.Journal.{Last, no_tip}
+use Rattle.tough_vault.specs.declared.memory.MemoryStore.{MemoryStore}
+use Rattle.tough_vault.specs.declared.vault.Vault.{Vault}
+use Rattle.tough_checks.specs.Files.{time_file, root_file, timestamp_file, snapshot_file}
+use Rattle.std.specs.Prelude.{IfOk}
 use Rattle.tough_trust.specs.Failure.{Failure}
 use Rattle.tough_trust.specs.Requests.{RequestDoc, root_request, timestamp_request, snapshot_request, targets_request}
 use Rattle.tough_update.specs.Answered.{AnswerDoc}
@@ -30,7 +35,7 @@ use Rattle.tough_honest.specs.Loads.{LoadsAt}
 use Rattle.tough_honest.specs.Serves.{ServesName}
 use Rattle.tough_net.specs.Urls.{with_slash}
 use Rattle.witnesses.specs.Served.{Repository, files_of, setting_of, HasLoadable}
-use Rattle.witnesses.specs.Devices.{memory_refuses, memory_serves, fixed_gives, MemoryLoader, MemoryLoad, MemoryFinishes, IsAt, ServesFile, ServesFour, HasHonestLoad}
+use Rattle.witnesses.specs.Devices.{memory_refuses, memory_serves, fixed_gives, store_ghosts, MemoryLoader, MemoryLoad, MemoryFinishes, IsAt, ServesFile, ServesFour, HasHonestLoad}
 use Rattle.witnesses.proofs.Asking.{IsNamed, asks-moment}
 
 -- ---- a file in memory is served
@@ -94,7 +99,7 @@ same-setting a b l m x y e f g =
     ∙ (ap (λ (t : Limits). let p : SettingDoc = record { trusted = b; limits = t; enforced = x } in p) f
     ∙ ap (λ (t : Bool). let p : SettingDoc = record { trusted = b; limits = m; enforced = t } in p) g)
 
-same-ok : (u w : Parts) (o : Result Parts _) → o ≡ Ok u → o ≡ Ok w → w ≡ u
+same-ok : (u w : Parts) (o : Parsed Parts) → o ≡ Ok u → o ≡ Ok w → w ≡ u
 same-ok u w o h k = cc
 
 pub has-honest-load : (f : Repository) (start : ℤ) (base : Parts) (loader : MemoryLoader) (load ended : MemoryLoad) (outcome : Result LoadedDoc Failure) → HasLoadable demo_verifies start default_limits f
@@ -122,3 +127,22 @@ has-honest-load f start base loader load ended outcome h there slash trusted lim
       finishes = finishes;
       fine = fine;
     }
+
+pub serves-four : {E : Type 0} (r : Result MemoryTransport E) (base : Parts) (f : Repository) (none first second third : Parts) → IsAt base (codes "2.root.json") none → IsAt base (codes "timestamp.json") first → IsAt base (codes "snapshot.json") second
+    → IsAt base (codes "targets.json") third → IfOk r (λ t. file_at t (serialize none) ≡ None) → IfOk r (λ t. file_at t (serialize first) ≡ Some f.timestamp) → IfOk r (λ t. file_at t (serialize second) ≡ Some f.snapshot)
+    → IfOk r (λ t. file_at t (serialize third) ≡ Some f.targets) → IfOk r (λ t. ServesFour t base f)
+serves-four (Ok t) base f u w x y a b c d p q r s = record {
+  root = serves-file t base (codes "2.root.json") u None a p;
+  timestamp = serves-file t base (codes "timestamp.json") w (Some f.timestamp) b q;
+  snapshot = serves-file t base (codes "snapshot.json") x (Some f.snapshot) c r;
+  targets = serves-file t base (codes "targets.json") y (Some f.targets) d s;
+}
+serves-four (Err e) base f u w x y a b c d p q r s = tt
+
+pub untouched-of : (v : Vault MemoryStore store_ghosts) (m : MemoryStore) → store_of v ≡ m → tip_in v ≡ no_tip → ((name : List ℕ) → memory_files m name ≡ None) → Untouched memory_files 0 (parts_of v)
+untouched-of v m store tip none = record {
+  time = λ lt. (ap (λ (s : MemoryStore). memory_files s time_file) store ∙ none time_file, ap (λ (l : Last). l.time) tip);
+  root = λ lt. (ap (λ (s : MemoryStore). memory_files s root_file) store ∙ none root_file, ap (λ (l : Last). l.root) tip);
+  timestamp = λ lt. (ap (λ (s : MemoryStore). memory_files s timestamp_file) store ∙ none timestamp_file, ap (λ (l : Last). l.timestamp) tip);
+  snapshot = λ lt. (ap (λ (s : MemoryStore). memory_files s snapshot_file) store ∙ none snapshot_file, ap (λ (l : Last). l.snapshot) tip);
+}
