@@ -90,7 +90,7 @@ fn transport(
 }
 
 /// Witness of `tough_honest::laws::honest_loads`: a repository that was read, its files in memory below this URL, an empty store in memory, a
-/// clock that stands still, and a load that ended with documents. It holds of a repository that `tough_demo` made (`tests`).
+/// clock that stands still, and a load that ended with documents.
 pub fn honest_load<R: RandomSource + AllocGlobal>(
     rt: &R,
     alloc: Global,

@@ -28,8 +28,7 @@ use tough_roles::Verify;
 
 /// Witness of `tough_load::laws::loads_are_trusted`, `tough_load::laws::loads_count_few`, `tough_load::laws::notes_the_time`,
 /// `tough_load::laws::receipts_are_of_steps`, `tough_update::laws::trusts`, `tough_update::laws::asks`, `tough_update::laws::asks_few`,
-/// `tough_update::laws::counts_few`, `tough_rising::laws::vault_receipts_rise load` and `tough_rising::laws::shared_receipts_rise load`: the load that a loader makes, which is driven to its end, and ends with documents. It does so
-/// over devices in memory (`tests`).
+/// `tough_update::laws::counts_few`, `tough_rising::laws::vault_receipts_rise load` and `tough_rising::laws::shared_receipts_rise load`: the load that a loader makes, which is driven to its end, and ends with documents.
 pub fn ended_load<R, T, V, C, K>(
     rt: &R,
     loader: RepositoryLoader<'_, T, V, C, K>,

@@ -282,7 +282,7 @@ fn targets_in(
 }
 
 /// Witness of `tough_update::laws::loads`: documents of a repository that was read, of which all is found out that makes them loadable at
-/// this moment. It holds of a repository that `tough_demo` made (`tests`).
+/// this moment.
 pub fn loadable(
     alloc: Global,
     limits: &Limits,
