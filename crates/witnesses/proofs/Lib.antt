@@ -1,0 +1,5 @@
+pub mod Plain
+pub mod Assembling
+pub mod Asking
+pub mod Ending
+pub mod HonestLoads

@@ -1,0 +1,4 @@
+pub mod Served
+pub mod Steps
+pub mod Devices
+pub mod Growing

@@ -1,0 +1,12 @@
+//! Examples on plain devices, of which the premises of the laws hold.
+#![tactic(auto)]
+
+pub mod growth;
+pub mod honest;
+pub mod load;
+pub mod streams;
+mod unmet;
+pub mod update;
+pub mod vectors;
+
+pub use unmet::Unmet;
