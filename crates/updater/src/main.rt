@@ -11,7 +11,7 @@ mod protocol;
 
 use crate::fault::Fault;
 use crate::protocol::{Command, Trusted};
-use std::alloc::AllocGlobal;
+use std::alloc::{AllocGlobal, Global};
 use std::fs::File;
 use std::net::Net;
 use std::path::Path;
@@ -21,8 +21,8 @@ use std::sync::Wait;
 use std::{env, io, rt};
 use tough::error::ErrorKind;
 use tough::{
-    DefaultTransport, DirStore, Files, Keeper, LocalRuntime, OsFiles, Prefix, RepositoryLoader,
-    Store, SystemClock, TargetName, Transport, Url, Vault, open_on,
+    DefaultTransport, DirStore, LocalRuntime, OsFiles, Prefix, RepositoryLoader, Store,
+    SystemClock, TargetName, Transport, Url, Vault, open_on,
 };
 use tough_signatures::StandardVerify;
 
@@ -50,7 +50,7 @@ fn main(rt: HostRuntime) -> io::Result<ExitCode> {
     for word in env::args(&rt)?.skip(1) {
         words.push(word)?;
     }
-    match protocol::command(words.as_slice()) {
+    match protocol::read(words.as_slice()) {
         Some(command) => tell(&rt, run(&rt, &command)),
         None => explain(&rt, words.as_slice()),
     }
@@ -170,35 +170,50 @@ where
     let folder = String::from_str(alloc, store)?;
     let mut vault = Vault::new(alloc, DirStore::new(rt.clone()?, folder));
     let mut files = OsFiles::new(rt.clone()?);
-    match load_and_save(
+    let outcome = load_and_save(
         rt, runtime, transport, &mut vault, &mut files, outdir, wanted,
-    ) {
-        Err(Fault::Refused(error)) if error.kind() == ErrorKind::File => {
-            Err(Fault::with_cause(alloc, error, outdir, files.last_fault()))
-        }
-        Err(Fault::Refused(error)) => {
-            let cause = vault.into_store().into_fault();
-            Err(Fault::with_cause(alloc, error, store, cause.as_ref()))
-        }
+    );
+    let system = vault.into_store().into_fault();
+    told_by_system(
+        alloc,
+        outcome,
+        [store, outdir],
+        system.as_ref(),
+        files.last_fault(),
+    )
+}
+
+// A refusal with what the system said of the store, or of the files below the other folder.
+fn told_by_system(
+    alloc: Global,
+    outcome: Result<String, Fault>,
+    [store, outdir]: [&str; 2],
+    stored: Option<&io::Error>,
+    saved: Option<&io::Error>,
+) -> Result<String, Fault> {
+    match outcome {
+        Err(Fault::Refused(error)) => Err(if error.kind() == ErrorKind::File {
+            Fault::with_cause(alloc, error, outdir, saved)
+        } else {
+            Fault::with_cause(alloc, error, store, stored)
+        }),
         outcome => outcome,
     }
 }
 
-// Loads the repository by this keeper, and saves the target by these files.
-fn load_and_save<R, T, K, F>(
+// Loads the repository on this vault, and saves the target by these files.
+fn load_and_save<R, T>(
     rt: &R,
     runtime: &mut LocalRuntime,
     transport: T,
-    keeper: K,
-    files: &mut F,
+    vault: &mut Vault<DirStore<R>>,
+    files: &mut OsFiles<R>,
     outdir: &str,
     wanted: Wanted,
 ) -> Result<String, Fault>
 where
     R: rt::Files<File = File> + Wait + rt::Clock + RandomSource + AllocGlobal + Clone + Drop,
     T: Transport,
-    K: Keeper,
-    F: Files,
 {
     let Wanted {
         root,
@@ -210,7 +225,7 @@ where
         .transport(transport)
         .verifier(StandardVerify)
         .clock(SystemClock::new(rt.clone()?))
-        .keeper(keeper)
+        .keeper(vault)
         .load()?;
     let mut repository = open_on(rt, runtime, load)??;
     let Some(name) = name else {

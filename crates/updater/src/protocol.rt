@@ -65,7 +65,7 @@ impl<'a> Options<'a> {
 }
 
 /// What the words ask for; none where they are no command.
-pub fn command(words: &[String]) -> Option<Command<'_>> {
+pub fn read(words: &[String]) -> Option<Command<'_>> {
     match words {
         [root, metadata, targets, store, name, outdir] => Some(Command::Update(Asked {
             root: Trusted::File(root.as_str()),
