@@ -15,6 +15,7 @@ LATER, PAST = "2999-12-31T23:59:59Z", "2020-01-01T00:00:00Z"
 KINDS = ("ed25519", "ecdsa", "rsa")
 DEMO = "demo"  # a signature is the digest of the public key and the message, so everybody can sign; keys look like those of Ed25519
 TOP_LEVEL = ("root", "timestamp", "snapshot", "targets")
+DRAWING = threading.Lock()  # else two tests that run at once draw two secrets of one name
 PSS = padding.PSS(padding.MGF1(hashes.SHA256()), padding.PSS.DIGEST_LENGTH)
 
 
@@ -35,9 +36,14 @@ def digest(data):
     return hashlib.sha256(data).hexdigest()
 
 
-@functools.cache
 def secret(kind, name):
     """The secret of this name: made of it, but for RSA, where it is drawn once a run. The demonstration scheme has none: this is the public part."""
+    with DRAWING:
+        return drawn(kind, name)
+
+
+@functools.cache
+def drawn(kind, name):
     seed = hashlib.sha256(name.encode()).digest()
     if kind == DEMO:
         return seed
