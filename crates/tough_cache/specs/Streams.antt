@@ -1,5 +1,7 @@
 -- What streams and transports stand on.
-use Rattle.std.specs.Prelude.{ℕ, List}
+use Rattle.std.specs.Prelude.{◌≡◌, Bool, true, false}
+use Rattle.url.specs.Parts.{Parts}
+use Rattle.tough_cache.specs.Versioned.{is_versioned, name_in}
 use Rattle.tough_cache.specs.declared.keeping.Keeping.{Keeping}
 use Rattle.tough_cache.specs.declared.caching.CachingTransport.{CachingTransport}
 
@@ -10,3 +12,11 @@ stream_of k = k.stream
 -- the transport within
 abbrev pub within_of : {T R : Type 0} → CachingTransport T R → T
 within_of t = t.within
+
+-- it takes nothing from the folder
+abbrev pub is_anew : {T R : Type 0} → CachingTransport T R → Bool
+is_anew t = t.is_anew
+
+-- What is served at the URL may come from the folder.
+abbrev pub MayBeKept : {T R : Type 0} → CachingTransport T R → Parts → Type 0
+MayBeKept t url = (is_anew t ≡ false) × (is_versioned (name_in url.path) ≡ true)

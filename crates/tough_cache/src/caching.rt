@@ -1,8 +1,9 @@
 //! The transport that keeps what it receives.
 
-ghost use Rattle.std.specs.Prelude.{◌≡◌, ◌⊎◌, true, IfOk, IfErr};
+ghost use Rattle.std.specs.Prelude.{◌≡◌, ◌⊎◌, true, false, IfOk, IfErr};
+ghost use Rattle.futures.specs.Runs.{Within};
 ghost use Rattle.tough_net.specs.Errors.{IsMemory};
-ghost use Rattle.tough_cache.specs.Streams.{within_of};
+ghost use Rattle.tough_cache.specs.Streams.{within_of, is_anew, MayBeKept};
 ghost use Rattle.tough_cache.specs.Versioned.{is_versioned, name_in};
 ghost use Rattle.tough_cache.specs.declared.caching.CachingStream.TheVariants.{Fetched, Kept};
 
@@ -34,7 +35,8 @@ pub struct CachingTransport<T, R> {
 impl<T, R> CachingTransport<T, R> {
     /// The transport over another one, which takes what the folder keeps.
     pub fn new(rt: R, within: T, folder: String) -> CachingTransport<T, R>
-        ensures { within_of result ≡ within }
+        ensures within { within_of result ≡ within }
+        ensures kept { is_anew result ≡ false }
     {
         CachingTransport {
             rt,
@@ -46,7 +48,8 @@ impl<T, R> CachingTransport<T, R> {
 
     /// The same, which takes nothing from the folder and puts what it receives in the place of what is there.
     pub fn anew(rt: R, within: T, folder: String) -> CachingTransport<T, R>
-        ensures { within_of result ≡ within }
+        ensures within { within_of result ≡ within }
+        ensures anew { is_anew result ≡ true }
     {
         CachingTransport {
             rt,
@@ -114,6 +117,8 @@ impl<T: Transport, R: Files + AllocGlobal + Clone + Drop> CachingTransport<T, R>
         path: String,
     ) -> Result<CachingStream<T::Stream, R>, TransportError>
         ensures can_poll { IfOk result (⟦<CachingStream<T::Stream, R> as Stream>⟧.can_poll) }
+        ensures served { IfOk result (λ s. Within (T.serves (within_of self.now) url.now)
+            (⟦<CachingStream<T::Stream, R> as Stream>⟧.yields s)) }
         ensures refused { IfErr result
             (λ e. T.refuses (within_of self.now) url.now e ⊎ IsMemory e) }
     {
@@ -125,7 +130,11 @@ impl<T: Transport, R: Files + AllocGlobal + Clone + Drop> CachingTransport<T, R>
 
     // Takes a file that was kept, or fetches it.
     fn fetch_versioned(&self, url: &Url) -> Result<CachingStream<T::Stream, R>, TransportError>
+        requires { is_versioned (name_in url.now.path) ≡ true }
         ensures can_poll { IfOk result (⟦<CachingStream<T::Stream, R> as Stream>⟧.can_poll) }
+        ensures served { IfOk result (λ s. Within
+            (λ xs last. MayBeKept self.now url.now ⊎ T.serves (within_of self.now) url.now xs last)
+            (⟦<CachingStream<T::Stream, R> as Stream>⟧.yields s)) }
         ensures refused { IfErr result
             (λ e. T.refuses (within_of self.now) url.now e ⊎ IsMemory e) }
     {
@@ -146,9 +155,8 @@ impl<T: Transport, R: Files + AllocGlobal + Clone + Drop> Transport for CachingT
 
     ghost refuses = { λ t url e. T.refuses (within_of t) url e ⊎ IsMemory e };
 
-    // A file whose name has no version is the other transport's.
-    ghost serves = { λ t url xs last. (is_versioned (name_in url.path) ≡ true)
-        ⊎ T.serves (within_of t) url xs last };
+    // What the folder doesn't hold is the other transport's.
+    ghost serves = { λ t url xs last. MayBeKept t url ⊎ T.serves (within_of t) url xs last };
 
     fn fetch(&self, url: &Url) -> Result<Self::Stream, TransportError> {
         if names_version(url.path().as_bytes()) {

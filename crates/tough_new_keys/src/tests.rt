@@ -24,3 +24,13 @@ fn a_new_ecdsa_key_signs(rt: HostRuntime) -> Result<(), Fail> {
     assert!(rt; signs(&rt, &signer)?);
     Ok(())
 }
+
+#[test]
+fn two_new_keys_differ(rt: HostRuntime) -> Result<(), Fail> {
+    let alloc = rt.alloc();
+    let (first, second) = (new_ed25519(alloc, &rt)?, new_ed25519(alloc, &rt)?);
+    assert!(rt; first.tuf_key(alloc)? != second.tuf_key(alloc)?);
+    let (first, second) = (new_ecdsa(alloc, &rt)?, new_ecdsa(alloc, &rt)?);
+    assert!(rt; first.tuf_key(alloc)? != second.tuf_key(alloc)?);
+    Ok(())
+}

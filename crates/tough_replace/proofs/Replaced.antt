@@ -11,8 +11,9 @@ use Rattle.tough_files.specs.declared.files.FilesError.TheVariants.{NotFound, Fa
 use Rattle.tough_files.specs.Calls.{Answered, done, named, refused, done_or}
 use Rattle.tough_files.specs.Changes.{CreatesTemp, Gives, answer_only, append_outcome, append_over, moved, move_over, put, remove_outcome, remove_over, rename_outcome, rename_over, temp_in, temp_outcome, temp_over, temp_path}
 use Rattle.tough_files.specs.Contents.{Contents, Node, file, folder, link, Same, followed, has_folder, is_base, node_at}
-use Rattle.tough_replace.specs.Replacing.{AreReplaced, FileDoc, IsLeft, IsLeftAt, IsNew, IsReplaced, StopsAmong, file_doc}
+use Rattle.tough_replace.specs.Replacing.{AreReplaced, FileDoc, IsLeft, IsLeftAt, IsNew, IsReplaced, StopsAmong, TellsFile, file_doc}
 use Rattle.tough_replace.specs.declared.replace.NewFile.{NewFile}
+use Rattle.tough_replace.specs.declared.replace.ReplaceError.{ReplaceError}
 
 same_bytes : (path : List ℕ) → bytes_eq path path ≡ true
 same_bytes path = (bytes_eq-Decides path path).1 refl
@@ -219,7 +220,7 @@ left dir temp number before after at (inr (bytes, n)) = inr (number, bytes, subs
 front : {X : Type 0} (xs : List X) (i : ℕ) (d : X) → i < length xs → drop i xs ≡ get_or xs i d ∷ drop (i + 1) xs
 front xs i d less = rw (add-one, drop-cons xs i d less) refl
 
-first : {X : Type 0} (xs : List X) (i : ℕ) → i < length xs → X
+pub first : {X : Type 0} (xs : List X) (i : ℕ) → i < length xs → X
 first [] i less = absurd (omega (arith, less))
 first (x ∷ xs) i less = x
 
@@ -231,8 +232,8 @@ module _ (dir : List ℕ) (list : List NewFile) (i : ℕ) where
     pub all_goes : (after : Contents) → IsReplaced dir (file_doc (get_or list i d)) before mid → AreReplaced dir (map file_doc (drop (i + 1) list)) mid after → AreReplaced dir (map file_doc (drop i list)) before after
     all_goes after p rest = rw (front list i d less) (mid, p, rest)
 
-    pub stops_goes : (after : Contents) → IsReplaced dir (file_doc (get_or list i d)) before mid → StopsAmong dir (map file_doc (drop (i + 1) list)) mid after → StopsAmong dir (map file_doc (drop i list)) before after
-    stops_goes after p rest = rw (front list i d less) (inr (mid, p, rest))
+    pub stops_goes : (e : ReplaceError) (after : Contents) → IsReplaced dir (file_doc (get_or list i d)) before mid → StopsAmong dir (map file_doc (drop (i + 1) list)) e mid after → StopsAmong dir (map file_doc (drop i list)) e before after
+    stops_goes e after p rest = rw (front list i d less) (inr (mid, p, rest))
 
-  pub stops_here : (before after : Contents) → i < length list → IsLeft dir before after → StopsAmong dir (map file_doc (drop i list)) before after
-  stops_here before after less h = rw (front list i (first list i less) less) (inl h)
+  pub stops_here : (d : NewFile) (e : ReplaceError) (before after : Contents) → i < length list → TellsFile (file_doc (get_or list i d)) e → IsLeft dir before after → StopsAmong dir (map file_doc (drop i list)) e before after
+  stops_here d e before after less t h = rw (front list i d less) (inl (t, h))

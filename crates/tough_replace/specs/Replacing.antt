@@ -1,9 +1,11 @@
 -- Files of a folder that are replaced one after another, each by one rename of a whole file (POSIX 1003.1, rename: "the link named new shall remain visible to other threads throughout").
-use Rattle.std.specs.Prelude.{◌≡◌, ◌⊎◌, ℕ, List, [], ◌∷◌, Option, Some, None, string_bytes}
+use Rattle.std.specs.Prelude.{◌≡◌, ◌⊎◌, ⊤, ℕ, List, [], ◌∷◌, Option, Some, None, string_bytes}
 use Rattle.std.specs.Path.{path_join}
 use Rattle.tough_files.specs.Changes.{put, temp_path}
 use Rattle.tough_files.specs.Contents.{Contents, Node, file, Same, node_at}
 use Rattle.tough_replace.specs.declared.replace.NewFile.{NewFile}
+use Rattle.tough_replace.specs.declared.replace.ReplaceError.{ReplaceError}
+use Rattle.tough_replace.specs.declared.replace.ReplaceError.TheVariants as errors
 
 -- a file's name in the folder, and its bytes
 abbrev pub FileDoc : Type 0
@@ -34,7 +36,12 @@ abbrev pub AreReplaced : List ℕ → List FileDoc → Contents → Contents →
 AreReplaced folder [] before after = Same before after
 AreReplaced folder (f ∷ fs) before after = (mid : Contents) × IsReplaced folder f before mid × AreReplaced folder fs mid after
 
--- Those before one of them were replaced, in their order, and that one and those behind it weren't.
-abbrev pub StopsAmong : List ℕ → List FileDoc → Contents → Contents → Type 0
-StopsAmong folder [] before after = ⊥
-StopsAmong folder (f ∷ fs) before after = IsLeft folder before after ⊎ ((mid : Contents) × IsReplaced folder f before mid × StopsAmong folder fs mid after)
+-- The refusal tells this file's name.
+abbrev pub TellsFile : FileDoc → ReplaceError → Type 0
+TellsFile f (errors.Refused name source) = string_bytes name ≡ f.0
+TellsFile f errors.Memory = ⊤
+
+-- Those before one of them were replaced, in their order, that one, which the refusal tells, and those behind it weren't.
+abbrev pub StopsAmong : List ℕ → List FileDoc → ReplaceError → Contents → Contents → Type 0
+StopsAmong folder [] e before after = ⊥
+StopsAmong folder (f ∷ fs) e before after = (TellsFile f e × IsLeft folder before after) ⊎ ((mid : Contents) × IsReplaced folder f before mid × StopsAmong folder fs e mid after)

@@ -108,7 +108,7 @@ pub fn replace_file<F: Files>(
 }
 
 /// Replaces each of the files, in their order, as `replace_file` does, up to the first refusal: those before it are the new ones then, and it
-/// and those behind it the old ones. The same stands wherever a run of it ends. `Refused` tells the file.
+/// and those behind it the old ones. The same stands wherever a run of it ends. `Refused` tells that file.
 pub fn replace_files<F: Files>(
     alloc: Global,
     files: &mut F,
@@ -118,7 +118,7 @@ pub fn replace_files<F: Files>(
     ensures ok { F.tells ≡ true → IfOk result (λ u. AreReplaced folder.now (map file_doc list.now)
         (F.contents files.old) (F.contents files.new)) }
     ensures err { F.tells ≡ true → IfErr result (λ e. StopsAmong folder.now
-        (map file_doc list.now) (F.contents files.old) (F.contents files.new)) }
+        (map file_doc list.now) e (F.contents files.old) (F.contents files.new)) }
 {
     for file in list {
         match replace_file(alloc, files, folder, file) {

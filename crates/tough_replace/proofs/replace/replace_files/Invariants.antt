@@ -1,5 +1,6 @@
 use Rattle.std.proofs.Common.{◌≡◌, true, drop, map}
 use Rattle.tough_replace.specs.Replacing.{AreReplaced, StopsAmong, file_doc}
+use Rattle.tough_replace.specs.declared.replace.ReplaceError.{ReplaceError}
 use Rattle.tough_replace.proofs.replace.replace_files.Given as goal
 
 -- what replaces the rest replaces all
@@ -8,7 +9,7 @@ invariant-loop-file g l = record {
   all : g.F.Files.tells ≡ true → (after : _)
       → AreReplaced l.folder (map file_doc (drop l.file-index l.list)) (g.F.Files.contents l.files) after
       → AreReplaced l.folder (map file_doc l.list) (g.F.Files.contents l.fn.files) after;
-  stops : g.F.Files.tells ≡ true → (after : _)
-      → StopsAmong l.folder (map file_doc (drop l.file-index l.list)) (g.F.Files.contents l.files) after
-      → StopsAmong l.folder (map file_doc l.list) (g.F.Files.contents l.fn.files) after;
+  stops : g.F.Files.tells ≡ true → (e : ReplaceError) (after : _)
+      → StopsAmong l.folder (map file_doc (drop l.file-index l.list)) e (g.F.Files.contents l.files) after
+      → StopsAmong l.folder (map file_doc l.list) e (g.F.Files.contents l.fn.files) after;
 }
