@@ -65,7 +65,8 @@ impl<S: Store, J: Naming> ClosedStore<S, J> {
         self.vault.journal().get(receipt.number() as usize)
     }
 
-    /// The store. Where no write failed, the files of a store that tells them hold what was accepted last.
+    /// The store. Where no write failed, the files of a store that tells them hold the time, the root, the timestamp and the snapshot that were
+    /// accepted last, and there is a file for each other document.
     pub fn into_store(self) -> S
         ensures store { result ≡ store_of (vault_of self) }
         ensures holds { S.tells ≡ true → has_broken (notes_in (vault_of self)) ≡ false

@@ -50,7 +50,7 @@ SnapshotReadsBack d = ReadsBack snapshot_in (signed_json snapshot_json d) d (sna
 abbrev pub RootReadsBack : SignedDoc RootDoc → Type 0
 RootReadsBack d = AreOwn d.role.keys → ReadsBack root_in (signed_json root_json d) d (root_text d)
 
--- the file is the text of a signed root of this version that verified itself, and is read as it where its keys stand under their own identifiers
+-- the file is the text of a signed root of this version that verified itself by some verifier, and is read as it where its keys stand under their own identifiers
 abbrev pub HoldsRoot : ℕ → Option (List ℕ) → Type 0
 HoldsRoot v file = (d : SignedDoc RootDoc) × (file ≡ root_text d) × (file ≢ None) × (d.role.head.version ≡ v)
     × ((verifies : Verifies) × ReachesUnder verifies d.role role.Root root_json d)

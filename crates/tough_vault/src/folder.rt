@@ -1,7 +1,8 @@
 //! A store over a folder.
-ghost use Rattle.std.specs.Prelude.{◌≡◌, ℕ, false, ◌+◌, ◌%◌, ◌^◌, ◌<◌, ◌≤◌, ◌↔◌, length, Some, None, IsTrue, string_bytes};
+ghost use Rattle.std.specs.Prelude.{◌≡◌, ◌⊎◌, ℕ, false, ◌+◌, ◌%◌, ◌^◌, ◌<◌, ◌≤◌, ◌↔◌, length, Some, None, IsTrue, string_bytes};
 ghost use Rattle.tough_vault.specs.Stored.{HasCause};
 ghost use Rattle.tough_vault.specs.Replacing.{Replaces, removals_after, failures_after};
+ghost use Rattle.tough_vault.specs.declared.store.Replaced.TheVariants.{Unwritten};
 ghost use Rattle.tough_vault.specs.Folder.{folder_of, no_files, runtime_of, store_failures, removals_of, changes_of, last_fault, KeepsFault, KeepsFaultOf, IsFileName};
 
 use crate::held::{
@@ -36,8 +37,8 @@ const MISSING: &str = "the store's folder is missing";
 /// files named `+new` and a number. All that a store makes can be read and written by its owner alone.
 ///
 /// No file has an empty name, the name `.` or `..`, a name that begins with `+`, or a name with a slash: `read` gives none,
-/// `remove` succeeds, and `write` fails. A name of more than 255 bytes is passed over, since no file can have it: `write`
-/// succeeds, and nothing is stored.
+/// `remove` succeeds, and `write` and `replace` fail. A name of more than 255 bytes is passed over, since no file can have it:
+/// `write` succeeds, and nothing is stored; `replace` fails.
 #[derive(Drop)]
 pub struct DirStore<R> {
     rt: R,
@@ -222,9 +223,6 @@ impl<R: rt::Files<File = File> + AllocGlobal + Clone + Drop> DirStore<R> {
         ensures kept { KeepsFaultOf (last_fault self.old) (last_fault self.new) result }
         ensures changes { changes_of self.new ≡ changes_of self.old }
     {
-        if !is_plain(names[0]) || !is_plain(names[1]) || !is_plain(names[2]) {
-            return Replaced::Unwritten(self.fail(io::Error::from(ErrorKind::InvalidInput)));
-        }
         match self.carry_out(names, bytes) {
             Ok(done) => self.told(done),
             Err(e) if e.kind() == ErrorKind::OutOfMemory => {
@@ -338,11 +336,16 @@ impl<R: rt::Files<File = File> + AllocGlobal + Clone + Drop> Store for DirStore<
     fn replace(&mut self, name: &str, bytes: &[u8], first: &str, second: &str) -> Replaced
         ensures replaced { Replaces false no_files store_failures name.now bytes.now first.now
             second.now self.old self.new result }
+        ensures refused { (IsFileName name.now → ⊥) ⊎ (IsFileName first.now → ⊥)
+            ⊎ (IsFileName second.now → ⊥) → result ≡ Unwritten StoreError.Failed }
         ensures once { changes_of self.new ≡ (changes_of self.old + 1) % 2 ^ 64 }
         ensures counted { removals_of self.new ≡ removals_after result (removals_of self.old) }
         ensures kept { KeepsFaultOf (last_fault self.old) (last_fault self.new) result }
     {
         self.changes = self.changes.wrapping_add(1);
+        if !is_plain(name) || !is_plain(first) || !is_plain(second) {
+            return Replaced::Unwritten(self.fail(io::Error::from(ErrorKind::InvalidInput)));
+        }
         self.change(&[name, first, second], bytes)
     }
 

@@ -127,7 +127,8 @@ impl<S: Store> Vault<S> {
     ///
     /// It refuses, in this order: `VerifyMetadata` where it doesn't verify itself; `DatastoreOpen`; `OlderMetadata` against a stored root that
     /// verifies itself, then against the tip; `DatastoreSerialize` where it has no text; `DatastoreCreate`; and, where it was written, with
-    /// the fault of the first removal that failed. What was stored is read as this root, where it nests no deeper than is read.
+    /// the fault of the first removal that failed. What was stored is read as this root, where it nests no deeper than is read and its keys
+    /// stand under their own identifiers.
     pub fn put_root<V: Verify>(
         &mut self,
         root: &Signed<Root>,
