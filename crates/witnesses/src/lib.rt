@@ -5,6 +5,8 @@ pub mod growth;
 pub mod honest;
 pub mod load;
 pub mod streams;
+#[cfg(test)]
+mod tests;
 mod unmet;
 pub mod update;
 pub mod vectors;
