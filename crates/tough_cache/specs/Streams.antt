@@ -1,7 +1,7 @@
 -- What streams and transports stand on.
 use Rattle.std.specs.Prelude.{◌≡◌, Bool, true, false}
 use Rattle.url.specs.Parts.{Parts}
-use Rattle.tough_cache.specs.Versioned.{is_versioned, name_in}
+use Rattle.tough_cache.specs.Versioned.{names_version}
 use Rattle.tough_cache.specs.declared.keeping.Keeping.{Keeping}
 use Rattle.tough_cache.specs.declared.caching.CachingTransport.{CachingTransport}
 
@@ -19,4 +19,4 @@ is_anew t = t.is_anew
 
 -- What is served at the URL may come from the folder.
 abbrev pub MayBeKept : {T R : Type 0} → CachingTransport T R → Parts → Type 0
-MayBeKept t url = (is_anew t ≡ false) × (is_versioned (name_in url.path) ≡ true)
+MayBeKept t url = (is_anew t ≡ false) × (names_version url.path ≡ true)

@@ -1,4 +1,5 @@
 -- Which URLs name a file by its version (TUF specification 1.0, section 6.2: with consistent snapshots a file's name is "prefixed with the version number and a dot").
+use Rattle.std.specs.List.{ends_with}
 use Rattle.std.specs.Prelude.{ℕ, Bool, true, false, ◌&&◌, List, [], ◌∷◌, eqb, nat_lt, if◌then◌else◌}
 
 abbrev pub is_digit : ℕ → Bool
@@ -20,3 +21,11 @@ last_part name (c ∷ cs) = if eqb c 47 then last_part cs cs else last_part name
 
 abbrev pub name_in : List ℕ → List ℕ
 name_in path = last_part path path
+
+-- the text ends in `.json`
+abbrev pub is_json : List ℕ → Bool
+is_json path = ends_with eqb path (46 ∷ 106 ∷ 115 ∷ 111 ∷ 110 ∷ [])
+
+-- the path names a document by its version
+abbrev pub names_version : List ℕ → Bool
+names_version path = is_versioned (name_in path) && is_json path

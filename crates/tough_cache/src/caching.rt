@@ -4,7 +4,7 @@ ghost use Rattle.std.specs.Prelude.{◌≡◌, ◌⊎◌, true, false, IfOk, IfE
 ghost use Rattle.futures.specs.Runs.{Within};
 ghost use Rattle.tough_net.specs.Errors.{IsMemory};
 ghost use Rattle.tough_cache.specs.Streams.{within_of, is_anew, MayBeKept};
-ghost use Rattle.tough_cache.specs.Versioned.{is_versioned, name_in};
+ghost use Rattle.tough_cache.specs.Versioned.{names_version};
 ghost use Rattle.tough_cache.specs.declared.caching.CachingStream.TheVariants.{Fetched, Kept};
 
 use crate::keeping::Keeping;
@@ -19,8 +19,8 @@ use std::rt::Files;
 use tough_net::{Transport, TransportError};
 use url::Url;
 
-/// Serves what another transport does, and keeps in a folder what it received under a name with a version, as `3.snapshot.json`: such a file is
-/// served from there the next time. With consistent snapshots a second load of an unchanged repository then asks the other transport for
+/// Serves what another transport does, and keeps in a folder each document that it received under a name with a version, as `3.snapshot.json`:
+/// such a file is served from there the next time. With consistent snapshots a second load of an unchanged repository then asks the other transport for
 /// the next root and the timestamp alone. A folder keeps the files of one repository.
 ///
 /// What stands in the folder is believed as little as what a server sends. Where a load refuses it, a load by `anew` fetches everything.
@@ -130,7 +130,7 @@ impl<T: Transport, R: Files + AllocGlobal + Clone + Drop> CachingTransport<T, R>
 
     // Takes a file that was kept, or fetches it.
     fn fetch_versioned(&self, url: &Url) -> Result<CachingStream<T::Stream, R>, TransportError>
-        requires { is_versioned (name_in url.now.path) ≡ true }
+        requires { names_version url.now.path ≡ true }
         ensures can_poll { IfOk result (⟦<CachingStream<T::Stream, R> as Stream>⟧.can_poll) }
         ensures served { IfOk result (λ s. Within
             (λ xs last. MayBeKept self.now url.now ⊎ T.serves (within_of self.now) url.now xs last)

@@ -1,7 +1,7 @@
 //! Names of files with a version.
 
 ghost use Rattle.std.specs.Prelude.{◌≡◌, ◌≤◌, length, drop};
-ghost use Rattle.tough_cache.specs.Versioned.{is_versioned, name_in};
+ghost use Rattle.tough_cache.specs.Versioned.{is_versioned, name_in, names_version};
 
 /// Where the name begins, behind the last slash.
 pub(crate) fn name_place(path: &[u8]) -> usize
@@ -35,10 +35,10 @@ pub(crate) fn is_versioned(name: &[u8]) -> bool
     false
 }
 
-/// Whether the path's last part is such a name.
+/// Whether the path's last part is such a name, and ends in `.json`.
 pub(crate) fn names_version(path: &[u8]) -> bool
-    ensures { result ≡ is_versioned (name_in path.now) }
+    ensures { result ≡ names_version path.now }
 {
     let place = name_place(path);
-    is_versioned(&path[place..])
+    is_versioned(&path[place..]) && path.ends_with(b".json")
 }
