@@ -3,15 +3,16 @@ use Rattle.std.proofs.Common.{◌≡◌, ℕ, ◌+◌, ◌<◌, ◌≤◌, Bool,
 use Rattle.std.proofs.lemmas.Bool.{false≢true}
 use Rattle.std.proofs.lemmas.List.{drop_all}
 use Rattle.std.proofs.lemmas.Slice.Eq.{bytes_eq-Decides}
-use Rattle.std.specs.Prelude.{Result, Ok, Err, String, string_bytes}
+use Rattle.std.specs.Prelude.{Result, Ok, Err, String, is_none, string_bytes}
 use Rattle.std.specs.Str.{bytes_eq}
 use Rattle.tough_files.proofs.Following.{stays}
 use Rattle.tough_files.specs.declared.files.FilesError.{FilesError}
 use Rattle.tough_files.specs.declared.files.FilesError.TheVariants.{NotFound, Failed, Memory}
 use Rattle.tough_files.specs.Calls.{Answered, done, named, refused, done_or}
 use Rattle.tough_files.specs.Changes.{CreatesTemp, Gives, answer_only, append_outcome, append_over, moved, move_over, put, remove_outcome, remove_over, rename_outcome, rename_over, temp_in, temp_outcome, temp_over, temp_path}
-use Rattle.tough_files.specs.Contents.{Contents, Node, file, folder, link, Same, followed, has_folder, is_base, node_at}
-use Rattle.tough_replace.specs.Replacing.{AreReplaced, FileDoc, IsLeft, IsLeftAt, IsNew, IsReplaced, StopsAmong, TellsFile, file_doc}
+use Rattle.tough_files.specs.Contents.{Contents, Node, file, folder, link, Same, folder_is_there, followed, has_folder, is_base, node_at}
+use Rattle.std.specs.Path.{path_parent}
+use Rattle.tough_replace.specs.Replacing.{AreReplaced, FileDoc, IsLeft, IsLeftAt, IsNew, IsPut, IsReplaced, StopsAmong, TellsFile, file_doc}
 use Rattle.tough_replace.specs.declared.replace.NewFile.{NewFile}
 use Rattle.tough_replace.specs.declared.replace.ReplaceError.{ReplaceError}
 
@@ -71,26 +72,26 @@ module _ (path bytes : List ℕ) (before mid after : Contents) (n : IsNew path [
 -- ---- renaming
 
 module _ (old new bytes : List ℕ) (mid after : Contents) where
-  moves : (there : Option Node) → done ≡ (move_over old new (file bytes) mid there).answered → Same (move_over old new (file bytes) mid there).after after → Same (moved old new (file bytes) mid) after
+  Moved : Type 0
+  Moved = (is_base new ≡ false) × Same (moved old new (file bytes) mid) after
+
+  -- what is moved into a folder isn't put where something always is
+  inside : (dir : Option (List ℕ)) → folder_is_there mid dir ≡ true → is_none dir ≡ false
+  inside None h = cc
+  inside (Some dir) h = refl
+
+  moves_in : (v : Bool) → has_folder mid new ≡ v → done ≡ (cond v (record { answered = done; after = moved old new (file bytes) mid }) (answer_only (refused NotFound) mid)).answered
+      → Same (cond v (record { answered = done; after = moved old new (file bytes) mid }) (answer_only (refused NotFound) mid)).after after → Moved
+  unfolding Moved
+  moves_in true e h s = (inside (path_parent new) e, s)
+  moves_in false e h s = cc
+
+  moves : (there : Option Node) → done ≡ (move_over old new (file bytes) mid there).answered → Same (move_over old new (file bytes) mid there).after after → Moved
+  unfolding Moved
   moves (Some folder) h s = cc
-  moves None h s = go (has_folder mid new) h s
-    where
-      go : (v : Bool) → done ≡ (cond v (record { answered = done; after = moved old new (file bytes) mid }) (answer_only (refused NotFound) mid)).answered
-          → Same (cond v (record { answered = done; after = moved old new (file bytes) mid }) (answer_only (refused NotFound) mid)).after after → Same (moved old new (file bytes) mid) after
-      go true h s = s
-      go false h s = cc
-  moves (Some (file there)) h s = go (has_folder mid new) h s
-    where
-      go : (v : Bool) → done ≡ (cond v (record { answered = done; after = moved old new (file bytes) mid }) (answer_only (refused NotFound) mid)).answered
-          → Same (cond v (record { answered = done; after = moved old new (file bytes) mid }) (answer_only (refused NotFound) mid)).after after → Same (moved old new (file bytes) mid) after
-      go true h s = s
-      go false h s = cc
-  moves (Some (link there)) h s = go (has_folder mid new) h s
-    where
-      go : (v : Bool) → done ≡ (cond v (record { answered = done; after = moved old new (file bytes) mid }) (answer_only (refused NotFound) mid)).answered
-          → Same (cond v (record { answered = done; after = moved old new (file bytes) mid }) (answer_only (refused NotFound) mid)).after after → Same (moved old new (file bytes) mid) after
-      go true h s = s
-      go false h s = cc
+  moves None h s = moves_in (has_folder mid new) refl h s
+  moves (Some (file there)) h s = moves_in (has_folder mid new) refl h s
+  moves (Some (link there)) h s = moves_in (has_folder mid new) refl h s
 
   stays_put : (e : FilesError) (node : Node) (there : Option Node) → refused e ≡ (move_over old new node mid there).answered → Same (move_over old new node mid there).after after → Same mid after
   stays_put e node (Some folder) h s = s
@@ -145,11 +146,13 @@ module _ (old new bytes : List ℕ) (before mid after : Contents) (n : IsNew old
   settled true e s = subst (λ q. Same (put before q (Some (file bytes))) after) ((bytes_eq-Decides old new).0 e) (λ p. s p ∙ n.holds p)
   settled false e s = λ p. s p ∙ ap (λ m. cond (bytes_eq old p) None (cond (bytes_eq new p) (Some (file bytes)) m)) (n.holds p) ∙ one e p (bytes_eq old p) refl
 
-  pub renamed : Gives (rename_outcome old new mid) mid done after → Same (put before new (Some (file bytes))) after
+  pub renamed : Gives (rename_outcome old new mid) mid done after → IsPut new bytes before after
+  unfolding Moved
   renamed g =
       let Q : Option Node → Type 0 = λ there. (done ≡ (rename_over old new mid there).answered) × Same (rename_over old new mid there).after after in
       let k = subst Q (here old bytes before mid n) g in
-      settled (bytes_eq old new) refl (moves old new bytes mid after (node_at mid new) k.0 k.1)
+      let m = moves old new bytes mid after (node_at mid new) k.0 k.1 in
+      record { inside = m.0; holds = settled (bytes_eq old new) refl m.1 }
 
   pub unrenamed : (e : FilesError) → Gives (rename_outcome old new mid) mid (refused e) after → IsNew old bytes before after
   unrenamed e g = record { fresh = n.fresh; holds = λ p. unmoved old new bytes mid after e g p ∙ n.holds p }

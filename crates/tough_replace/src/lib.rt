@@ -3,6 +3,7 @@
 //! Not promised: that a file survives a loss of power, which the files' own calls would have to sync.
 #![tactic(auto)]
 
+pub mod laws;
 mod replace;
 
 pub use replace::{NewFile, ReplaceError, replace_file, replace_files};

@@ -1,9 +1,8 @@
 //! Whole files take the place of others.
 
-ghost use Rattle.std.specs.Prelude.{◌≡◌, [], List, ℕ, Some, true, IfOk, IfErr, map};
-ghost use Rattle.tough_files.specs.Changes.{put};
-ghost use Rattle.tough_files.specs.Contents.{Contents, Same, file};
-ghost use Rattle.tough_replace.specs.Replacing.{AreReplaced, IsLeft, IsLeftAt, IsNew, IsReplaced, StopsAmong, file_doc};
+ghost use Rattle.std.specs.Prelude.{◌≡◌, [], List, ℕ, true, IfOk, IfErr, map};
+ghost use Rattle.tough_files.specs.Contents.{Contents};
+ghost use Rattle.tough_replace.specs.Replacing.{AreReplaced, IsLeft, IsLeftAt, IsNew, IsPut, IsReplaced, StopsAmong, file_doc};
 
 use std::alloc::{AllocError, Global};
 use std::path::Path;
@@ -47,8 +46,7 @@ impl From<AllocError> for ReplaceError {
 fn fill<F: Files>(files: &mut F, temp: &str, path: &str, bytes: &[u8]) -> Result<(), FilesError>
     ensures ok { F.tells ≡ true → (before : Contents)
         → IsNew temp.now [] before (F.contents files.old)
-        → IfOk result (λ u. Same (put before path.now (Some (file bytes.now)))
-        (F.contents files.new)) }
+        → IfOk result (λ u. IsPut path.now bytes.now before (F.contents files.new)) }
     ensures err { F.tells ≡ true → (before : Contents)
         → IsNew temp.now [] before (F.contents files.old)
         → IfErr result (λ e. (held : List ℕ) × IsNew temp.now held before (F.contents files.new)) }
@@ -71,8 +69,7 @@ fn discard<F: Files>(files: &mut F, temp: &str)
 // Puts the bytes at the path, by way of a temporary file of the folder.
 fn put_at<F: Files>(files: &mut F, folder: &str, path: &str, bytes: &[u8]) -> Result<(), FilesError>
     ensures ok { F.tells ≡ true → IfOk result
-        (λ u. Same (put (F.contents files.old) path.now (Some (file bytes.now)))
-        (F.contents files.new)) }
+        (λ u. IsPut path.now bytes.now (F.contents files.old) (F.contents files.new)) }
     ensures err { F.tells ≡ true → IfErr result
         (λ e. IsLeft folder.now (F.contents files.old) (F.contents files.new)) }
 {

@@ -1,15 +1,15 @@
 use Rattle.std.proofs.Common.{◌≡◌, Ok, Err, subst}
-use Rattle.std.specs.Prelude.{ℕ, List, Some, Result, IfOk, IfErr, []}
+use Rattle.std.specs.Prelude.{ℕ, List, Result, IfOk, IfErr, []}
 use Rattle.tough_files.specs.Calls.{done_or}
-use Rattle.tough_files.specs.Changes.{Gives, append_outcome, put, rename_outcome}
-use Rattle.tough_files.specs.Contents.{Contents, Same, file}
+use Rattle.tough_files.specs.Changes.{Gives, append_outcome, rename_outcome}
+use Rattle.tough_files.specs.Contents.{Contents}
 use Rattle.tough_files.specs.declared.files.FilesError.{FilesError}
-use Rattle.tough_replace.specs.Replacing.{IsNew}
+use Rattle.tough_replace.specs.Replacing.{IsNew, IsPut}
 use Rattle.tough_replace.proofs.Replaced.{appended, renamed, unrenamed, unappended}
 use Rattle.tough_replace.proofs.replace.fill.Goals as goal
 
 ends : (temp path bytes : List ℕ) (before mid after : Contents) (r : Result (Unit {0}) FilesError) → IsNew temp bytes before mid → Gives (rename_outcome temp path mid) mid (done_or r) after
-    → IfOk r (λ u. Same (put before path (Some (file bytes))) after)
+    → IfOk r (λ u. IsPut path bytes before after)
 ends temp path bytes before mid after (Ok u) n g = renamed temp path bytes before mid after n g
 ends temp path bytes before mid after (Err e) n g = tt
 
