@@ -2,3 +2,4 @@ mod RelativeNames
 mod AskedNames
 mod LatestFiles
 mod SameAnswers
+mod Replaced
