@@ -5,5 +5,7 @@
 
 pub mod laws;
 mod replace;
+mod repository;
 
 pub use replace::{NewFile, ReplaceError, replace_file, replace_files};
+pub use repository::replace_repository;
