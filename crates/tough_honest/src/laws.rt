@@ -4,15 +4,18 @@ ghost use Rattle.std.specs.Prelude.{◌≡◌, ℤ, true, Result};
 ghost use Rattle.tough_trust.specs.Failure.{Failure};
 ghost use Rattle.tough_trust.specs.Vaults.{vault_keeps, vault_reads};
 ghost use Rattle.tough_vault.specs.Vault.{parts_of};
+ghost use Rattle.tough_vault.specs.declared.entry.Receipt.{Receipt};
 ghost use Rattle.tough_update.specs.Stages.{LoadedDoc};
 ghost use Rattle.tough_update.specs.Loadable.{Files};
 ghost use Rattle.tough_load.specs.Loader.{IsBegun, first_core, settings_of, transport_of, verifier_of, clock_of, keeper_of};
 ghost use Rattle.tough_load.specs.Advancing.{Finishes};
 ghost use Rattle.tough_load.specs.Words as part;
+ghost use Rattle.tough_load.specs.declared.load.Load.{Load};
+ghost use Rattle.tough_load.specs.declared.loader.RepositoryLoader.{RepositoryLoader as Loader};
 ghost use Rattle.tough_honest.specs.Fresh.{Untouched, IsFineOutcome};
-ghost use Rattle.tough_honest.specs.Loads.{LoadsAt, EndsWith};
+ghost use Rattle.tough_honest.specs.Loads.{Lent, LoadsAt, EndsWith};
 
-use tough_load::{Clock, Load, RepositoryLoader, Store, Vault};
+use tough_load::{Clock, Store};
 use tough_net::Transport;
 use tough_roles::Verify;
 
@@ -21,21 +24,18 @@ use tough_roles::Verify;
 /// none of a time, a root, a timestamp or a snapshot; by a clock each of whose moments is one at which the files are loadable. Where it ends, its
 /// outcome is the documents that the files serve, unless it tells that the store's device failed or that a request for memory was
 /// refused (TUF specification 5).
-pub fn honest_loads<T: Transport, V: Verify + Drop, C: Clock + Drop, S: Store>(
-    loader: &RepositoryLoader<'_, T, V, C, &mut Vault<S>>,
-    load: &Load<T, &mut Vault<S>, C, V>,
-    ended: &Load<T, &mut Vault<S>, C, V>,
-)
-    ensures { (files : Files) (d : ℤ → LoadedDoc) (outcome : Result LoadedDoc Failure)
-        → IsBegun loader.now load.now → S.tells ≡ true
-        → Untouched S.files 0 (parts_of (keeper_of loader.now).now)
-        → ((now : ℤ) → C.may_give (clock_of loader.now) now
-        → LoadsAt T.refuses T.serves (V.verifies (verifier_of loader.now))
-        (part.base_of load.now) (transport_of loader.now)
-        (first_core (settings_of loader.now)) files now (d now))
+pub fn honest_loads<T: Transport, V: Verify + Drop, C: Clock + Drop, S: Store>()
+    ensures { (loader : Loader T V C (Lent S.tells S.files S.count S.removals S.changes))
+        (load ended : Load T (Lent S.tells S.files S.count S.removals S.changes) C V T.Stream
+        Receipt) (files : Files) (d : ℤ → LoadedDoc) (outcome : Result LoadedDoc Failure)
+        → IsBegun loader load → S.tells ≡ true
+        → Untouched S.files 0 (parts_of (keeper_of loader).now)
+        → ((now : ℤ) → C.may_give (clock_of loader) now
+        → LoadsAt T.refuses T.serves (V.verifies (verifier_of loader)) (part.base_of load)
+        (transport_of loader) (first_core (settings_of loader)) files now (d now))
         → Finishes T.refuses T.serves (vault_keeps S.tells S.files S.count) (vault_reads S.tells
-        S.files S.count) C.may_give T.Stream.yields V.verifies load.now outcome ended.now
-        → IsFineOutcome outcome → EndsWith C.may_give (clock_of loader.now) d outcome }
+        S.files S.count) C.may_give T.Stream.yields V.verifies load outcome ended
+        → IsFineOutcome outcome → EndsWith C.may_give (clock_of loader) d outcome }
 {
     tough_update::laws::loads();
 }

@@ -7,12 +7,15 @@ ghost use Rattle.tough_signed.specs.Standing.{is_consistent};
 ghost use Rattle.tough_trust.specs.Failure.{Failure};
 ghost use Rattle.tough_trust.specs.Vaults.{vault_keeps, vault_reads};
 ghost use Rattle.tough_vault.specs.Vault.{parts_of};
+ghost use Rattle.tough_vault.specs.declared.entry.Receipt.{Receipt};
 ghost use Rattle.tough_update.specs.Stages.{LoadedDoc};
 ghost use Rattle.tough_load.specs.Loader.{IsBegun, first_core, settings_of, transport_of, verifier_of, clock_of, keeper_of};
 ghost use Rattle.tough_load.specs.Advancing.{Finishes};
 ghost use Rattle.tough_load.specs.Words as part;
+ghost use Rattle.tough_load.specs.declared.load.Load.{Load};
+ghost use Rattle.tough_load.specs.declared.loader.RepositoryLoader.{RepositoryLoader as Loader};
 ghost use Rattle.tough_honest.specs.Fresh.{Untouched, IsFineOutcome};
-ghost use Rattle.tough_honest.specs.Loads.{ServesAll, EndsWith};
+ghost use Rattle.tough_honest.specs.Loads.{Lent, ServesAll, EndsWith};
 ghost use Rattle.tough_release.specs.Edits.{ReleaseDoc};
 ghost use Rattle.tough_release.specs.Release.{IsReleased};
 ghost use Rattle.tough_release.specs.Repository.{delegated_of};
@@ -24,7 +27,7 @@ ghost use Rattle.tough_write.specs.Writing.{repository_files};
 ghost use Rattle.tough_mirror.specs.Folder.{IsFree, files_in};
 
 use tough_keys::Sign;
-use tough_load::{Clock, Load, RepositoryLoader, Store, Vault};
+use tough_load::{Clock, Store};
 use tough_net::Transport;
 use tough_roles::Verify;
 
@@ -40,33 +43,30 @@ pub fn files_are_the_same()
 /// `Ok` and the files tell their contents; no link stood at the path of one of them, and nothing at that of another file that the update
 /// asks for, which is the next root. The load is one that `released_loads` speaks of, over a transport that serves under each name what a
 /// file of that name in the folder holds (TUF specification 1.0, section 5).
-pub fn written_loads<T: Transport, V: Verify + Drop, C: Clock + Drop, D: Store, S: Sign>(
-    loader: &RepositoryLoader<'_, T, V, C, &mut Vault<D>>,
-    load: &Load<T, &mut Vault<D>, C, V>,
-    ended: &Load<T, &mut Vault<D>, C, V>,
-)
-    ensures { (signers : List S) (e : ReleaseDoc) (r : SignedRepository)
-        (outdir : List ℕ) (before after : Contents) (outcome : Result LoadedDoc Failure)
+pub fn written_loads<T: Transport, V: Verify + Drop, C: Clock + Drop, D: Store, S: Sign>()
+    ensures { (loader : Loader T V C (Lent D.tells D.files D.count D.removals D.changes))
+        (load ended : Load T (Lent D.tells D.files D.count D.removals D.changes) C V T.Stream
+        Receipt) (signers : List S) (e : ReleaseDoc) (r : SignedRepository) (outdir : List ℕ)
+        (before after : Contents) (outcome : Result LoadedDoc Failure)
         → IsReleased S.key S.signs signers e r
-        → SignWell (V.verifies (verifier_of loader.now)) S.key S.signs signers
+        → SignWell (V.verifies (verifier_of loader)) S.key S.signs signers
         → Fills outdir (repository_files (is_consistent (delegated_of r)) r) before after
-        → IsBegun loader.now load.now → D.tells ≡ true
-        → Untouched D.files 0 (parts_of (keeper_of loader.now).now)
-        → ((now : ℤ) → C.may_give (clock_of loader.now) now
-        → MayLoad (V.verifies (verifier_of loader.now))
-        (first_core (settings_of loader.now)).setting now e r
-        × IsFree (V.verifies (verifier_of loader.now)) (first_core (settings_of loader.now))
-        outdir r now before
-        × ServesAll T.refuses T.serves (V.verifies (verifier_of loader.now))
-        (part.base_of load.now) (transport_of loader.now)
-        (first_core (settings_of loader.now)) (files_in outdir after) now)
+        → IsBegun loader load → D.tells ≡ true
+        → Untouched D.files 0 (parts_of (keeper_of loader).now)
+        → ((now : ℤ) → C.may_give (clock_of loader) now
+        → MayLoad (V.verifies (verifier_of loader)) (first_core (settings_of loader)).setting
+        now e r
+        × IsFree (V.verifies (verifier_of loader)) (first_core (settings_of loader)) outdir r
+        now before
+        × ServesAll T.refuses T.serves (V.verifies (verifier_of loader)) (part.base_of load)
+        (transport_of loader) (first_core (settings_of loader)) (files_in outdir after) now)
         → Finishes T.refuses T.serves (vault_keeps D.tells D.files D.count) (vault_reads D.tells
-        D.files D.count) C.may_give T.Stream.yields V.verifies load.now outcome ended.now
+        D.files D.count) C.may_give T.Stream.yields V.verifies load outcome ended
         → IsFineOutcome outcome
-        → EndsWith C.may_give (clock_of loader.now)
-        (λ now. loaded_of (first_core (settings_of loader.now)).setting now r) outcome }
+        → EndsWith C.may_give (clock_of loader)
+        (λ now. loaded_of (first_core (settings_of loader)).setting now r) outcome }
 {
-    tough_round::laws::released_loads::<T, V, C, D, S>(loader, load, ended);
+    tough_round::laws::released_loads::<T, V, C, D, S>();
     tough_round::laws::released_is_found::<S>();
     tough_update::laws::asks();
     tough_write::laws::written_reads_back();

@@ -7,13 +7,16 @@ ghost use Rattle.tough_sign.specs.Making.{SignWell};
 ghost use Rattle.tough_trust.specs.Failure.{Failure};
 ghost use Rattle.tough_trust.specs.Vaults.{vault_keeps, vault_reads};
 ghost use Rattle.tough_vault.specs.Vault.{parts_of};
+ghost use Rattle.tough_vault.specs.declared.entry.Receipt.{Receipt};
 ghost use Rattle.tough_update.specs.Loadable.{Loadable};
 ghost use Rattle.tough_update.specs.Stages.{SettingDoc, LoadedDoc};
 ghost use Rattle.tough_load.specs.Loader.{IsBegun, first_core, settings_of, transport_of, verifier_of, clock_of, keeper_of};
 ghost use Rattle.tough_load.specs.Advancing.{Finishes};
 ghost use Rattle.tough_load.specs.Words as part;
+ghost use Rattle.tough_load.specs.declared.load.Load.{Load};
+ghost use Rattle.tough_load.specs.declared.loader.RepositoryLoader.{RepositoryLoader as Loader};
 ghost use Rattle.tough_honest.specs.Fresh.{Untouched, IsFineOutcome};
-ghost use Rattle.tough_honest.specs.Loads.{ServesAll, EndsWith};
+ghost use Rattle.tough_honest.specs.Loads.{Lent, ServesAll, EndsWith};
 ghost use Rattle.tough_release.specs.Edits.{ReleaseDoc};
 ghost use Rattle.tough_release.specs.Release.{IsReleased};
 ghost use Rattle.tough_release.specs.declared.repository.SignedRepository.{SignedRepository};
@@ -21,7 +24,7 @@ ghost use Rattle.tough_round.specs.Files.{written, files_of, loaded_of};
 ghost use Rattle.tough_round.specs.Loading.{MayLoad};
 
 use tough_keys::Sign;
-use tough_load::{Clock, Load, RepositoryLoader, Store, Vault};
+use tough_load::{Clock, Store};
 use tough_net::Transport;
 use tough_roles::{Snapshot, Timestamp, Verify};
 use tough_schema::DelegatedTargets;
@@ -56,28 +59,26 @@ pub fn released_is_found<S: Sign>()
 /// that a loader made, as `honest_loads` has it: over a transport that serves the repository's files under their names, by a lent vault over
 /// a store that held nothing, and by a clock each of whose moments is before all expiries. Where it ends, that is its outcome, unless it
 /// tells that the store's device failed or that a request for memory was refused (TUF specification 1.0, section 5).
-pub fn released_loads<T: Transport, V: Verify + Drop, C: Clock + Drop, D: Store, S: Sign>(
-    loader: &RepositoryLoader<'_, T, V, C, &mut Vault<D>>,
-    load: &Load<T, &mut Vault<D>, C, V>,
-    ended: &Load<T, &mut Vault<D>, C, V>,
-)
-    ensures { (signers : List S) (e : ReleaseDoc) (r : SignedRepository)
-        (outcome : Result LoadedDoc Failure) → IsBegun loader.now load.now → D.tells ≡ true
-        → Untouched D.files 0 (parts_of (keeper_of loader.now).now)
-        → SignWell (V.verifies (verifier_of loader.now)) S.key S.signs signers
+pub fn released_loads<T: Transport, V: Verify + Drop, C: Clock + Drop, D: Store, S: Sign>()
+    ensures { (loader : Loader T V C (Lent D.tells D.files D.count D.removals D.changes))
+        (load ended : Load T (Lent D.tells D.files D.count D.removals D.changes) C V T.Stream
+        Receipt) (signers : List S) (e : ReleaseDoc) (r : SignedRepository)
+        (outcome : Result LoadedDoc Failure)
+        → IsBegun loader load → D.tells ≡ true
+        → Untouched D.files 0 (parts_of (keeper_of loader).now)
+        → SignWell (V.verifies (verifier_of loader)) S.key S.signs signers
         → IsReleased S.key S.signs signers e r
-        → ((now : ℤ) → C.may_give (clock_of loader.now) now
-        → MayLoad (V.verifies (verifier_of loader.now))
-        (first_core (settings_of loader.now)).setting now e r
-        × ServesAll T.refuses T.serves (V.verifies (verifier_of loader.now))
-        (part.base_of load.now) (transport_of loader.now)
-        (first_core (settings_of loader.now)) (files_of r) now)
+        → ((now : ℤ) → C.may_give (clock_of loader) now
+        → MayLoad (V.verifies (verifier_of loader)) (first_core (settings_of loader)).setting
+        now e r
+        × ServesAll T.refuses T.serves (V.verifies (verifier_of loader)) (part.base_of load)
+        (transport_of loader) (first_core (settings_of loader)) (files_of r) now)
         → Finishes T.refuses T.serves (vault_keeps D.tells D.files D.count) (vault_reads D.tells
-        D.files D.count) C.may_give T.Stream.yields V.verifies load.now outcome ended.now
+        D.files D.count) C.may_give T.Stream.yields V.verifies load outcome ended
         → IsFineOutcome outcome
-        → EndsWith C.may_give (clock_of loader.now)
-        (λ now. loaded_of (first_core (settings_of loader.now)).setting now r) outcome }
+        → EndsWith C.may_give (clock_of loader)
+        (λ now. loaded_of (first_core (settings_of loader)).setting now r) outcome }
 {
-    tough_honest::laws::honest_loads(loader, load, ended);
+    tough_honest::laws::honest_loads::<T, V, C, D>();
     released_is_loadable::<S>();
 }

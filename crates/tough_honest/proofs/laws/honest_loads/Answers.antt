@@ -9,10 +9,7 @@ use Rattle.tough_honest.proofs.Ending.{begun-honest}
 use Rattle.tough_honest.proofs.laws.honest_loads.Goals as goal
 
 pub returns : goal.returns
-returns g c = λ files d outcome begun tells untouched may h fine.
-    let from = c.args.loader.now in
-    let l = c.args.load.now in
-    let new = c.args.ended.now in
+returns g c = λ from l new files d outcome begun tells untouched may h fine.
     begun-honest g.T.Transport.refuses g.T.Transport.serves g.S.Store.tells g.S.Store.files g.S.Store.count tells
     (vault_keeps g.S.Store.tells g.S.Store.files g.S.Store.count) (vault_reads g.S.Store.tells g.S.Store.files g.S.Store.count) g.C.Clock.may_give g.T.Stream.Stream.yields (λ k. parts_of k.now) (λ v old act r next held. held.0)
     (λ v old first r next held. held.0)

@@ -18,12 +18,10 @@ use Rattle.tough_mirror.proofs.LatestFiles.{asked-plain, latest, nothing-read}
 use Rattle.tough_mirror.proofs.laws.written_loads.Goals as goal
 
 pub returns : goal.returns
-returns g c = λ signers e r outdir before after outcome released well fills begun tells untouched may finishes fine.
-    let from = c.args.loader.now in
-    let l = c.args.load.now in
+returns g c = λ from l new signers e r outdir before after outcome released well fills begun tells untouched may finishes fine.
     let v = g.V.Verify.verifies (verifier_of from) in
     let core = first_core (settings_of from) in
-    c.released_loads.ensures signers e r outcome begun tells untouched well released
+    c.released_loads.ensures from l new signers e r outcome begun tells untouched well released
     (λ now shows.
     let all = may now shows in
     let free = all.1 in
