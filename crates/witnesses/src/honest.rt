@@ -4,7 +4,9 @@ ghost use Rattle.std.specs.Prelude.{◌≡◌, false, None, Some, IfOk, OnOk};
 ghost use Rattle.std.specs.Str.{bytes_eq};
 ghost use Rattle.url.specs.Parts.{serialize};
 ghost use Rattle.tough_net.specs.MemoryFiles.{file_at};
-ghost use Rattle.witnesses.specs.Devices.{IsAt, ServesFour, HasHonestLoad};
+ghost use Rattle.tough_load.specs.Loader.{clock_of};
+ghost use Rattle.tough_honest.specs.Loads.{EndsWith};
+ghost use Rattle.witnesses.specs.Devices.{IsAt, ServesFour, fixed_gives, HasHonestLoad};
 
 use crate::Unmet;
 use crate::update::loadable;
@@ -90,7 +92,7 @@ fn transport(
 }
 
 /// Witness of `tough_honest::laws::honest_loads`: a repository that was read, its files in memory below this URL, an empty store in memory, a
-/// clock that stands still, and a load that ended with documents.
+/// clock that stands still, and a load that ended with documents; so, by the law, with those of the moment that the clock shows.
 pub fn honest_load<R: RandomSource + AllocGlobal>(
     rt: &R,
     alloc: Global,
@@ -101,8 +103,10 @@ pub fn honest_load<R: RandomSource + AllocGlobal>(
     snapshot: &[u8],
     targets: &[u8],
 ) -> Result<(), Unmet>
-    ensures { OnOk result (HasHonestLoad start.nanosecond) }
+    ensures { OnOk result ((h : HasHonestLoad start.nanosecond)
+        × EndsWith fixed_gives (clock_of h.loader) h.d h.outcome) }
 {
+    tough_honest::laws::honest_loads::<MemoryTransport, DemoVerify, FixedClock, MemoryStore>();
     loadable(
         alloc,
         &Limits::default(),

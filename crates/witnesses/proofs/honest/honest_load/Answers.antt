@@ -1,4 +1,4 @@
-use Rattle.std.proofs.Common.{◌∙◌, sym, ap, subst}
+use Rattle.std.proofs.Common.{◌∙◌, refl, sym, ap, subst}
 use Rattle.tough_keys.specs.Demo.{demo_verifies}
 use Rattle.tough_net.specs.Urls.{with_slash}
 use Rattle.tough_vault.specs.Memory.{memory_files}
@@ -18,11 +18,12 @@ returns-in-Ok-Ok g c =
     let loader = c.keeper-loader.result in
     let sets = c.keeper-loader.ensures.settings ∙ (c.clock.ensures.settings ∙ (c.verifier.ensures.settings ∙ (c.transport-2.ensures.settings ∙ c.new-2.ensures))) in
     let given = c.keeper-loader.ensures.others.0 ∙ (c.clock.ensures.others.0 ∙ (c.verifier.ensures.others.0 ∙ c.transport-2.ensures.given)) in
-    has-honest-load f start base loader c.in-Ok-load.load c.drive.new.load (outcome_doc c.in-Ok-Ok.field-0)
+    let h = has-honest-load f start base loader c.in-Ok-load.load c.drive.new.load (outcome_doc c.in-Ok-Ok.field-0)
     (subst (λ l. HasLoadable demo_verifies start l f) c.default.ensures c.in_ok-loadable.ensures)
     (subst (λ t. ServesFour t base f) (sym given) (c.in_ok-transport.ensures c.args.trusted.now))
     (ap (λ s. with_slash s.metadata_base) sets ∙ (ap with_slash (c.in_ok-clone-2.ensures.cases ∙ sym c.in_ok-clone.ensures.cases) ∙ c.in-Ok.ensures.given))
     (ap (λ s. s.root) sets) (ap (λ s. s.limits) sets) (ap (λ s. s.enforced) sets)
     (sym (ap (λ k. k.0.nanosecond) (c.keeper-loader.ensures.others.2 ∙ c.clock.ensures.given)))
     (subst (λ k. Untouched memory_files 0 (parts_of k.now)) (sym c.keeper-loader.ensures.given) (untouched-of c.new-vault.result c.new.result c.new-vault.ensures.store c.new-vault.ensures.tip c.new.ensures))
-    c.in-Ok-load.ensures.begun c.in-Ok-Ok.ensures.done (subst (λ r. IsFineOutcome (outcome_doc r)) (sym c.in-Ok-Ok.field-0-is) tt)
+    c.in-Ok-load.ensures.begun c.in-Ok-Ok.ensures.done (subst (λ r. IsFineOutcome (outcome_doc r)) (sym c.in-Ok-Ok.field-0-is) tt) in
+    (h, c.honest_loads.ensures h.loader h.load h.ended h.files h.d h.outcome h.begun refl h.untouched h.able h.finishes h.fine)
