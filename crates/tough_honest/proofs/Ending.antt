@@ -25,7 +25,7 @@ use Rattle.tough_update.specs.Loadable.{AllHonest, Loadable, IsLoaded}
 use Rattle.tough_update.specs.Runs.{IsFresh}
 use Rattle.tough_load.specs.Loading.{Held, Leads, Ends}
 use Rattle.tough_honest.specs.Fresh.{phase, Untouched, IsFineOutcome}
-use Rattle.tough_honest.specs.Loads.{LoadsAt, EndsWith}
+use Rattle.tough_honest.specs.Loads.{LoadsAt, BeganAt}
 use Rattle.tough_honest.proofs.Alone.{Alone}
 use Rattle.tough_honest.proofs.Faultless.{Begins, all-fine, first-moment}
 use Rattle.tough_honest.proofs.Whole.{all, ends-so}
@@ -35,7 +35,11 @@ module _ {T K S C Y : Type 0} (refuses : T → Urls → TransportError → Type 
     (vault : (v : Verifies) (old : K) (act : Act) (r : Result Receipt StepError) (new : K) → keeps v old act r new → Acts tells files count v act (view old) (view new) r)
     (look : (v : Verifies) (old : K) (first : ℕ) (r : Result (Option (SignedDoc RootDoc)) StepError) (new : K) → reads v old first r new → Looks tells files count v first (view old) (view new) r)
     (loads : (v : Verifies) (c : CoreDoc) (served : Files) (l : LoadedDoc) (answers : List AnswerDoc) → IsFresh c → Loadable v served c.setting l → AllHonest v served l.known.start c answers → IsLoaded v c answers l)
-    (base : Urls) (served : Files) (d : ℤ → LoadedDoc) where
+    (base : Urls) (served : Files) where
+  -- it ends with the documents for which all is there
+  abbrev Comes : Verifies → T → CoreDoc → Result LoadedDoc Failure → ℤ → Type 0
+  Comes v t c o now = (l : LoadedDoc) → LoadsAt refuses serves v base t c served now l → o ≡ Ok l
+
   -- what is so at a moment that begins the answers
   ended-at : (v : Verifies) (t : T) (c : CoreDoc) (k : Held K Receipt C) (answers : List AnswerDoc) (last : CoreDoc) (kept : Held K Receipt C) (o : Result LoadedDoc Failure) → IsFresh c
       → Untouched files 0 (view k.keeping.keeper) → (l : LoadedDoc) → LoadsAt refuses serves v base t c served l.known.start l
@@ -49,25 +53,25 @@ module _ {T K S C Y : Type 0} (refuses : T → Urls → TransportError → Type 
       ends-so v c answers l last o (loads v c served l answers fresh at.loadable whole.0) whole.1 end fine
 
   ends-honest : (v : Verifies) (t : T) (c : CoreDoc) (k : Held K Receipt C) (o : Result LoadedDoc Failure) (left : CoreDoc) (kept : Held K Receipt C) → IsFresh c
-      → Untouched files 0 (view k.keeping.keeper) → ((now : ℤ) → may_give k.clock now → LoadsAt refuses serves v base t c served now (d now))
-      → Ends refuses serves keeps reads may_give yields v base t None c k o left kept → IsFineOutcome o → EndsWith may_give k.clock d o
-  ends-honest v t c k o left kept fresh untouched may h fine =
+      → Untouched files 0 (view k.keeping.keeper)
+      → Ends refuses serves keeps reads may_give yields v base t None c k o left kept → IsFineOutcome o → BeganAt may_give k.clock (Comes v t c o)
+  ends-honest v t c k o left kept fresh untouched h fine =
       let led = h.1.1 in
       let first = first-moment refuses serves keeps reads may_give yields v base t (pos 0) h.1.0 c k h.0 kept o fresh led h.2 in
-      let at = may first.0 first.1 in
-      let here = subst (λ (n : ℤ). LoadsAt refuses serves v base t c served n (d first.0)) (sym at.start) at in
-      let begins = subst (Begins refuses serves keeps reads may_give yields v base t (d first.0).known.start) (sym first.2.1) (ap got.Moment (sym at.start)) in
-      (first.0, first.1, ended-at v t c k h.1.0 h.0 kept o fresh untouched (d first.0) here begins led h.2 fine)
+      (first.0, first.1, λ l at.
+          let here = subst (λ (n : ℤ). LoadsAt refuses serves v base t c served n l) (sym at.start) at in
+          let begins = subst (Begins refuses serves keeps reads may_give yields v base t l.known.start) (sym first.2.1) (ap got.Moment (sym at.start)) in
+          ended-at v t c k h.1.0 h.0 kept o fresh untouched l here begins led h.2 fine)
 
   -- the same, where the load's parts are those that were given
   pub begun-honest : {V : Type 0} (w : V → Verifies) (v v' : V) (t t' : T) (c c' : CoreDoc) (k k' : Held K Receipt C) (fetch : Option (Collect Y)) (o : Result LoadedDoc Failure) (left : CoreDoc) (kept : Held K Receipt C)
       → v ≡ v' → t ≡ t' → c ≡ c' → k ≡ k' → fetch ≡ None → IsFresh c'
-      → Untouched files 0 (view k'.keeping.keeper) → ((now : ℤ) → may_give k'.clock now → LoadsAt refuses serves (w v') base t' c' served now (d now))
-      → Ends refuses serves keeps reads may_give yields (w v) base t fetch c k o left kept → IsFineOutcome o → EndsWith may_give k'.clock d o
-  begun-honest w v v' t t' c c' k k' fetch o left kept ev et ec ek none fresh untouched may h fine =
+      → Untouched files 0 (view k'.keeping.keeper)
+      → Ends refuses serves keeps reads may_give yields (w v) base t fetch c k o left kept → IsFineOutcome o → BeganAt may_give k'.clock (Comes (w v') t' c' o)
+  begun-honest w v v' t t' c c' k k' fetch o left kept ev et ec ek none fresh untouched h fine =
       let h1 = subst (λ x. Ends refuses serves keeps reads may_give yields (w x) base t fetch c k o left kept) ev h in
       let h2 = subst (λ x. Ends refuses serves keeps reads may_give yields (w v') base x fetch c k o left kept) et h1 in
       let h3 = subst (λ x. Ends refuses serves keeps reads may_give yields (w v') base t' fetch x k o left kept) ec h2 in
       let h4 = subst (λ x. Ends refuses serves keeps reads may_give yields (w v') base t' fetch c' x o left kept) ek h3 in
       let h5 = subst (λ x. Ends refuses serves keeps reads may_give yields (w v') base t' x c' k' o left kept) none h4 in
-      ends-honest (w v') t' c' k' o left kept fresh untouched may h5 fine
+      ends-honest (w v') t' c' k' o left kept fresh untouched h5 fine

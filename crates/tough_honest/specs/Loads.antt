@@ -33,6 +33,6 @@ pub record LoadsAt {T : Type 0} (refuses : T → Urls → TransportError → Typ
   pub loadable : Loadable verifies files c.setting l
   pub served : ServesAll refuses serves verifies base t c files now
 
--- a load that ends so has begun at a moment that the clock may show, and its documents are those of this moment
-abbrev pub EndsWith : {C : Type 0} → (C → ℤ → Type 0) → C → (ℤ → LoadedDoc) → Result LoadedDoc Failure → Type 0
-EndsWith may_give clock d outcome = (now : ℤ) × may_give clock now × (outcome ≡ Ok (d now))
+-- the load began at a moment that the clock may show, of which this holds
+abbrev pub BeganAt : {C : Type 0} → (C → ℤ → Type 0) → C → (ℤ → Type 0) → Type 0
+BeganAt may_give clock holds = (now : ℤ) × may_give clock now × holds now

@@ -1,6 +1,6 @@
 //! A repository that was written into a folder, and a load of that folder's files.
 
-ghost use Rattle.std.specs.Prelude.{◌≡◌, ℕ, ℤ, List, true, Result};
+ghost use Rattle.std.specs.Prelude.{◌≡◌, ℕ, List, true, Result, Ok};
 ghost use Rattle.tough_files.specs.Contents.{Contents};
 ghost use Rattle.tough_sign.specs.Making.{SignWell};
 ghost use Rattle.tough_signed.specs.Standing.{is_consistent};
@@ -15,7 +15,7 @@ ghost use Rattle.tough_load.specs.Words as part;
 ghost use Rattle.tough_load.specs.declared.load.Load.{Load};
 ghost use Rattle.tough_load.specs.declared.loader.RepositoryLoader.{RepositoryLoader as Loader};
 ghost use Rattle.tough_honest.specs.Fresh.{Untouched, IsFineOutcome};
-ghost use Rattle.tough_honest.specs.Loads.{Lent, ServesAll, EndsWith};
+ghost use Rattle.tough_honest.specs.Loads.{Lent, ServesAll, BeganAt};
 ghost use Rattle.tough_release.specs.Edits.{ReleaseDoc};
 ghost use Rattle.tough_release.specs.Release.{IsReleased};
 ghost use Rattle.tough_release.specs.Repository.{delegated_of};
@@ -53,18 +53,16 @@ pub fn written_loads<T: Transport, V: Verify + Drop, C: Clock + Drop, D: Store, 
         → Fills outdir (repository_files (is_consistent (delegated_of r)) r) before after
         → IsBegun loader load → D.tells ≡ true
         → Untouched D.files 0 (parts_of (keeper_of loader).now)
-        → ((now : ℤ) → C.may_give (clock_of loader) now
-        → MayLoad (V.verifies (verifier_of loader)) (first_core (settings_of loader)).setting
-        now e r
-        × IsFree (V.verifies (verifier_of loader)) (first_core (settings_of loader)) outdir r
-        now before
-        × ServesAll T.refuses T.serves (V.verifies (verifier_of loader)) (part.base_of load)
-        (transport_of loader) (first_core (settings_of loader)) (files_in outdir after) now)
         → Finishes T.refuses T.serves (vault_keeps D.tells D.files D.count) (vault_reads D.tells
         D.files D.count) C.may_give T.Stream.yields V.verifies load outcome ended
         → IsFineOutcome outcome
-        → EndsWith C.may_give (clock_of loader)
-        (λ now. loaded_of (first_core (settings_of loader)).setting now r) outcome }
+        → BeganAt C.may_give (clock_of loader) (λ now. MayLoad
+        (V.verifies (verifier_of loader)) (first_core (settings_of loader)).setting now e r
+        → IsFree (V.verifies (verifier_of loader)) (first_core (settings_of loader)) outdir r
+        now before
+        → ServesAll T.refuses T.serves (V.verifies (verifier_of loader)) (part.base_of load)
+        (transport_of loader) (first_core (settings_of loader)) (files_in outdir after) now
+        → outcome ≡ Ok (loaded_of (first_core (settings_of loader)).setting now r)) }
 {
     tough_round::laws::released_loads::<T, V, C, D, S>();
     tough_round::laws::released_is_found::<S>();

@@ -1,6 +1,6 @@
 //! A signed repository, and a load of its files.
 
-ghost use Rattle.std.specs.Prelude.{◌≡◌, ℤ, List, Some, true, Result};
+ghost use Rattle.std.specs.Prelude.{◌≡◌, ℤ, List, Some, true, Result, Ok};
 ghost use Rattle.std.specs.List.{AllByRecursion};
 ghost use Rattle.tough_keys.specs.Same.{Verifies};
 ghost use Rattle.tough_sign.specs.Making.{SignWell};
@@ -16,7 +16,7 @@ ghost use Rattle.tough_load.specs.Words as part;
 ghost use Rattle.tough_load.specs.declared.load.Load.{Load};
 ghost use Rattle.tough_load.specs.declared.loader.RepositoryLoader.{RepositoryLoader as Loader};
 ghost use Rattle.tough_honest.specs.Fresh.{Untouched, IsFineOutcome};
-ghost use Rattle.tough_honest.specs.Loads.{Lent, ServesAll, EndsWith};
+ghost use Rattle.tough_honest.specs.Loads.{Lent, ServesAll, BeganAt};
 ghost use Rattle.tough_release.specs.Edits.{ReleaseDoc};
 ghost use Rattle.tough_release.specs.Release.{IsReleased};
 ghost use Rattle.tough_release.specs.declared.repository.SignedRepository.{SignedRepository};
@@ -57,8 +57,8 @@ pub fn released_is_found<S: Sign>()
 
 /// What was signed is loaded equal: root, timestamp, snapshot, and the targets with the documents of all delegated roles. The load is one
 /// that a loader made, as `honest_loads` has it: over a transport that serves the repository's files under their names, by a lent vault over
-/// a store that held nothing, and by a clock each of whose moments is before all expiries. Where it ends, that is its outcome, unless it
-/// tells that the store's device failed or that a request for memory was refused (TUF specification 1.0, section 5).
+/// a store that held nothing. Where it ends, and it began before all expiries by its clock, that is its outcome, unless it tells that the
+/// store's device failed or that a request for memory was refused (TUF specification 1.0, section 5).
 pub fn released_loads<T: Transport, V: Verify + Drop, C: Clock + Drop, D: Store, S: Sign>()
     ensures { (loader : Loader T V C (Lent D.tells D.files D.count D.removals D.changes))
         (load ended : Load T (Lent D.tells D.files D.count D.removals D.changes) C V T.Stream
@@ -68,16 +68,14 @@ pub fn released_loads<T: Transport, V: Verify + Drop, C: Clock + Drop, D: Store,
         → Untouched D.files 0 (parts_of (keeper_of loader).now)
         → SignWell (V.verifies (verifier_of loader)) S.key S.signs signers
         → IsReleased S.key S.signs signers e r
-        → ((now : ℤ) → C.may_give (clock_of loader) now
-        → MayLoad (V.verifies (verifier_of loader)) (first_core (settings_of loader)).setting
-        now e r
-        × ServesAll T.refuses T.serves (V.verifies (verifier_of loader)) (part.base_of load)
-        (transport_of loader) (first_core (settings_of loader)) (files_of r) now)
         → Finishes T.refuses T.serves (vault_keeps D.tells D.files D.count) (vault_reads D.tells
         D.files D.count) C.may_give T.Stream.yields V.verifies load outcome ended
         → IsFineOutcome outcome
-        → EndsWith C.may_give (clock_of loader)
-        (λ now. loaded_of (first_core (settings_of loader)).setting now r) outcome }
+        → BeganAt C.may_give (clock_of loader) (λ now. MayLoad
+        (V.verifies (verifier_of loader)) (first_core (settings_of loader)).setting now e r
+        → ServesAll T.refuses T.serves (V.verifies (verifier_of loader)) (part.base_of load)
+        (transport_of loader) (first_core (settings_of loader)) (files_of r) now
+        → outcome ≡ Ok (loaded_of (first_core (settings_of loader)).setting now r)) }
 {
     tough_honest::laws::honest_loads::<T, V, C, D>();
     released_is_loadable::<S>();

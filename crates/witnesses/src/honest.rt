@@ -5,7 +5,7 @@ ghost use Rattle.std.specs.Str.{bytes_eq};
 ghost use Rattle.url.specs.Parts.{serialize};
 ghost use Rattle.tough_net.specs.MemoryFiles.{file_at};
 ghost use Rattle.tough_load.specs.Loader.{clock_of};
-ghost use Rattle.tough_honest.specs.Loads.{EndsWith};
+ghost use Rattle.tough_honest.specs.Loads.{BeganAt};
 ghost use Rattle.witnesses.specs.Devices.{IsAt, ServesFour, fixed_gives, HasHonestLoad};
 
 use crate::Unmet;
@@ -104,7 +104,7 @@ pub fn honest_load<R: RandomSource + AllocGlobal>(
     targets: &[u8],
 ) -> Result<(), Unmet>
     ensures { OnOk result ((h : HasHonestLoad start.nanosecond)
-        × EndsWith fixed_gives (clock_of h.loader) h.d h.outcome) }
+        × BeganAt fixed_gives (clock_of h.loader) (λ now. h.outcome ≡ Ok (h.d now))) }
 {
     tough_honest::laws::honest_loads::<MemoryTransport, DemoVerify, FixedClock, MemoryStore>();
     loadable(

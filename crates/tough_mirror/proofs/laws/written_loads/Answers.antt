@@ -18,14 +18,13 @@ use Rattle.tough_mirror.proofs.LatestFiles.{asked-plain, latest, nothing-read}
 use Rattle.tough_mirror.proofs.laws.written_loads.Goals as goal
 
 pub returns : goal.returns
-returns g c = λ from l new signers e r outdir before after outcome released well fills begun tells untouched may finishes fine.
+returns g c = λ from l new signers e r outdir before after outcome released well fills begun tells untouched finishes fine.
     let v = g.V.Verify.verifies (verifier_of from) in
     let core = first_core (settings_of from) in
-    c.released_loads.ensures from l new signers e r outcome begun tells untouched well released
-    (λ now shows.
-    let all = may now shows in
-    let free = all.1 in
-    let found = c.released_is_found.ensures v core.setting now signers e r released all.0 in
+    let began = c.released_loads.ensures from l new signers e r outcome begun tells untouched well released finishes fine in
+    let now = began.0 in
+    (now, began.1, λ may free serves.
+    let found = c.released_is_found.ensures v core.setting now signers e r released may in
     let reads = c.written_reads_back.ensures outdir (written r) before after free.plain fills in
     let same : (answers : List AnswerDoc) (q : RequestDoc) → AllHonest v (files_of r) now core answers → question (run v core answers) ≡ Fetch q → files_in outdir after q.name ≡ files_of r q.name
     = λ answers q honest asked.
@@ -33,10 +32,7 @@ returns g c = λ from l new signers e r outdir before after outcome released wel
     let path = path_join outdir q.name in
     let none : files_of r q.name ≡ None → before path ≡ None = free.others answers q honest asked in
     reads path (asked-plain outdir q.name before (written r) free.plain none)
-    ∙ latest outdir q.name (files_of r) relative (written r) found (written-relative r) (content_at before path) (λ e. nothing-read before path (none e) ∙ sym e) in (
-      all.0,
-      λ answers q honest asked.
-          subst (ServesName g.T.Transport.refuses g.T.Transport.serves (transport_of from) (part.base_of l) q.name) (same answers q honest asked)
-          (all.2 answers q (honest-same v (files_of r) (files_in outdir after) now core same answers honest) asked),
-    ))
-    finishes fine
+    ∙ latest outdir q.name (files_of r) relative (written r) found (written-relative r) (content_at before path) (λ e. nothing-read before path (none e) ∙ sym e) in
+    began.2 may (λ answers q honest asked.
+        subst (ServesName g.T.Transport.refuses g.T.Transport.serves (transport_of from) (part.base_of l) q.name) (same answers q honest asked)
+        (serves answers q (honest-same v (files_of r) (files_in outdir after) now core same answers honest) asked)))
