@@ -1,8 +1,12 @@
 -- Steps of a vault over a store in memory.
-use Rattle.std.specs.Prelude.{◌≡◌, ℕ, List, [], ◌∷◌, ◌++◌, true, false, Ok, Option}
+use Rattle.std.specs.Prelude.{◌≡◌, ℕ, ℤ, List, [], ◌∷◌, ◌++◌, true, false, Ok, Option}
 use Rattle.tough_keys.specs.Demo.{demo_verifies}
 use Rattle.tough_roles.specs.Policy.{Policy}
-use Rattle.tough_vault.specs.Act.{Act, Acts}
+use Rattle.tough_roles.specs.Root.{RootDoc}
+use Rattle.tough_roles.specs.Signature.{SignedDoc}
+use Rattle.tough_roles.specs.Snapshot.{SnapshotDoc}
+use Rattle.tough_roles.specs.Timestamp.{TimestampDoc}
+use Rattle.tough_vault.specs.Act.{Act, NoteTime, PutRoot, AdvanceTimestamp, AdvanceSnapshot, Acts}
 use Rattle.tough_vault.specs.Journal.{Note, has_broken, has_cleared}
 use Rattle.tough_vault.specs.Memory.{memory_files}
 use Rattle.tough_vault.specs.Step.{Parts}
@@ -57,3 +61,11 @@ pub record HasTrail (acts : List Act) : Type 0 where
   pub under_in : AllUnder P Q section
   pub unbroken_in : has_broken (all_notes section) ≡ false
   pub uncleared_in : has_cleared (all_notes section) ≡ false
+
+-- a moment is noted; a root, a timestamp and a snapshot are accepted (TUF specification 5.3 to 5.5)
+abbrev pub four_acts : ℤ → SignedDoc RootDoc → SignedDoc TimestampDoc → ℕ → SignedDoc SnapshotDoc → List Act
+four_acts start root t listed s = NoteTime start ∷ PutRoot root ∷ AdvanceTimestamp root.role t start true ∷ AdvanceSnapshot root.role listed s start true ∷ []
+
+-- such steps, of an update that begins at this moment
+abbrev pub HasAccepted : ℤ → Type 0
+HasAccepted start = (root : SignedDoc RootDoc) × (t : SignedDoc TimestampDoc) × (listed : ℕ) × (s : SignedDoc SnapshotDoc) × HasTrail (four_acts start root t listed s)

@@ -3,7 +3,9 @@
 
 pub mod growth;
 pub mod honest;
+pub mod lives;
 pub mod load;
+pub mod steps;
 pub mod streams;
 #[cfg(test)]
 mod tests;

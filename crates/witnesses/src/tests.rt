@@ -84,3 +84,33 @@ fn a_load_ends_with_documents(rt: HostRuntime) -> Result<(), Fail> {
     drop(load::ended_load(&rt, loader)?);
     Ok(())
 }
+
+#[test]
+fn steps_are_taken(rt: HostRuntime) -> Result<(), Fail> {
+    let alloc = rt.alloc();
+    let files = plain(&rt)?;
+    steps::accepted_steps(
+        alloc,
+        &Limits::default(),
+        Timestamp::UNIX_EPOCH,
+        files.root.as_slice(),
+        file(&files, "metadata/timestamp.json"),
+        file(&files, "metadata/snapshot.json"),
+    )?;
+    let mut vault = Vault::new(alloc, MemoryStore::new(alloc));
+    let mut keeper = &mut vault;
+    let moment = Timestamp::UNIX_EPOCH;
+    drop(steps::two_steps(alloc, &mut keeper, &DemoVerify, moment, moment)?);
+    Ok(())
+}
+
+#[test]
+fn lives_are_lived(rt: HostRuntime) -> Result<(), Fail> {
+    let alloc = rt.alloc();
+    let files = plain(&rt)?;
+    let moment = Timestamp::UNIX_EPOCH;
+    let limits = Limits::default();
+    lives::root_is_stored(alloc, limits, files.root.as_slice(), moment, moment)?;
+    lives::noted_moments(alloc, limits, files.root.as_slice(), moment, moment)?;
+    Ok(())
+}

@@ -151,7 +151,7 @@ fn root_of(alloc: Global, bytes: &[u8]) -> Result<Signed<Root>, Unmet>
 
 // The root that is handed in.
 #[tactic(auto, using(crate::proofs::Plain::reads, crate::proofs::Plain::under))]
-fn root_in(alloc: Global, start: Instant, bytes: &[u8]) -> Result<Signed<Root>, Unmet>
+pub(crate) fn root_in(alloc: Global, start: Instant, bytes: &[u8]) -> Result<Signed<Root>, Unmet>
     ensures reading { IfOk result (λ s. root_in bytes.now ≡ Some (signed_doc root_doc s)) }
     ensures signed { IfOk result (λ s. ReachesUnder demo_verifies (root_doc s.signed) types.Root
         root_json (signed_doc root_doc s)) }
@@ -169,7 +169,7 @@ fn root_in(alloc: Global, start: Instant, bytes: &[u8]) -> Result<Signed<Root>, 
 
 // The timestamp.
 #[tactic(auto, using(crate::proofs::Plain::reads, crate::proofs::Plain::under))]
-fn timestamp_in(
+pub(crate) fn timestamp_in(
     alloc: Global,
     limits: &Limits,
     root: &Root,
@@ -196,7 +196,7 @@ fn timestamp_in(
 
 // The snapshot that is listed so.
 #[tactic(auto, using(crate::proofs::Plain::reads, crate::proofs::Plain::under))]
-fn snapshot_in(
+pub(crate) fn snapshot_in(
     alloc: Global,
     limits: &Limits,
     root: &Root,
