@@ -1,16 +1,14 @@
 -- Lives whose updates note a moment: all their roots are the one that was handed in, and nothing but a time is stored.
-use Rattle.std.proofs.Common.{◌≡◌, ◌≢◌, ◌⊎◌, ℕ, ℤ, List, [], ◌∷◌, Option, None, Some, Bool, true, Result, Ok, Err, slice_get, refl, sym, ap, ◌∙◌, subst, inl, inr}
+use Rattle.std.proofs.Common.{◌≡◌, ◌⊎◌, ℕ, ℤ, List, [], ◌∷◌, Option, None, Some, true, Result, Ok, Err, slice_get, refl, sym, ap, ◌∙◌, subst, inl, inr}
 use Rattle.std.specs.Prelude.{slice_set, ⊤}
 use Rattle.jiff.specs.declared.timestamp.Timestamp.{Timestamp as Instant}
 use Rattle.tough_keys.specs.Demo.{demo_verifies}
-use Rattle.tough_roles.specs.Policy.{Policy, policy}
+use Rattle.tough_roles.specs.Policy.{Policy}
 use Rattle.tough_roles.specs.Root.{RootDoc}
 use Rattle.tough_roles.specs.Signature.{SignedDoc}
-use Rattle.tough_roles.specs.declared.role_type.RoleType.{RoleType}
 use Rattle.tough_roles.specs.declared.role_type.RoleType.TheVariants as role
-use Rattle.tough_checks.specs.Files.{time_file, root_file}
+use Rattle.tough_checks.specs.Files.{root_file}
 use Rattle.tough_checks.specs.StoredDocuments.{stored_root}
-use Rattle.tough_vault.specs.Act.{NoteTime}
 use Rattle.tough_vault.specs.Journal.{Note, has_broken}
 use Rattle.tough_vault.specs.Memory.{memory_files}
 use Rattle.tough_vault.proofs.Holding.{distinct}
@@ -21,22 +19,22 @@ use Rattle.tough_trust.specs.Outcomes.{and_then}
 use Rattle.tough_trust.specs.Walk.{first_root}
 use Rattle.tough_update.specs.Answered.{AnswerDoc}
 use Rattle.tough_update.specs.Answered as got
-use Rattle.tough_update.specs.Machine.{question, question_at, stage_after, settled}
+use Rattle.tough_update.specs.Machine.{question_at, stage_after, settled}
 use Rattle.tough_update.specs.Promises.{Goes}
 use Rattle.tough_update.specs.Stages.{CoreDoc, StageDoc, SettingDoc}
 use Rattle.tough_update.specs.Stages as at
 use Rattle.tough_update.specs.View.{core_doc}
 use Rattle.tough_update.specs.declared.machine.Core.{Core}
-use Rattle.tough_world.specs.Lives.{Lives, begun, joined, AreFresh, BeginFresh, AllUnder, AlongRun, Along, OnePolicy}
-use Rattle.tough_world.specs.Policies.{HasPolicy, RootUnder, StageUnder}
-use Rattle.tough_world.specs.Turns.{WorldDoc, Replies, TurnsTo, Turned, Runs}
+use Rattle.tough_world.specs.Lives.{Lives, begun, joined, AreFresh, BeginFresh, AllUnder, AlongRun, OnePolicy}
+use Rattle.tough_world.specs.Policies.{RootUnder, StageUnder}
+use Rattle.tough_world.specs.Turns.{WorldDoc, Replies, Turned, Runs}
 use Rattle.tough_world.specs.declared.lives.Life.{Life}
 use Rattle.tough_world.specs.declared.turns.Answer.{Answer}
 use Rattle.tough_world.specs.declared.turns.Answer.TheVariants as by
 use Rattle.tough_world.specs.declared.turns.Turn.{Turn}
 use Rattle.tough_world.specs.declared.turns.TurnError.{TurnError}
 use Rattle.tough_world.specs.declared.turns.TurnError.TheVariants.{NotAsked, Misfit}
-use Rattle.witnesses.specs.Lives.{noting, IsBorn, asked_of, HasLives, Stores, Notes, HasStored, HasPolicies}
+use Rattle.witnesses.specs.Lives.{noting, IsBorn, asked_of, Stores, Notes, HasStored, HasPolicies}
 use Rattle.witnesses.specs.Steps.{no_failure}
 
 abbrev World : Type 0

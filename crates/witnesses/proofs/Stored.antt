@@ -1,5 +1,5 @@
 -- A root that a look at a store gives is what the store holds.
-use Rattle.std.proofs.Common.{◌≡◌, ℕ, Bool, true, false, Option, Some, None, Ok, refl, sym, ap, ◌∙◌, subst}
+use Rattle.std.proofs.Common.{◌≡◌, ℕ, Bool, true, false, Option, Some, None, Ok, refl, sym, ap, ◌∙◌}
 use Rattle.std.specs.Prelude.{nat_lt, if◌then◌else◌}
 use Rattle.tough_keys.specs.Demo.{demo_verifies}
 use Rattle.tough_roles.specs.Root.{RootDoc}

@@ -1,5 +1,5 @@
 -- Steps that a vault took are a trail on its store.
-use Rattle.std.proofs.Common.{◌≡◌, ℕ, ℤ, List, [], ◌∷◌, ◌++◌, Option, Some, Bool, true, false, Ok, refl, sym, ap, ◌∙◌}
+use Rattle.std.proofs.Common.{◌≡◌, ℕ, ℤ, List, [], ◌∷◌, Some, true, false, Ok, refl, ap}
 use Rattle.tough_keys.specs.Demo.{demo_verifies}
 use Rattle.tough_roles.specs.Policy.{policy}
 use Rattle.tough_roles.specs.Root.{RootDoc}
@@ -17,7 +17,7 @@ use Rattle.tough_vault.specs.declared.memory.MemoryStore.{MemoryStore}
 use Rattle.tough_trust.specs.Vaults.{ReadsBack}
 use Rattle.tough_shared.proofs.Going.{goes_on}
 use Rattle.tough_world.specs.Steps.{Taken, Trail, all_notes}
-use Rattle.witnesses.specs.Steps.{no_failure, IsPlain, Took, AllTook, HasTrail, four_acts, HasAccepted}
+use Rattle.witnesses.specs.Steps.{no_failure, IsPlain, Took, AllTook, four_acts, HasAccepted}
 
 -- a step that succeeded noted the entry of its receipt
 pub took : (act : Act) (old new : Parts MemoryStore) (r : Receipt) → Acts true memory_files no_failure demo_verifies act old new (Ok r) → ReadsBack act → IsPlain (note_of (entry_of r)) → Took act old new
