@@ -3,3 +3,4 @@ mod AskedNames
 mod LatestFiles
 mod SameAnswers
 mod Replaced
+mod TimestampLast
