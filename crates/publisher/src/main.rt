@@ -13,10 +13,11 @@ use std::num::NonZeroU64;
 use std::process::ExitCode;
 use std::{env, fs};
 use tough::editor::RepositoryEditor;
-use tough::editor::signed::{PathExists, SignedRepository, TargetFiles, WriteSigned};
+use tough::editor::signed::{PathExists, SignedRepository, TargetFiles};
 use tough::jiff::Timestamp;
 use tough::schema::{DemoSign, Key, PathPattern, PathSet, Target};
 use tough::{Files, FilesystemTransport, OsFiles};
+use tough_replace::replace_repository;
 
 const USAGE: &str = "usage: publisher ROOT KEYS TARGETSDIR OUTDIR [ROLE]";
 
@@ -130,7 +131,7 @@ fn make_folder(disk: &mut Disk, folder: &str) -> Result<()> {
     }
 }
 
-// Makes the repository, and writes it: first the files of the targets, then the metadata.
+// Makes the repository, and writes it: first the files of the targets, then the metadata, the timestamp last.
 fn publish(rt: &HostRuntime, words: &Words<'_>) -> Result<()> {
     let alloc = rt.alloc();
     let mut disk = OsFiles::new(rt.clone()?);
@@ -151,8 +152,8 @@ fn publish(rt: &HostRuntime, words: &Words<'_>) -> Result<()> {
         )?;
     }
     let folder = format!(in alloc; "{}/metadata", words.outdir)?;
-    let consistent = signed.root().signed().signed.consistent_snapshot;
-    signed.write(alloc, &mut disk, folder.as_str(), consistent)?;
+    make_folder(&mut disk, folder.as_str())?;
+    replace_repository(alloc, &mut disk, folder.as_str(), &signed)?;
     let version = signed.timestamp().signed().signed.version;
     println!(rt; "published {} files, timestamp {version}", found.len())?;
     Ok(())

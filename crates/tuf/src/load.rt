@@ -1,13 +1,16 @@
 //! Repositories are loaded, over files and HTTP.
 
+ghost use Rattle.std.specs.Prelude.{⊤};
+
 use crate::fault::{Fault, about, refused};
 use crate::files::{Disk, canonical};
 use crate::host::Host;
 use std::alloc::Global;
+use std::io;
 use tough::jiff::Timestamp;
 use tough::{
-    DefaultTransport, ExpirationEnforcement, FixedClock, Keeper, LocalRuntime, Repository,
-    RepositoryLoader, Transport, Url, open_on,
+    DefaultTransport, Error, ExpirationEnforcement, FixedClock, Keeper, LocalRuntime, Repository,
+    RepositoryLoader, Transport, UpdateError, Url, open_on,
 };
 use tough_signatures::StandardVerify;
 
@@ -87,21 +90,53 @@ fn loader_of<'a, T: Transport, K: Keeper>(
         .expiration_enforcement(enforcement)
 }
 
+// Why a repository wasn't loaded.
+#[derive(Drop)]
+enum Unloaded {
+    Refused(Error),
+    System(io::Error),
+}
+
+impl From<UpdateError> for Unloaded {
+    ghost from_gives = { λ _ _. ⊤ };
+
+    fn from(error: UpdateError) -> Unloaded {
+        Unloaded::Refused(Error::from(error))
+    }
+}
+
+impl From<Error> for Unloaded {
+    ghost from_gives = { λ _ _. ⊤ };
+
+    fn from(error: Error) -> Unloaded {
+        Unloaded::Refused(error)
+    }
+}
+
+impl From<io::Error> for Unloaded {
+    ghost from_gives = { λ _ _. ⊤ };
+
+    fn from(error: io::Error) -> Unloaded {
+        Unloaded::System(error)
+    }
+}
+
 // Ends the load that the loader begins.
 fn load_by<R: Host, T: Transport, K: Keeper>(
     rt: &R,
     runtime: &mut LocalRuntime,
     loader: RepositoryLoader<'_, T, StandardVerify, FixedClock, K>,
-    what: &str,
-) -> Result<Repository<T, K, FixedClock>, Fault> {
-    let load = match loader.load() {
-        Ok(load) => load,
-        Err(error) => return Err(about(rt.alloc(), what, &error)),
-    };
-    match open_on(rt, runtime, load) {
-        Ok(Ok(repository)) => Ok(repository),
-        Ok(Err(error)) => Err(about(rt.alloc(), what, &error)),
-        Err(error) => Err(Fault::System(error)),
+) -> Result<Repository<T, K, FixedClock>, Unloaded> {
+    let load = loader.load()?;
+    Ok(open_on(rt, runtime, load)??)
+}
+
+// What was loaded from a place, or why it wasn't.
+fn told<T>(alloc: Global, place: &str, outcome: Result<T, Unloaded>) -> Result<T, Fault> {
+    match outcome {
+        Ok(loaded) => Ok(loaded),
+        Err(Unloaded::Refused(error)) => Err(about(alloc, place, &error)),
+        Err(Unloaded::System(error)) => Err(Fault::System(error)),
     }
 }
 
@@ -114,7 +149,8 @@ pub(crate) fn open<R: Host, T: Transport, K: Keeper>(
     wanted: Wanted<'_>,
 ) -> Result<Repository<T, K, FixedClock>, Fault> {
     let alloc = rt.alloc();
-    let what = String::from_str(alloc, wanted.metadata.as_str())?;
+    let place = String::from_str(alloc, wanted.metadata.as_str())?;
     let loader = loader_of(alloc, transport, keeper, wanted);
-    load_by(rt, runtime, loader, what.as_str())
+    let outcome = load_by(rt, runtime, loader);
+    told(alloc, place.as_str(), outcome)
 }

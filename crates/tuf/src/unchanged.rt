@@ -19,7 +19,7 @@ fn lists<R: Host>(
     files: &[Found],
     place: usize,
 ) -> bool {
-    let mut count = 0;
+    let mut count = 0usize;
     for file in files {
         if file.place == Some(place) {
             let Some(target) = document.targets.get(&file.name) else {
@@ -28,7 +28,7 @@ fn lists<R: Host>(
             if !is_at(alloc, disk, file.path.as_str(), target) {
                 return false;
             }
-            count += 1;
+            count = count.saturating_add(1);
         }
     }
     count == document.targets.len()

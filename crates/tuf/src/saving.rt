@@ -4,14 +4,23 @@ use crate::fault::{Fault, about};
 use std::alloc::{AllocGlobal, Global};
 use std::random::RandomSource;
 use std::sync::Wait;
-use std::time;
-use tough::{Clock, Files, Keeper, LocalRuntime, Prefix, Repository, TargetName, Transport};
+use std::{io, time};
+use tough::{Clock, Error, Files, Keeper, LocalRuntime, Prefix, Repository, TargetName, Transport};
 
 /// The name of a word.
 pub(crate) fn name_of(alloc: Global, word: &str) -> Result<TargetName, Fault> {
     match TargetName::from_str(alloc, word) {
         Ok(name) => Ok(name),
         Err(error) => Err(about(alloc, word, &error)),
+    }
+}
+
+// What became of saving a target.
+fn outcome(alloc: Global, name: &str, done: io::Result<Result<(), Error>>) -> Result<(), Fault> {
+    match done {
+        Ok(Ok(())) => Ok(()),
+        Ok(Err(error)) => Err(about(alloc, name, &error)),
+        Err(error) => Err(Fault::System(error)),
     }
 }
 
@@ -32,9 +41,6 @@ where
     F: Files,
 {
     let saving = repository.save_target(files, name, folder, Prefix::None);
-    match runtime.block_on(rt, saving) {
-        Ok(Ok(())) => Ok(()),
-        Ok(Err(error)) => Err(about(rt.alloc(), name.resolved(), &error)),
-        Err(error) => Err(Fault::System(error)),
-    }
+    let done = runtime.block_on(rt, saving);
+    outcome(rt.alloc(), name.resolved(), done)
 }
