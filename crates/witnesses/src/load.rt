@@ -18,12 +18,10 @@ ghost use Rattle.tough_load.specs.Loading.{Deed, Trail};
 ghost use Rattle.tough_load.specs.Vouching.{Vouches};
 ghost use Rattle.tough_load.specs.Words as part;
 ghost use Rattle.tough_load.specs.declared.load.Load.{Load as LoadDoc};
-ghost use Rattle.tough_client.specs.Opening.{Opens};
 
 use crate::Unmet;
 use std::alloc::AllocGlobal;
 use std::random::RandomSource;
-use tough_client::Repository;
 use tough_load::{Clock, Keeper, Load, RepositoryLoader, drive};
 use tough_net::Transport;
 use tough_roles::Verify;
@@ -73,33 +71,6 @@ where
             }
             Ok(load)
         }
-        _ => Err(Unmet::Input),
-    }
-}
-
-/// Witness of `tough_rising::laws::vault_receipts_rise repository` and `tough_rising::laws::shared_receipts_rise repository`: the load that a
-/// loader makes, which is driven to its end, and the repository that it gives.
-pub fn opened_load<R, T, V, C, K>(
-    rt: &R,
-    loader: RepositoryLoader<'_, T, V, C, K>,
-) -> Result<Repository<T, K, C>, Unmet>
-where
-    R: RandomSource + AllocGlobal,
-    T: Transport,
-    V: Verify + Drop,
-    C: Clock + Drop,
-    K: Keeper,
-    ensures { IfOk result
-        (λ r. (load : LoadDoc T K C V T.Stream K.Receipt) × IsBegun loader.entry load
-        × Opens T.refuses T.serves K.keeps K.reads C.may_give T.Stream.yields V.verifies load
-        (Ok r)) }
-{
-    let load = match loader.load() {
-        Ok(load) => load,
-        Err(_) => return Err(Unmet::Input),
-    };
-    match tough_client::drive(rt, load) {
-        Ok(Ok(repository)) => Ok(repository),
         _ => Err(Unmet::Input),
     }
 }

@@ -86,22 +86,6 @@ fn a_load_ends_with_documents(rt: HostRuntime) -> Result<(), Fail> {
 }
 
 #[test]
-fn a_repository_is_opened(rt: HostRuntime) -> Result<(), Fail> {
-    let alloc = rt.alloc();
-    let files = plain(&rt)?;
-    let mut vault = Vault::new(alloc, MemoryStore::new(alloc));
-    let metadata = Url::parse(alloc, "http://localhost/metadata/")?;
-    let targets = Url::parse(alloc, "http://localhost/targets/")?;
-    let loader = RepositoryLoader::new(alloc, files.root.as_slice(), metadata, targets)
-        .transport(serve(&rt, &files)?)
-        .verifier(DemoVerify)
-        .clock(FixedClock(Timestamp::UNIX_EPOCH))
-        .keeper(&mut vault);
-    drop(load::opened_load(&rt, loader)?);
-    Ok(())
-}
-
-#[test]
 fn steps_are_taken(rt: HostRuntime) -> Result<(), Fail> {
     let alloc = rt.alloc();
     let files = plain(&rt)?;
