@@ -27,4 +27,4 @@ returns-in-Ok-Ok g c =
     (subst (λ k. Untouched memory_files 0 (parts_of k.now)) (sym c.keeper-loader.ensures.given) (untouched-of c.new-vault.result c.new.result c.new-vault.ensures.store c.new-vault.ensures.tip c.new.ensures))
     c.in-Ok-load.ensures.begun c.in-Ok-Ok.ensures.done (subst (λ r. IsFineOutcome (outcome_doc r)) (sym c.in-Ok-Ok.field-0-is) tt) in
     let began = c.honest_loads.ensures h.loader h.load h.ended h.files h.outcome h.begun refl h.untouched h.finishes h.fine in
-    (h, began.0, began.1, began.2 (h.d began.0) (h.able began.0 began.1))
+    (h, (began.0, began.1, began.2 (h.d began.0) (h.able began.0 began.1)))
