@@ -57,11 +57,14 @@ module _ {T K S C Y : Type 0} (refuses : T → Urls → TransportError → Type 
       → Ends refuses serves keeps reads may_give yields v base t None c k o left kept → IsFineOutcome o → BeganAt may_give k.clock (Comes v t c o)
   ends-honest v t c k o left kept fresh untouched h fine =
       let led = h.1.1 in
-      let first = first-moment refuses serves keeps reads may_give yields v base t (pos 0) h.1.0 c k h.0 kept o fresh led h.2 in
-      (first.0, first.1, λ l at.
-          let here = subst (λ (n : ℤ). LoadsAt refuses serves v base t c served n l) (sym at.start) at in
-          let begins = subst (Begins refuses serves keeps reads may_give yields v base t l.known.start) (sym first.2.1) (ap got.Moment (sym at.start)) in
-          ended-at v t c k h.1.0 h.0 kept o fresh untouched l here begins led h.2 fine)
+      let first = first-moment refuses serves keeps reads may_give yields v base t (pos 0) h.1.0 c k h.0 kept o fresh led h.2 in (
+        first.0,
+        first.1,
+        λ l at.
+            let here = subst (λ (n : ℤ). LoadsAt refuses serves v base t c served n l) (sym at.start) at in
+            let begins = subst (Begins refuses serves keeps reads may_give yields v base t l.known.start) (sym first.2.1) (ap got.Moment (sym at.start)) in
+            ended-at v t c k h.1.0 h.0 kept o fresh untouched l here begins led h.2 fine,
+      )
 
   -- the same, where the load's parts are those that were given
   pub begun-honest : {V : Type 0} (w : V → Verifies) (v v' : V) (t t' : T) (c c' : CoreDoc) (k k' : Held K Receipt C) (fetch : Option (Collect Y)) (o : Result LoadedDoc Failure) (left : CoreDoc) (kept : Held K Receipt C)
