@@ -10,7 +10,7 @@ mod get;
 pub mod http;
 mod opening;
 pub mod program;
-mod progress;
+pub mod progress;
 mod report;
 pub mod schema;
 pub mod shared;

@@ -1,5 +1,8 @@
 //! The progress of a target, printed while it is saved.
 
+ghost use Rattle.std.specs.Prelude.{◌≡◌};
+ghost use Rattle.tough.specs.Watching.{files_in};
+
 use std::io::Write;
 use std::time::{Clock, Duration};
 use tough_files::{FileKind, Files, FilesError};
@@ -42,16 +45,19 @@ impl<R: Clock, E: Write> Progress<R, E> {
     }
 }
 
-/// Files that tell how many bytes of a target they have appended, on one line that is written over and over, or tell nothing.
+/// Files that tell how many bytes of a target they have appended, on one line that is written over and over, or tell nothing. As files they are
+/// those that they were made of.
 #[derive(Drop)]
-pub(crate) struct Watched<F, R, E> {
+pub struct Watched<F, R, E> {
     files: F,
     progress: Progress<R, E>,
 }
 
 impl<F, R: Clock, E: Write> Watched<F, R, E> {
-    /// Files to which nothing of the target has been appended yet, whose length in bytes is listed so.
-    pub(crate) fn new(files: F, clock: R, err: Option<E>, length: u64) -> Watched<F, R, E> {
+    /// The files, to which nothing of the target has been appended yet, whose length in bytes is listed so; without `err` they tell nothing.
+    pub fn new(files: F, clock: R, err: Option<E>, length: u64) -> Watched<F, R, E>
+        ensures { files_in result ≡ files }
+    {
         Watched {
             files,
             progress: Progress {
@@ -65,12 +71,16 @@ impl<F, R: Clock, E: Write> Watched<F, R, E> {
     }
 
     /// The files themselves.
-    pub(crate) fn files(&self) -> &F {
+    pub fn files(&self) -> &F
+        ensures { result.now ≡ files_in self.now }
+    {
         &self.files
     }
 
     /// Ends the line, where one was begun.
-    pub(crate) fn finish(&mut self) {
+    pub fn finish(&mut self)
+        ensures { files_in self.new ≡ files_in self.old }
+    {
         if self.progress.last.is_some() {
             if let Some(err) = &mut self.progress.err {
                 let _ = writeln!(
@@ -86,11 +96,11 @@ impl<F, R: Clock, E: Write> Watched<F, R, E> {
 impl<F: Files, R: Clock, E: Write> Files for Watched<F, R, E> {
     ghost tells = { F.tells };
 
-    ghost contents = { λ w. F.contents w.files };
+    ghost contents = { λ w. F.contents (files_in w) };
 
-    ghost calls = { λ w. F.calls w.files };
+    ghost calls = { λ w. F.calls (files_in w) };
 
-    ghost count = { λ w. F.count w.files };
+    ghost count = { λ w. F.count (files_in w) };
 
     fn kind(&mut self, path: &str, follow: bool) -> Result<FileKind, FilesError> {
         self.files.kind(path, follow)

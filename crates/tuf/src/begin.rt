@@ -1,11 +1,12 @@
 //! The edits of a new repository, or of the next version of one.
 
+use crate::delegating::{add_delegated, set_aside};
 use crate::fault::{Fault, about, or_told};
 use crate::files::Disk;
 use crate::host::Host;
 use crate::publish::Publishing;
 use crate::roots::{RootFile, unsigned};
-use crate::shares::{Share, add, identifiers, of_targets};
+use crate::shares::{Share, add, identifiers, of_targets, take};
 use crate::standing::{Standing, standing_in};
 use crate::version::after;
 use std::alloc::Global;
@@ -167,12 +168,23 @@ fn begin_on(
     }
 }
 
-// Adds the roles of the words.
-fn add_roles(alloc: Global, shares: &mut Vec<Share>, words: &[&str]) -> Result<(), Fault> {
-    for word in words {
-        add(alloc, shares, word)?;
+// Adds the roles of the words, and takes in the documents that holders signed.
+fn add_roles<R: Host>(
+    rt: &R,
+    shares: &mut Vec<Share>,
+    words: &Publishing<'_>,
+    aside: Option<NonZeroU64>,
+) -> Result<(), Fault> {
+    for word in words.roles {
+        add(rt.alloc(), shares, word)?;
     }
-    Ok(())
+    for word in words.taken {
+        take(rt, shares, word)?;
+    }
+    match words.delegating {
+        Some(delegating) => add_delegated(rt, shares, delegating, aside),
+        None => Ok(()),
+    }
 }
 
 /// The edits under the newest root, of the repository that stands, from a root that is trusted, or of a new one.
@@ -185,15 +197,16 @@ pub(crate) fn begin<R: Host>(
     signers: &[SigningKey],
 ) -> Result<Begun, Fault> {
     let alloc = rt.alloc();
-    let found = match standing_in(rt, disk, words.repo, trusted) {
+    let mut found = match standing_in(rt, disk, words.repo, trusted) {
         Ok(found) => found,
         Err(fault) => {
             drop(root);
             return Err(fault);
         }
     };
+    let aside = set_aside(&mut found, words);
     let mut begun = begin_on(alloc, root, found, signers)?;
-    match add_roles(alloc, &mut begun.shares, words.roles) {
+    match add_roles(rt, &mut begun.shares, words, aside) {
         Ok(()) => Ok(begun),
         Err(fault) => {
             drop(begun);

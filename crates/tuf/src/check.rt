@@ -5,14 +5,14 @@ use crate::host::Host;
 use crate::load::{Wanted, connect, open, urls_in};
 use crate::nowhere::Nowhere;
 use crate::report::{Form, Object, Report};
-use crate::saving::save;
+use crate::saving::{names, save};
 use crate::{files, when};
 use std::alloc::Global;
 use tough::jiff::Timestamp;
 use tough::schema::{Target, Targets};
 use tough::{
-    Clock, ExpirationEnforcement, Keeper, LocalRuntime, MemoryStore, Repository, TargetName,
-    Transport, Vault,
+    Clock, ExpirationEnforcement, Keeper, LocalRuntime, MemoryStore, Prefix, Repository, Transport,
+    Vault,
 };
 
 /// What is looked for.
@@ -87,18 +87,6 @@ fn add_documents<T, K: Keeper, C>(
     add_roles(alloc, report, targets)
 }
 
-// The names of the targets.
-fn names<T, K: Keeper, C>(
-    alloc: Global,
-    repository: &Repository<T, K, C>,
-) -> Result<Vec<TargetName>, Fault> {
-    let mut names = Vec::new(alloc);
-    for entry in repository.all_targets()? {
-        names.push(entry.0.clone()?)?;
-    }
-    Ok(names)
-}
-
 // Tells how many targets there are.
 fn add_count(alloc: Global, report: &mut Report, count: usize) -> Result<(), Fault> {
     let words = format!(in alloc; "{count} targets, each as listed\n")?;
@@ -123,7 +111,15 @@ where
     let names = names(alloc, repository)?;
     let mut nowhere = Nowhere::new(alloc);
     for name in &names {
-        save(rt, runtime, repository, &mut nowhere, name, "/")?;
+        save(
+            rt,
+            runtime,
+            repository,
+            &mut nowhere,
+            name,
+            "/",
+            Prefix::None,
+        )?;
     }
     add_count(alloc, report, names.len())
 }

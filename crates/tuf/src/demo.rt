@@ -3,7 +3,7 @@
 use crate::check::{Look, Looking};
 use crate::fault::{Fault, refused};
 use crate::files::{self, canonical};
-use crate::get::{Fetching, get};
+use crate::get::{Fetching, Wish, get};
 use crate::host::Host;
 use crate::publish::{Publishing, publish};
 use crate::refresh::{Refreshing, refresh};
@@ -145,6 +145,8 @@ fn publish_files<R: Host>(stage: &Stage<'_, R>) -> Result<(), Fault> {
         roles: &["packages=packages/*"],
         role_keys: role_keys.as_slice(),
         expires: &[],
+        taken: &[],
+        delegating: None,
     };
     drop(publish(stage.rt, &words)?);
     Ok(())
@@ -174,6 +176,7 @@ fn fetch<R: Host>(stage: &Stage<'_, R>) -> Result<String, Fault> {
     let (root, store) = (stage.at("root.json")?, stage.at("client/store")?);
     let out = stage.at("client/files")?;
     let words = Fetching {
+        wish: Wish::Targets,
         root: root.as_str(),
         metadata: metadata.as_str(),
         targets: targets.as_str(),
@@ -182,7 +185,7 @@ fn fetch<R: Host>(stage: &Stage<'_, R>) -> Result<String, Fault> {
         names: &[APP],
         form: Form::Words,
     };
-    get(stage.rt, &words)
+    get(stage.rt, &words, None)
 }
 
 // Saves a target, and says what it has.

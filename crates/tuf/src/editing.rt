@@ -1,23 +1,25 @@
 //! The documents of the next version are edited and signed.
 
 use crate::begin::{Begun, Versions};
-use crate::expiry;
 use crate::fault::{Fault, or_told};
 use crate::files::Disk;
 use crate::found::Found;
 use crate::host::Host;
-use crate::keys::{public_of, read_signer, read_signers};
-use crate::publish::Publishing;
+use crate::keys::{identifier, public_of, read_public, read_signer, read_signers};
+use crate::publish::{Delegating, Publishing};
 use crate::putting::measure;
 use crate::roots::listed;
 use crate::shares::{Holder, Share};
 use crate::unchanged::stays;
+use crate::{expiry, taken};
 use std::alloc::Global;
+use std::collections::BTreeMap;
 use std::num::NonZeroU64;
 use tough::editor::RepositoryEdits;
 use tough::editor::signed::SignedRepository;
 use tough::jiff::Timestamp;
-use tough::schema::{RoleType, Root};
+use tough::schema::decoded::{Decoded, Hex};
+use tough::schema::{Key, RoleType, Root, Signed, Targets};
 use tough_signatures::SigningKey;
 
 // The files of the keys that are named for the role.
@@ -111,6 +113,60 @@ fn delegate<R: Host>(
     or_told(alloc, name, done)
 }
 
+// Keys under their identifiers, and these in the order in which a role lists them.
+#[derive(Drop)]
+struct RoleKeys {
+    keys: BTreeMap<Decoded<Hex>, Key>,
+    ids: Vec<Decoded<Hex>>,
+}
+
+// The keys of the files.
+fn keys_of<R: Host>(rt: &R, paths: &[&str]) -> Result<RoleKeys, Fault> {
+    let alloc = rt.alloc();
+    let (mut keys, mut ids) = (BTreeMap::new(alloc), Vec::new(alloc));
+    for path in paths {
+        let key = read_public(rt, path)?;
+        let id = identifier(alloc, &key)?;
+        if !ids.contains(&id) {
+            ids.push(id.clone()?)?;
+        }
+        drop(keys.insert(id, key)?);
+    }
+    Ok(RoleKeys { keys, ids })
+}
+
+// Delegates to a new role, whose document its holders signed.
+fn delegate_taken<R: Host>(
+    rt: &R,
+    edits: &mut RepositoryEdits,
+    share: &Share,
+    document: &Signed<Targets>,
+    words: &Delegating<'_>,
+) -> Result<(), Fault> {
+    let (alloc, name) = (rt.alloc(), share.name.as_str());
+    let RoleKeys { keys, ids } = keys_of(rt, words.keys)?;
+    let paths = share.paths.clone()?;
+    let document = taken::named(alloc, name, document)?;
+    let ends = words.terminating;
+    let done = edits.delegate_document(document, paths, ends, keys, ids, words.threshold);
+    or_told(alloc, name, done)
+}
+
+// Delegates to a new role, which signers at hand sign, or its holders signed.
+fn add_role<R: Host>(
+    rt: &R,
+    words: &Publishing<'_>,
+    edits: &mut RepositoryEdits,
+    share: &Share,
+) -> Result<(), Fault> {
+    match (&share.given, words.delegating) {
+        (Some(document), Some(delegating)) => {
+            delegate_taken(rt, edits, share, document, delegating)
+        }
+        _ => delegate(rt, words, edits, share),
+    }
+}
+
 // Edits the targets' own document: its files, and its new roles.
 fn edit_targets<R: Host>(
     rt: &R,
@@ -127,7 +183,7 @@ fn edit_targets<R: Host>(
     list(alloc, disk, edits, files, None)?;
     for share in shares {
         if share.holder == Holder::New {
-            delegate(rt, words, edits, share)?;
+            add_role(rt, words, edits, share)?;
         }
     }
     Ok(())
@@ -151,7 +207,7 @@ fn edit_role<R: Host>(
     list(alloc, disk, edits, files, Some(place))
 }
 
-// Edits and signs the document of a delegated role, where it changes and its keys are at hand.
+// Edits and signs the document of a delegated role, where it changes and its keys are at hand, or takes in the one that its holders signed.
 fn sign_role<R: Host>(
     rt: &R,
     disk: &mut Disk<R>,
@@ -163,6 +219,12 @@ fn sign_role<R: Host>(
     share: &Share,
 ) -> Result<(), Fault> {
     let (alloc, name) = (rt.alloc(), share.name.as_str());
+    if let Some(document) = &share.given {
+        if taken::is_delegated(share) {
+            return Ok(());
+        }
+        return taken::replace(alloc, edits, share, document);
+    }
     let version = match share.holder {
         Holder::Others => return Ok(()),
         Holder::New => NonZeroU64::MIN,
@@ -207,6 +269,7 @@ fn edit<R: Host>(
     for (place, share) in shares.iter().enumerate() {
         sign_role(rt, disk, words, edits, files, signers, place, share)?;
     }
+    taken::verify_all(alloc, edits, shares)?;
     set_heads(rt, words, edits, versions)
 }
 

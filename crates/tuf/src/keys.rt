@@ -51,8 +51,8 @@ pub(crate) fn make<R: Host>(rt: &R, scheme: Scheme) -> Result<SigningKey, Fault>
     }
 }
 
-// The path that a word names: `-` is standard input.
-fn path_of(word: &str) -> &str {
+/// The path that a word names: `-` is standard input.
+pub(crate) fn path_of(word: &str) -> &str {
     if word == "-" { "/dev/stdin" } else { word }
 }
 

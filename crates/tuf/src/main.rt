@@ -8,6 +8,7 @@
 mod begin;
 mod chain;
 mod check;
+mod delegating;
 mod demo;
 mod editing;
 mod expiry;
@@ -20,11 +21,13 @@ mod kept;
 mod key;
 mod keys;
 mod load;
+mod mirror;
 mod nowhere;
 mod publish;
 mod putting;
 mod refresh;
 mod report;
+mod role;
 mod root;
 mod root_edit;
 mod root_sign;
@@ -33,6 +36,7 @@ mod saving;
 mod shares;
 mod standing;
 mod synced;
+mod taken;
 mod unchanged;
 mod verbs;
 mod version;
@@ -42,6 +46,7 @@ mod writing;
 
 use crate::fault::Fault;
 use clap::error::ErrorKind;
+use std::io::IsTerminal;
 use std::process::ExitCode;
 use std::{env, io};
 
@@ -63,8 +68,14 @@ fn main(rt: HostRuntime) -> io::Result<ExitCode> {
     let alloc = rt.alloc();
     let given: Vec<String> = env::args(&rt)?.collect(alloc)?;
     let command = words::command(alloc)?;
+    let stderr = rt.stderr();
+    let err = if stderr.is_terminal() {
+        Some(&stderr)
+    } else {
+        None
+    };
     match command.try_get_matches_from(given.as_slice()) {
-        Ok(matches) => tell(&rt, verbs::run(&rt, &matches)),
+        Ok(matches) => tell(&rt, verbs::run(&rt, &matches, err)),
         Err(error) if error.kind() == ErrorKind::OutOfMemory => tell(&rt, Err(Fault::Memory)),
         Err(error) => {
             error.print(&rt)?;

@@ -11,10 +11,28 @@ use crate::keys::{read_signer, read_signers};
 use crate::putting::put_all;
 use crate::roots::RootFile;
 use crate::shares::{Holder, Share, owner};
-use crate::writing;
+use crate::{taken, writing};
 use std::alloc::Global;
+use std::num::NonZeroU64;
 use tough::editor::signed::SignedRepository;
 use tough_signatures::SigningKey;
+
+/// A role whose keys others hold, and to which the targets are to delegate.
+#[derive(Drop)]
+pub(crate) struct Delegating<'a> {
+    /// Its name.
+    pub(crate) name: &'a str,
+    /// What it may list.
+    pub(crate) paths: &'a [&'a str],
+    /// The files of its public keys.
+    pub(crate) keys: &'a [&'a str],
+    /// How many of them must sign.
+    pub(crate) threshold: NonZeroU64,
+    /// Whether the search ends with it for the names that it may list.
+    pub(crate) terminating: bool,
+    /// The file of the document that its holders signed.
+    pub(crate) file: &'a str,
+}
 
 /// What is published, and by whom.
 #[derive(Drop)]
@@ -33,6 +51,10 @@ pub(crate) struct Publishing<'a> {
     pub(crate) role_keys: &'a [&'a str],
     /// ROLE=WHEN: when documents expire.
     pub(crate) expires: &'a [&'a str],
+    /// ROLE=FILE: documents that the roles' holders signed.
+    pub(crate) taken: &'a [&'a str],
+    /// A role that is delegated to.
+    pub(crate) delegating: Option<&'a Delegating<'a>>,
 }
 
 // All the keys at hand.
@@ -52,18 +74,23 @@ fn left_out(alloc: Global, path: &str, why: &str) -> Result<String, Fault> {
     Ok(format!(in alloc; "left out {path}: {why}\n")?)
 }
 
-// Why the file isn't published, if a role lists it whose keys aren't at hand.
+// Why the file isn't published, if it is one of a role that others sign, whose document doesn't list it.
 fn reason(alloc: Global, shares: &[Share], file: &Found) -> Result<Option<String>, Fault> {
     let Some(place) = file.place else {
         return Ok(None);
     };
-    match shares.get(place) {
-        Some(share) if share.holder == Holder::Others => {
-            let why = format!(in alloc; "the keys of role {} aren't here", share.name)?;
-            Ok(Some(left_out(alloc, file.path.as_str(), why.as_str())?))
+    let Some(share) = shares.get(place) else {
+        return Ok(None);
+    };
+    let why = match &share.given {
+        Some(document) if document.signed.targets.contains_key(&file.name) => return Ok(None),
+        Some(_) => format!(in alloc; "the document of role {} doesn't list it", share.name)?,
+        None if share.holder == Holder::Others => {
+            format!(in alloc; "the keys of role {} aren't here", share.name)?
         }
-        _ => Ok(None),
-    }
+        None => return Ok(None),
+    };
+    Ok(Some(left_out(alloc, file.path.as_str(), why.as_str())?))
 }
 
 // The files that are published, and the lines of the others.
@@ -136,6 +163,18 @@ fn sign_and_write<R: Host>(
     done
 }
 
+// Checks that the files are at hand which documents list that are taken in.
+fn check_taken<R: Host>(
+    alloc: Global,
+    disk: &mut Disk<R>,
+    words: &Publishing<'_>,
+    begun: &Begun,
+) -> Result<(), Fault> {
+    let consistent = begun.edits.root().signed().signed.consistent_snapshot;
+    let shares = begun.shares.as_slice();
+    taken::check_files(alloc, disk, words.targets, words.repo, shares, consistent)
+}
+
 // Publishes under the newest root, and the ones before it.
 fn publish_under<R: Host>(
     rt: &R,
@@ -150,6 +189,7 @@ fn publish_under<R: Host>(
     let signers = signers.as_slice();
     let listing = find(alloc, &mut disk, words.targets)?;
     let begun = begin(rt, &mut disk, words, root, trusted, signers)?;
+    check_taken(alloc, &mut disk, words, &begun)?;
     let (files, left) = chosen(alloc, listing, &begun.shares)?;
     let files = files.as_slice();
     let told = sign_and_write(rt, &mut disk, words, begun, files, signers, earlier)?;

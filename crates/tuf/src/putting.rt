@@ -41,8 +41,8 @@ pub(crate) fn is_at<R: Host>(
     }
 }
 
-// Where the file of a target stands: with consistent snapshots its digest is before its name (TUF specification 1.0, section 6.2).
-fn place(
+/// Where the file of a target stands: with consistent snapshots its digest is before its name (TUF specification 1.0, section 6.2).
+pub(crate) fn place(
     alloc: Global,
     repo: &str,
     name: &str,

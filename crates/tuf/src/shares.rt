@@ -1,19 +1,23 @@
 //! Delegated roles, and which of them lists a file.
 
 use crate::fault::{Fault, about, misspelt, refused};
+use crate::host::Host;
 use crate::keys::{identifier, public_of};
 use crate::roots::ROLES;
+use crate::taken;
 use crate::version::after;
 use std::alloc::Global;
 use std::num::NonZeroU64;
 use tough::TargetName;
 use tough::schema::decoded::{Decoded, Hex};
-use tough::schema::{DelegatedRole, PathPattern, PathSet, Targets};
+use tough::schema::{DelegatedRole, PathPattern, PathSet, Signed, Targets};
 use tough_signatures::SigningKey;
 
 const RESERVED: &str = "no name for a delegated role; take another one";
 
 const OTHER_PATHS: &str = "the role stands with other paths, which `tuf publish` doesn't change";
+
+const NO_ROLE: &str = "the targets delegate to no such role; `tuf delegate` has them do so";
 
 /// Who signs the document of a delegated role.
 #[derive(Clone, Copy, Drop, PartialEq, Eq)]
@@ -32,6 +36,10 @@ pub(crate) struct Share {
     pub(crate) name: String,
     pub(crate) paths: PathSet,
     pub(crate) holder: Holder,
+    /// The version of its document that stands.
+    pub(crate) version: Option<NonZeroU64>,
+    /// The document that its holders signed, which is taken in.
+    pub(crate) given: Option<Signed<Targets>>,
 }
 
 /// The identifiers of the signers' keys.
@@ -66,6 +74,14 @@ fn holder_of(alloc: Global, role: &DelegatedRole, ids: &[Decoded<Hex>]) -> Resul
     }
 }
 
+// The version of the role's document that stands.
+fn version_of(role: &DelegatedRole) -> Option<NonZeroU64> {
+    match &role.targets {
+        Some(document) => Some(document.signed.targets.version),
+        None => None,
+    }
+}
+
 /// The roles that the targets delegate to.
 pub(crate) fn of_targets(
     alloc: Global,
@@ -81,13 +97,15 @@ pub(crate) fn of_targets(
             name: role.name.clone()?,
             paths: role.paths.clone()?,
             holder: holder_of(alloc, role, ids)?,
+            version: version_of(role),
+            given: None,
         })?;
     }
     Ok(shares)
 }
 
-// Refuses a name that a role of the root has.
-fn check_name(alloc: Global, name: &str) -> Result<(), Fault> {
+/// Refuses a name that a role of the root has.
+pub(crate) fn check_name(alloc: Global, name: &str) -> Result<(), Fault> {
     if name.is_empty() || ROLES.iter().any(|role| role.name() == name) {
         return Err(refused(alloc, name, RESERVED));
     }
@@ -142,7 +160,22 @@ pub(crate) fn add(alloc: Global, shares: &mut Vec<Share>, word: &str) -> Result<
         name: String::from_str(alloc, name)?,
         paths: PathSet::Paths(patterns),
         holder: Holder::New,
+        version: None,
+        given: None,
     })?;
+    Ok(())
+}
+
+/// Has the role of a word, ROLE=FILE, take in the document of the file.
+pub(crate) fn take<R: Host>(rt: &R, shares: &mut Vec<Share>, word: &str) -> Result<(), Fault> {
+    let alloc = rt.alloc();
+    let Some((name, path)) = word.split_once('=') else {
+        return Err(misspelt(alloc, word, "ROLE=FILE"));
+    };
+    let Some(share) = shares.iter_mut().find(|share| share.name.as_str() == name) else {
+        return Err(refused(alloc, name, NO_ROLE));
+    };
+    share.given = Some(taken::read(rt, path, share.version)?);
     Ok(())
 }
 

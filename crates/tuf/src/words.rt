@@ -168,13 +168,9 @@ fn root<'a>(alloc: Global) -> Result<Command<'a>, AllocError> {
         .subcommand(root_show(alloc)?)
 }
 
-fn publish<'a>(alloc: Global) -> Result<Command<'a>, AllocError> {
-    verb(
-        alloc,
-        "publish",
-        "Makes a repository of the files of a folder, or its next version",
-    )
-    .arg(several(
+// What is published, and by whom.
+fn published<'a>(alloc: Global, verb: Command<'a>) -> Result<Command<'a>, AllocError> {
+    verb.arg(several(
         alloc,
         "root",
         "ROOT",
@@ -204,10 +200,82 @@ fn publish<'a>(alloc: Global) -> Result<Command<'a>, AllocError> {
     ))?
     .arg(several(
         alloc,
+        "take",
+        "ROLE=FILE",
+        "Takes in a document that a role's holders signed by `tuf role sign`",
+    ))?
+    .arg(several(
+        alloc,
         "expires",
         "ROLE=WHEN",
         "When a document expires; else the timestamp in 7 days, the others in 30",
     ))
+}
+
+fn publish<'a>(alloc: Global) -> Result<Command<'a>, AllocError> {
+    let verb = verb(
+        alloc,
+        "publish",
+        "Makes a repository of the files of a folder, or its next version",
+    );
+    published(alloc, verb)
+}
+
+fn delegate<'a>(alloc: Global) -> Result<Command<'a>, AllocError> {
+    let verb = verb(
+        alloc,
+        "delegate",
+        "Delegates to a role whose keys others hold, or replaces its keys, and publishes",
+    )
+    .arg(word(alloc, "ROLE", "The name of the role"))?
+    .arg(needed(
+        alloc,
+        "file",
+        "FILE",
+        "Its document, which its holders signed by `tuf role sign`",
+    ))?
+    .arg(several(alloc, "path", "PATTERN", "Which names it may list").required(true))?
+    .arg(several(alloc, "holder-key", "FILE", "A public key of a holder").required(true))?
+    .arg(option(alloc, "threshold", "N", "How many holders must sign").default_value("1"))?
+    .arg(flag(
+        alloc,
+        "terminating",
+        "End the search for the names that it may list with it",
+    ))?;
+    published(alloc, verb)
+}
+
+fn role_sign<'a>(alloc: Global) -> Result<Command<'a>, AllocError> {
+    verb(
+        alloc,
+        "sign",
+        "Makes the next document of a delegated role, or adds signatures to it",
+    )
+    .arg(word(alloc, "ROLE", "The name of the role"))?
+    .arg(needed(alloc, "file", "FILE", "The file of its document"))?
+    .arg(several(
+        alloc,
+        "key",
+        "FILE",
+        "A secret that signs; - for standard input",
+    )
+    .required(true))?
+    .arg(option(
+        alloc,
+        "targets",
+        "DIR",
+        "The folder of its files, which the next document lists; else signatures are added",
+    ))?
+    .arg(option(alloc, "expires", "WHEN", "When it expires; else in 30 days"))
+}
+
+fn role<'a>(alloc: Global) -> Result<Command<'a>, AllocError> {
+    group(
+        alloc,
+        "role",
+        "Signs documents of delegated roles, without the repository",
+    )
+    .subcommand(role_sign(alloc)?)
 }
 
 fn refresh<'a>(alloc: Global) -> Result<Command<'a>, AllocError> {
@@ -263,10 +331,9 @@ fn list<'a>(alloc: Global) -> Result<Command<'a>, AllocError> {
     .arg(json(alloc))
 }
 
-fn get<'a>(alloc: Global) -> Result<Command<'a>, AllocError> {
-    Command::new(alloc, "get")
-        .about("Loads a repository, and saves targets; a file that is current stays")
-        .arg(needed(alloc, "root", "ROOT", "The root that is trusted"))?
+// From where a repository is loaded, and what is trusted.
+fn loaded<'a>(alloc: Global, verb: Command<'a>) -> Result<Command<'a>, AllocError> {
+    verb.arg(needed(alloc, "root", "ROOT", "The root that is trusted"))?
         .arg(needed(
             alloc,
             "metadata",
@@ -279,10 +346,24 @@ fn get<'a>(alloc: Global) -> Result<Command<'a>, AllocError> {
             "store",
             "DIR",
             "The folder that keeps what was accepted; one for each repository",
-        ))?
+        ))
+}
+
+fn get<'a>(alloc: Global) -> Result<Command<'a>, AllocError> {
+    let verb = Command::new(alloc, "get").about(
+        "Loads a repository, and saves targets; a file that is current stays",
+    );
+    loaded(alloc, verb)?
         .arg(needed(alloc, "out", "DIR", "The folder of the files"))?
         .arg(words(alloc, "NAME", "The names of the targets"))?
         .arg(json(alloc))
+}
+
+fn mirror<'a>(alloc: Global) -> Result<Command<'a>, AllocError> {
+    let verb = Command::new(alloc, "mirror").about(
+        "Loads a repository, and copies all of it into a folder for other clients",
+    );
+    loaded(alloc, verb)?.arg(needed(alloc, "repo", "DIR", "The folder of the copy"))
 }
 
 fn demo<'a>(alloc: Global) -> Result<Command<'a>, AllocError> {
@@ -298,10 +379,13 @@ pub(crate) fn command<'a>(alloc: Global) -> Result<Command<'a>, AllocError> {
         .subcommand(key(alloc)?)?
         .subcommand(root(alloc)?)?
         .subcommand(publish(alloc)?)?
+        .subcommand(delegate(alloc)?)?
+        .subcommand(role(alloc)?)?
         .subcommand(refresh(alloc)?)?
         .subcommand(check(alloc)?)?
         .subcommand(list(alloc)?)?
         .subcommand(get(alloc)?)?
+        .subcommand(mirror(alloc)?)?
         .subcommand(demo(alloc)?)
 }
 
