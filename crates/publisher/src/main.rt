@@ -13,11 +13,10 @@ use std::num::NonZeroU64;
 use std::process::ExitCode;
 use std::{env, fs};
 use tough::editor::RepositoryEditor;
-use tough::editor::signed::{PathExists, SignedRepository, TargetFiles};
+use tough::editor::signed::{PathExists, SignedRepository, TargetFiles, replace_repository};
 use tough::jiff::Timestamp;
 use tough::schema::{DemoSign, Key, PathPattern, PathSet, Target};
 use tough::{Files, FilesystemTransport, OsFiles};
-use tough_replace::replace_repository;
 
 const USAGE: &str = "usage: publisher ROOT KEYS TARGETSDIR OUTDIR [ROLE]";
 

@@ -3,11 +3,11 @@
 pub mod decoded;
 pub mod key;
 
-pub use tough_base::{
-    Compat, Decode, DecodeError, Decoded, EcdsaFlex, EcdsaPem, Encode, Hex, PathHashPrefix,
-    PathPattern, PatternError, RsaPem,
+pub use tough_decoded::{
+    Compat, Decode, DecodeError, Decoded, EcdsaFlex, EcdsaPem, Encode, Hex, RsaPem,
 };
 pub use tough_json::Form;
+pub use tough_names::{PathHashPrefix, PathPattern, PatternError};
 pub use tough_net::{FilesystemTransport, Transport};
 pub use tough_schema::{
     CjsonError, DelegatedRole, DelegatedTargets, Delegations, DemoSign, DemoVerify, EcdsaKey,

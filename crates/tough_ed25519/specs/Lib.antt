@@ -1,3 +1,13 @@
+pub mod Bytes
+pub mod Field
+pub mod Limbs
+pub mod Sums
+pub mod Words
+pub mod Order
+pub mod Curve
+pub mod Coding
+pub mod Check
+pub mod CurveVectors
 pub mod Signatures
 pub mod Secrets
 pub mod Vectors

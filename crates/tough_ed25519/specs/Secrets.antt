@@ -1,10 +1,10 @@
 -- The key of a secret of 32 bytes, and its signatures (RFC 8032, 5.1.5 and 5.1.6).
 use Rattle.std.specs.Prelude.{ℕ, ◌+◌, ◌*◌, ◌/◌, ◌%◌, ◌^◌, List, ◌++◌, take, drop}
 use Rattle.sha2.specs.Sha512.{sha512}
-use Rattle.tough_field.specs.Bytes.{bytes_number, number_bytes}
-use Rattle.tough_scalar.specs.Order.{order}
-use Rattle.tough_curve.specs.Curve.{base, multiple}
-use Rattle.tough_curve.specs.Coding.{encode}
+use Rattle.tough_ed25519.specs.Bytes.{bytes_number, number_bytes}
+use Rattle.tough_ed25519.specs.Order.{order}
+use Rattle.tough_ed25519.specs.Curve.{base, multiple}
+use Rattle.tough_ed25519.specs.Coding.{encode}
 use Rattle.tough_ed25519.specs.Signatures.{challenge}
 
 -- the lowest three bits are cleared, and so is the highest; the second highest is set (5.1.5, 2)

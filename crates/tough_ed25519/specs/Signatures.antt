@@ -1,9 +1,9 @@
 -- Which signatures verify (RFC 8032, 5.1.7).
 use Rattle.std.specs.Prelude.{ℕ, ◌%◌, Bool, ◌&&◌, nat_eq, List, ◌++◌, length, take, drop}
 use Rattle.sha2.specs.Sha512.{sha512}
-use Rattle.tough_field.specs.Bytes.{bytes_number}
-use Rattle.tough_scalar.specs.Order.{order}
-use Rattle.tough_curve.specs.Check.{checks}
+use Rattle.tough_ed25519.specs.Bytes.{bytes_number}
+use Rattle.tough_ed25519.specs.Order.{order}
+use Rattle.tough_ed25519.specs.Check.{checks}
 
 -- k: the hash of R, the key and the message, modulo L
 abbrev pub challenge : List ℕ → List ℕ → List ℕ → ℕ

@@ -3,9 +3,12 @@
 //! Not promised: that nobody without the secret can sign, and that the signer's time and memory tell nothing of the secret.
 #![tactic(auto)]
 
+pub mod curve;
+pub mod field;
 mod keys;
 mod kinds;
 pub mod laws;
+pub mod scalar;
 mod secret;
 mod signature;
 

@@ -2,14 +2,14 @@
 
 ghost use Rattle.std.specs.Prelude.{◌≡◌, ◌++◌};
 ghost use Rattle.sha2.specs.Sha512.{sha512};
-ghost use Rattle.tough_field.specs.Words.{words_number};
+ghost use Rattle.tough_ed25519.specs.Words.{words_number};
 ghost use Rattle.tough_ed25519.specs.Secrets.{prune, scalar_at, key_at, key_of, nonce_at, first_half, second_half, signature_at, signature_of};
 
+use crate::curve::Point;
+use crate::field::Words;
+use crate::scalar::Scalar;
 use crate::signature::challenge;
 use sha2::{Digest, Sha512};
-use tough_curve::Point;
-use tough_field::Words;
-use tough_scalar::Scalar;
 
 // The hash of the secret, whose halves give its scalar and its nonces.
 fn hash(secret: &[u8; 32]) -> [u8; 64]

@@ -3,10 +3,10 @@
 ghost use Rattle.std.specs.Prelude.{◌≡◌, length, take, drop};
 ghost use Rattle.tough_ed25519.specs.Signatures.{challenge, halves_match, is_signature};
 
+use crate::curve::check;
+use crate::field::Words;
+use crate::scalar::Scalar;
 use sha2::{Digest, Sha512};
-use tough_curve::check;
-use tough_field::Words;
-use tough_scalar::Scalar;
 
 /// The hash of the signature's first half, the key and the message, modulo L.
 pub fn challenge(r: &[u8], key: &[u8], message: &[u8]) -> Scalar

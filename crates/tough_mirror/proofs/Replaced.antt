@@ -5,7 +5,7 @@ use Rattle.std.specs.Path.{path_join}
 use Rattle.std.specs.Str.{bytes_eq}
 use Rattle.tough_files.proofs.Following.{stays}
 use Rattle.tough_files.specs.Contents.{Contents, Node, file, folder, link, followed, is_base, node_at, past_link}
-use Rattle.tough_replace.specs.Replacing.{AreReplaced, FileDoc, IsPut}
+use Rattle.tough_write.specs.Replacing.{AreReplaced, FileDoc, IsPut}
 use Rattle.tough_write.specs.Filling.{HasNoLink, content_at, file_bytes, is_link, last_at}
 
 past_plain : (there : Option Node) (path : List ℕ) → is_link there ≡ false → (go : List ℕ → List ℕ) → past_link there go path ≡ path

@@ -2,7 +2,7 @@
 use Rattle.std.proofs.Common.{◌≡◌, ℕ, Bool, true, false, cond, List, [], ◌∷◌, ◌++◌, Option, Some, None, refl, ap, ◌∙◌}
 use Rattle.std.specs.List.{AllByRecursion}
 use Rattle.std.specs.Map.{lookup}
-use Rattle.tough_replace.specs.Ordering.{timestamp_last}
+use Rattle.tough_write.specs.Ordering.{timestamp_last}
 use Rattle.tough_write.specs.Writing.{FileDoc}
 
 all-append : (P : FileDoc → Type 0) (xs ys : List FileDoc) → AllByRecursion P xs → AllByRecursion P ys → AllByRecursion P (xs ++ ys)

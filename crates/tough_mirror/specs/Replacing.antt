@@ -11,7 +11,7 @@ use Rattle.tough_update.specs.Questions.{Fetch}
 use Rattle.tough_update.specs.Runs.{run}
 use Rattle.tough_update.specs.Stages.{CoreDoc}
 use Rattle.tough_write.specs.Filling.{HasNoLink}
-use Rattle.tough_replace.specs.Replacing.{FileDoc, IsNoTemporary, IsNoneOf}
+use Rattle.tough_write.specs.Replacing.{FileDoc, IsNoTemporary, IsNoneOf}
 use Rattle.tough_mirror.specs.Folder.{files_in}
 
 -- The file of this name stands in the folder as a version has it, at a path without a link, which none of the others that are replaced has.

@@ -9,8 +9,8 @@ ghost use Rattle.tough_update.specs.Stages.{CoreDoc, LoadedDoc};
 ghost use Rattle.tough_honest.specs.Loads.{ServesAll, Lent, BeganAt};
 ghost use Rattle.tough_honest.specs.Serves.{ServesName};
 ghost use Rattle.tough_write.specs.Filling.{ReadsBack};
-ghost use Rattle.tough_replace.specs.Replacing.{AreReplaced, FileDoc, StopsAmong};
-ghost use Rattle.tough_replace.specs.declared.replace.ReplaceError.{ReplaceError};
+ghost use Rattle.tough_write.specs.Replacing.{AreReplaced, FileDoc, StopsAmong};
+ghost use Rattle.tough_write.specs.declared.replace.ReplaceError.{ReplaceError};
 ghost use Rattle.tough_mirror.specs.Folder.{files_in, IsFree};
 ghost use Rattle.tough_mirror.specs.Replacing.{VersionStands};
 ghost use Rattle.tough_sign.specs.Making.{SignWell};
@@ -29,7 +29,7 @@ ghost use Rattle.tough_release.specs.Release.{IsReleased};
 ghost use Rattle.tough_release.specs.declared.repository.SignedRepository.{SignedRepository};
 ghost use Rattle.tough_round.specs.Files.{loaded_of};
 ghost use Rattle.tough_round.specs.Loading.{MayLoad};
-ghost use Rattle.tough_replace.specs.Ordering.{replaced_files};
+ghost use Rattle.tough_write.specs.Ordering.{replaced_files};
 
 use crate::laws::files_are_the_same;
 use tough_keys::Sign;
@@ -48,7 +48,7 @@ pub fn stopped_serves<T: Transport>()
         → ((name : List ℕ) → ServesName T.refuses T.serves t base name (files_in folder after name))
         → ServesAll T.refuses T.serves verifies base t c files now }
 {
-    tough_replace::laws::stopped_keeps();
+    tough_write::replace::laws::stopped_keeps();
 }
 
 /// Once files were replaced in a folder, each holds exactly its bytes; of two of one name it is the later one. A file at any other path holds

@@ -8,3 +8,6 @@ mod Listings
 mod Walked
 mod Named
 mod Differing
+pub mod Replaced
+pub mod Standing
+pub mod Ordered

@@ -7,3 +7,5 @@ pub mod Listed
 pub mod Putting
 pub mod Walking
 pub mod Wide
+pub mod Replacing
+pub mod Ordering

@@ -1,21 +1,17 @@
 //! Keys of files: secrets that sign, and public keys.
 
-use crate::fault::{Fault, about, refused};
+use crate::fault::{Fault, about, or_told, refused};
 use crate::files;
 use crate::host::Host;
 use std::alloc::Global;
-use std::random::RandomSource;
 use std::str;
 use tough::schema::decoded::{Decoded, Hex};
 use tough::schema::{Key, Sign};
-use tough_signatures::{SecretError, SigningKey, public_key};
+use tough_signatures::{SecretError, SigningKey, new_ecdsa, new_ed25519, public_key};
 
 const NO_SECRET: &str = "no secret key of Ed25519 or P-256 in PKCS #8, as `tuf key new` writes";
 
 const NO_KEY: &str = "no key: neither a secret, nor a public key in PEM, nor 64 hexadecimal digits";
-
-// How many secrets of P-256 are tried: one in 2^32 is out of range.
-const TRIES: u32 = 16;
 
 /// The schemes by which new keys sign.
 #[derive(Clone, Copy, Drop)]
@@ -24,31 +20,14 @@ pub(crate) enum Scheme {
     EcdsaP256,
 }
 
-// 32 bytes of the system's randomness.
-fn secret<R: Host>(rt: &R) -> Result<[u8; 32], Fault> {
-    let mut bytes = [0; 32];
-    rt.fill_bytes(&mut bytes)?;
-    Ok(bytes)
-}
-
 /// A new key that signs by the scheme.
 pub(crate) fn make<R: Host>(rt: &R, scheme: Scheme) -> Result<SigningKey, Fault> {
     let alloc = rt.alloc();
-    match scheme {
-        Scheme::Ed25519 => Ok(SigningKey::ed25519(alloc, &secret(rt)?)?),
-        Scheme::EcdsaP256 => {
-            for _ in 0..TRIES {
-                if let Some(key) = SigningKey::ecdsa(alloc, &secret(rt)?)? {
-                    return Ok(key);
-                }
-            }
-            Err(refused(
-                alloc,
-                "ecdsa-p256",
-                "the system's randomness gave no secret",
-            ))
-        }
-    }
+    let made = match scheme {
+        Scheme::Ed25519 => new_ed25519(alloc, rt),
+        Scheme::EcdsaP256 => new_ecdsa(alloc, rt),
+    };
+    or_told(alloc, "key", made)
 }
 
 /// The path that a word names: `-` is standard input.

@@ -9,10 +9,9 @@ use crate::standing::{Standing, standing_in};
 use crate::version::after;
 use crate::{expiry, files, when, writing};
 use std::alloc::Global;
-use tough::editor::signed::SignedRole;
+use tough::editor::signed::{NewFile, SignedRole};
 use tough::jiff::Timestamp as Instant;
 use tough::schema::{KeyHolder, Timestamp};
-use tough_replace::NewFile;
 use tough_signatures::SigningKey;
 
 const NOTHING: &str = "no repository stands there; make one by `tuf publish`";

@@ -8,9 +8,10 @@ use crate::synced::Synced;
 use std::alloc::Global;
 use std::io::ErrorKind;
 use std::{fs, slice};
-use tough::editor::signed::SignedRepository;
+use tough::editor::signed::{
+    NewFile, ReplaceError, SignedRepository, replace_files, replace_repository,
+};
 use tough::schema::{Root, Signed};
-use tough_replace::{NewFile, ReplaceError, replace_files, replace_repository};
 
 /// The name of the timestamp's file.
 pub(crate) const TIMESTAMP: &str = "timestamp.json";

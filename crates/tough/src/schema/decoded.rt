@@ -1,5 +1,5 @@
 //! Values that stand in documents as texts.
 
-pub use tough_base::{
+pub use tough_decoded::{
     Compat, Decode, DecodeError, Decoded, EcdsaFlex, EcdsaPem, Encode, Hex, RsaPem,
 };

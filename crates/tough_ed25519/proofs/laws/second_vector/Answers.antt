@@ -1,10 +1,10 @@
 use Rattle.std.proofs.Common.{refl}
 use Rattle.sha2.specs.Sha512.{sha512, first_words, schedule, rounds, compress, hash_after, digest_bytes}
-use Rattle.tough_field.specs.Bytes.{bytes_number}
-use Rattle.tough_field.specs.Field.{plus, minus, times, power, inverse}
-use Rattle.tough_curve.specs.Check.{checks}
-use Rattle.tough_curve.specs.Coding.{encode, decode, root}
-use Rattle.tough_curve.specs.Curve.{add, double, multiple}
+use Rattle.tough_ed25519.specs.Bytes.{bytes_number}
+use Rattle.tough_ed25519.specs.Field.{plus, minus, times, power, inverse}
+use Rattle.tough_ed25519.specs.Check.{checks}
+use Rattle.tough_ed25519.specs.Coding.{encode, decode, root}
+use Rattle.tough_ed25519.specs.Curve.{add, double, multiple}
 use Rattle.tough_ed25519.specs.Signatures.{is_signature}
 use Rattle.tough_ed25519.proofs.laws.second_vector.Goals as goal
 

@@ -3,8 +3,8 @@ use Rattle.std.specs.List.{AllByRecursion}
 use Rattle.std.specs.Path.{IsRelative}
 use Rattle.std.specs.Prelude.{Some}
 use Rattle.std.specs.Str.{bytes_eq}
-use Rattle.tough_replace.specs.Ordering.{timestamp_last}
-use Rattle.tough_replace.specs.Replacing.{AreReplaced}
+use Rattle.tough_write.specs.Ordering.{timestamp_last}
+use Rattle.tough_write.specs.Replacing.{AreReplaced}
 use Rattle.std.specs.Path.{path_join}
 use Rattle.tough_honest.specs.Serves.{ServesName}
 use Rattle.tough_load.specs.Loader.{first_core, settings_of, transport_of, verifier_of}

@@ -1,9 +1,0 @@
-use Rattle.std.proofs.Common.{refl}
-use Rattle.tough_field.specs.Field.{plus, minus, times, power, inverse}
-use Rattle.tough_curve.specs.Coding.{encode, decode, root}
-use Rattle.tough_curve.specs.Curve.{add, double, multiple}
-use Rattle.tough_curve.proofs.laws.constants.Goals as goal
-
-pub returns : goal.returns
-unfolding plus minus times power inverse encode decode root add double multiple
-returns c = record { d = refl; root = refl; base = refl; order = refl }

@@ -1,7 +1,0 @@
-use Rattle.std.proofs.Common.{◌≡◌, ◌-◌, ◌/◌, ◌^◌}
-use Rattle.tough_field.specs.Words.{words_number}
-use Rattle.tough_curve.specs.Curve.{multiple}
-use Rattle.tough_curve.proofs.point.Point.mul.Given as goal
-
-abbrev pub invariant-loop-done : goal.invariant-loop-done
-invariant-loop-done l = l.answer ≡ multiple l.done (words_number l.number / 2 ^ (l.bits - l.done)) l.self

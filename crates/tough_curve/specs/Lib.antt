@@ -1,4 +1,0 @@
-pub mod Check
-pub mod Coding
-pub mod Curve
-pub mod Vectors

@@ -1,4 +1,0 @@
-pub mod Bits
-pub mod Modular
-pub mod Powers
-pub mod LittleEndian

@@ -1,6 +1,0 @@
-use Rattle.tough_field.specs.Limbs.{limbs_number}
-use Rattle.tough_field.proofs.Modular.{plus_of}
-use Rattle.tough_field.proofs.element.Element.add.Goals as goal
-
-pub returns : goal.returns
-returns c = cc (plus_of (limbs_number c.self.inside.limbs) (limbs_number c.other.inside.limbs))

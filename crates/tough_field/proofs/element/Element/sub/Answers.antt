@@ -1,6 +1,0 @@
-use Rattle.tough_field.specs.Limbs.{limbs_number}
-use Rattle.tough_field.proofs.Modular.{minus_of}
-use Rattle.tough_field.proofs.element.Element.sub.Goals as goal
-
-pub returns : goal.returns
-returns c = cc (minus_of (limbs_number c.self.inside.limbs) (limbs_number c.other.inside.limbs) (limbs_number c.sub.result) c.sub.ensures.difference)

@@ -1,5 +1,0 @@
-pub mod Bytes
-pub mod Field
-pub mod Limbs
-pub mod Sums
-pub mod Words

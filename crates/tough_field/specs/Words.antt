@@ -1,6 +1,0 @@
--- The number that words stand for.
-use Rattle.std.specs.Prelude.{ℕ, ◌+◌, ◌*◌, ◌^◌}
-use Rattle.tough_field.specs.declared.words.Words.{Words}
-
-abbrev pub words_number : Words → ℕ
-words_number w = w.first + 2 ^ 64 * (w.second + 2 ^ 64 * (w.third + 2 ^ 64 * w.fourth))

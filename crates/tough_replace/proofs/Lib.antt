@@ -1,3 +1,0 @@
-pub mod Replaced
-pub mod Standing
-pub mod Ordered

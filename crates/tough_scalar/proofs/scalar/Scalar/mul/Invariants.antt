@@ -1,7 +1,0 @@
-use Rattle.std.proofs.Common.{◌≡◌, ◌-◌, ◌*◌, ◌/◌, ◌%◌, ◌^◌}
-use Rattle.tough_field.specs.Words.{words_number}
-use Rattle.tough_scalar.specs.Order.{order}
-use Rattle.tough_scalar.proofs.scalar.Scalar.mul.Given as goal
-
-abbrev pub invariant-loop-done : goal.invariant-loop-done
-invariant-loop-done l = l.answer ≡ (l.self * (words_number l.number / 2 ^ (256 - l.done))) % order
