@@ -270,6 +270,7 @@ fn edit<R: Host>(
         sign_role(rt, disk, words, edits, files, signers, place, share)?;
     }
     taken::verify_all(alloc, edits, shares)?;
+    taken::check_times(rt, edits)?;
     set_heads(rt, words, edits, versions)
 }
 

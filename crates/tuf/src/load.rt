@@ -7,6 +7,8 @@ use crate::files::{Disk, canonical};
 use crate::host::Host;
 use std::alloc::Global;
 use std::io;
+use std::time::Duration;
+use tough::http::HttpTransportBuilder;
 use tough::jiff::Timestamp;
 use tough::{
     DefaultTransport, Error, ExpirationEnforcement, FixedClock, Keeper, LocalRuntime, Repository,
@@ -61,10 +63,19 @@ pub(crate) fn urls_in<R: Host>(
     Ok((metadata, targets))
 }
 
+// A pause of 5 ms before a request and before it is repeated, since a load asks for a file a role; eight times as long before each later one, up
+// to a second.
+fn settings() -> HttpTransportBuilder {
+    HttpTransportBuilder::new()
+        .initial_backoff(Duration::from_millis(5))
+        .backoff_factor(8, 1)
+}
+
 /// A transport over files and HTTP, and the event loop that serves it.
 pub(crate) fn connect<R: Host>(rt: &R) -> Result<(LocalRuntime, DefaultTransport<R>), Fault> {
     let runtime = LocalRuntime::new(rt)?;
-    let transport = DefaultTransport::new(rt.clone()?, runtime.handle().clone()?)?;
+    let handle = runtime.handle().clone()?;
+    let transport = DefaultTransport::new_with_http_settings(rt.clone()?, handle, settings())?;
     Ok((runtime, transport))
 }
 

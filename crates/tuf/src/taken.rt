@@ -16,6 +16,8 @@ use tough_signatures::StandardVerify;
 
 const FURTHER: &str = "it delegates to roles of its own, which a publisher doesn't take in";
 
+const NEXT: &str = "its holders sign the next one, which --take takes in";
+
 const ANOTHER: &str = "another document of this version was published; sign one of the next";
 
 // Refuses a document that delegates to roles, has expired, or is of an older version than is needed.
@@ -137,6 +139,24 @@ pub(crate) fn verify_all(
     for share in shares {
         if let Some(document) = &share.given {
             verify(alloc, &targets.signed, share.name.as_str(), document)?;
+        }
+    }
+    Ok(())
+}
+
+/// Refuses a document of a delegated role that has expired, since a client would.
+pub(crate) fn check_times<R: Host>(rt: &R, edits: &RepositoryEdits) -> Result<(), Fault> {
+    let alloc = rt.alloc();
+    let now = when::now(rt)?;
+    let Some(targets) = edits.signed_targets() else {
+        return Ok(());
+    };
+    for document in targets.signed.signed_delegated_targets(alloc)? {
+        let role = &document.signed;
+        let expires = role.targets.expires;
+        if expires <= now {
+            let text = format!(in alloc; "role {}: expired {expires}; {NEXT}", role.name)?;
+            return Err(Fault::Told(text));
         }
     }
     Ok(())
