@@ -11,7 +11,8 @@ use crate::keys::{read_signer, read_signers};
 use crate::putting::put_all;
 use crate::roots::RootFile;
 use crate::shares::{Holder, Share, owner};
-use crate::{taken, writing};
+use crate::taken::{self, Placed};
+use crate::writing;
 use std::alloc::Global;
 use std::num::NonZeroU64;
 use tough::editor::signed::SignedRepository;
@@ -170,9 +171,12 @@ fn check_taken<R: Host>(
     words: &Publishing<'_>,
     begun: &Begun,
 ) -> Result<(), Fault> {
-    let consistent = begun.edits.root().signed().signed.consistent_snapshot;
-    let shares = begun.shares.as_slice();
-    taken::check_files(alloc, disk, words.targets, words.repo, shares, consistent)
+    let place = Placed {
+        folder: words.targets,
+        repo: words.repo,
+        consistent: begun.edits.root().signed().signed.consistent_snapshot,
+    };
+    taken::check_files(alloc, disk, place, begun.shares.as_slice())
 }
 
 // Publishes under the newest root, and the ones before it.

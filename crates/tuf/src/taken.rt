@@ -4,7 +4,7 @@ use crate::fault::{Fault, about, or_told, refused};
 use crate::files::{self, Disk};
 use crate::host::Host;
 use crate::keys::path_of;
-use crate::putting::{is_at, place};
+use crate::putting::{is_at, place as place_of};
 use crate::shares::{Holder, Share};
 use crate::when;
 use std::alloc::Global;
@@ -166,39 +166,45 @@ pub(crate) fn check_times<R: Host>(rt: &R, edits: &RepositoryEdits) -> Result<()
 fn check_file<R: Host>(
     alloc: Global,
     disk: &mut Disk<R>,
-    folder: &str,
-    repo: &str,
-    role: &str,
+    place: Placed<'_>,
+    share: &Share,
     name: &TargetName,
     target: &Target,
-    consistent: bool,
 ) -> Result<(), Fault> {
-    let path = format!(in alloc; "{folder}/{}", name.resolved())?;
-    if is_at(alloc, disk, path.as_str(), target) {
+    let (path, role) = (name.resolved(), &share.name);
+    if !share.paths.matches(name) {
+        let text = format!(in alloc; "role {role}: its document lists {path}, which it may not")?;
+        return Err(Fault::Told(text));
+    }
+    let here = format!(in alloc; "{}/{path}", place.folder)?;
+    let there = place_of(alloc, place.repo, path, target, place.consistent)?;
+    if is_at(alloc, disk, here.as_str(), target) || is_at(alloc, disk, there.as_str(), target) {
         return Ok(());
     }
-    let there = place(alloc, repo, name.resolved(), target, consistent)?;
-    if is_at(alloc, disk, there.as_str(), target) {
-        return Ok(());
-    }
-    let text = format!(in alloc; "{path}: not the file that role {role} lists")?;
+    let text = format!(in alloc; "{here}: not the file that role {role} lists")?;
     Err(Fault::Told(text))
 }
 
-/// Checks that the files of all targets are at hand which documents list that are taken in.
+/// Where the files of targets are: the folder of those that are published, and the repository's.
+#[derive(Clone, Copy, Drop)]
+pub(crate) struct Placed<'a> {
+    pub(crate) folder: &'a str,
+    pub(crate) repo: &'a str,
+    /// Whether digests stand before names there.
+    pub(crate) consistent: bool,
+}
+
+/// Checks that documents that are taken in list what their roles may list, and that these files are at hand.
 pub(crate) fn check_files<R: Host>(
     alloc: Global,
     disk: &mut Disk<R>,
-    folder: &str,
-    repo: &str,
+    place: Placed<'_>,
     shares: &[Share],
-    consistent: bool,
 ) -> Result<(), Fault> {
     for share in shares {
         if let Some(document) = &share.given {
-            let role = share.name.as_str();
             for (name, target) in document.signed.targets.iter() {
-                check_file(alloc, disk, folder, repo, role, name, target, consistent)?;
+                check_file(alloc, disk, place, share, name, target)?;
             }
         }
     }

@@ -54,7 +54,7 @@ fn root_from(u: &Element, v: &Element, x: Element) -> Option<Element>
 }
 
 // The root of `u / v`, if there is one.
-#[tactic(auto, unfolding(crate::curve::specs::Coding::root))]
+#[tactic(auto, unfolding(crate::specs::Coding::root))]
 fn root(u: &Element, v: &Element) -> Option<Element>
     ensures { result ≡ root u.now v.now }
 {
@@ -129,7 +129,7 @@ fn encode_affine(x: &Element, y: &Element) -> Words
 
 impl Point {
     /// The point whose encoding is the number, if there is one (RFC 8032, 5.1.3).
-    #[tactic(auto, unfolding(crate::curve::specs::Coding::decode))]
+    #[tactic(auto, unfolding(crate::specs::Coding::decode))]
     pub fn decode(words: Words) -> Option<Point>
         ensures { result ≡ decode (words_number words) }
     {
@@ -138,7 +138,7 @@ impl Point {
     }
 
     /// The number whose 32 bytes, the lowest first, are the encoding (RFC 8032, 5.1.2).
-    #[tactic(auto, unfolding(crate::curve::specs::Coding::encode))]
+    #[tactic(auto, unfolding(crate::specs::Coding::encode))]
     pub fn encode(&self) -> Words
         ensures { words_number result ≡ encode self.now }
     {

@@ -125,7 +125,7 @@ impl Point {
     }
 
     /// The sum (RFC 8032, 5.1.4).
-    #[tactic(auto, unfolding(crate::curve::specs::Curve::add))]
+    #[tactic(auto, unfolding(crate::specs::Curve::add))]
     pub fn add(&self, other: &Point) -> Point
         ensures { result ≡ add self.now other.now }
     {
@@ -138,7 +138,7 @@ impl Point {
     }
 
     /// The sum with itself (RFC 8032, 5.1.4).
-    #[tactic(auto, unfolding(crate::curve::specs::Curve::double))]
+    #[tactic(auto, unfolding(crate::specs::Curve::double))]
     pub fn double(&self) -> Point
         ensures { result ≡ double self.now }
     {

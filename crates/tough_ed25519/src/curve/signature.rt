@@ -22,7 +22,7 @@ fn matches(key: &Point, r: Words, s: Words, k: Words) -> bool
 
 /// Whether the halves `r` and `s` of a signature belong to the key and the hash `k` modulo L (RFC 8032, 5.1.7): all are numbers of 32 bytes,
 /// the lowest first.
-#[tactic(auto, unfolding(crate::curve::specs::Check::checks))]
+#[tactic(auto, unfolding(crate::specs::Check::checks))]
 pub fn check(key: Words, r: Words, s: Words, k: Words) -> bool
     ensures { result
         ≡ checks (words_number key) (words_number r) (words_number s) (words_number k) }

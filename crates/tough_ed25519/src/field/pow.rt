@@ -37,7 +37,7 @@ impl Element {
     }
 
     /// The inverse, and 0 of 0.
-    #[tactic(auto, unfolding(crate::field::specs::Field::inverse))]
+    #[tactic(auto, unfolding(crate::specs::Field::inverse))]
     pub fn invert(&self) -> Element
         ensures { result ≡ inverse self.now }
     {
