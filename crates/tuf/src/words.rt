@@ -168,8 +168,8 @@ fn root<'a>(alloc: Global) -> Result<Command<'a>, AllocError> {
         .subcommand(root_show(alloc)?)
 }
 
-// What is published, and by whom.
-fn published<'a>(alloc: Global, verb: Command<'a>) -> Result<Command<'a>, AllocError> {
+// The roots of a repository, and who signs.
+fn signed<'a>(alloc: Global, verb: Command<'a>) -> Result<Command<'a>, AllocError> {
     verb.arg(several(
         alloc,
         "root",
@@ -183,33 +183,38 @@ fn published<'a>(alloc: Global, verb: Command<'a>) -> Result<Command<'a>, AllocE
         "FILE",
         "A secret that signs; - for standard input",
     )
-    .required(true))?
-    .arg(needed(alloc, "targets", "DIR", "The folder of the files"))?
-    .arg(needed(alloc, "repo", "DIR", "The folder of the repository"))?
-    .arg(several(
-        alloc,
-        "role",
-        "NAME=PATTERN",
-        "A delegated role, which lists the files that the pattern matches",
-    ))?
-    .arg(several(
-        alloc,
-        "role-key",
-        "NAME=FILE",
-        "A secret of a new role; else the keys of the targets sign for it",
-    ))?
-    .arg(several(
-        alloc,
-        "take",
-        "ROLE=FILE",
-        "Takes in a document that a role's holders signed by `tuf role sign`",
-    ))?
-    .arg(several(
-        alloc,
-        "expires",
-        "ROLE=WHEN",
-        "When a document expires; else the timestamp in 7 days, the others in 30",
-    ))
+    .required(true))
+}
+
+// What is published.
+fn published<'a>(alloc: Global, verb: Command<'a>) -> Result<Command<'a>, AllocError> {
+    signed(alloc, verb)?
+        .arg(needed(alloc, "targets", "DIR", "The folder of the files"))?
+        .arg(needed(alloc, "repo", "DIR", "The folder of the repository"))?
+        .arg(several(
+            alloc,
+            "role",
+            "NAME=PATTERN",
+            "A delegated role, which lists the files that the pattern matches",
+        ))?
+        .arg(several(
+            alloc,
+            "role-key",
+            "NAME=FILE",
+            "A secret of a new role; else the keys of the targets sign for it",
+        ))?
+        .arg(several(
+            alloc,
+            "take",
+            "ROLE=FILE",
+            "Takes in a document that a role's holders signed by `tuf role sign`",
+        ))?
+        .arg(several(
+            alloc,
+            "expires",
+            "ROLE=WHEN",
+            "When a document expires; else the timestamp in 7 days, the others in 30",
+        ))
 }
 
 fn publish<'a>(alloc: Global) -> Result<Command<'a>, AllocError> {
@@ -279,32 +284,19 @@ fn role<'a>(alloc: Global) -> Result<Command<'a>, AllocError> {
 }
 
 fn refresh<'a>(alloc: Global) -> Result<Command<'a>, AllocError> {
-    verb(
+    let verb = verb(
         alloc,
         "refresh",
         "Signs a new timestamp, and leaves all else as it stands",
-    )
-    .arg(needed(alloc, "repo", "DIR", "The folder of the repository"))?
-    .arg(several(
-        alloc,
-        "root",
-        "ROOT",
-        "A signed root; the newest comes last",
-    )
-    .required(true))?
-    .arg(several(
-        alloc,
-        "key",
-        "FILE",
-        "A secret that signs; - for standard input",
-    )
-    .required(true))?
-    .arg(option(
-        alloc,
-        "expires",
-        "WHEN",
-        "When the timestamp expires; else in 7 days",
-    ))
+    );
+    signed(alloc, verb)?
+        .arg(needed(alloc, "repo", "DIR", "The folder of the repository"))?
+        .arg(option(
+            alloc,
+            "expires",
+            "WHEN",
+            "When the timestamp expires; else in 7 days",
+        ))
 }
 
 fn check<'a>(alloc: Global) -> Result<Command<'a>, AllocError> {
