@@ -9,6 +9,7 @@ use crate::saving::{Place, names, save_watched};
 use crate::standing::standing_in;
 use crate::writing::TIMESTAMP;
 use std::alloc::Global;
+use std::io::ErrorKind;
 use std::{fs, io};
 use tough::{Clock, Error, Files, Keeper, LocalRuntime, Prefix, Repository, TargetName, Transport};
 
@@ -76,16 +77,13 @@ where
     Ok(count)
 }
 
-// Removes what a run that was killed left in the folder.
-fn clear<R: Host>(alloc: Global, disk: &mut Disk<R>, folder: &str) -> Result<(), Fault> {
-    let Ok(names) = disk.list(folder) else {
-        return Ok(());
-    };
-    for name in &names {
-        let path = format!(in alloc; "{folder}/{name}")?;
-        let _ = disk.remove(path.as_str());
+// Removes the folder, which a run that was killed may have left.
+fn remove<R: Host>(rt: &R, folder: &str) -> Result<(), Fault> {
+    match fs::remove_dir_all(rt, folder) {
+        Ok(()) => Ok(()),
+        Err(error) if error.kind() == ErrorKind::NotFound => Ok(()),
+        Err(error) => Err(about(rt.alloc(), folder, &error)),
     }
-    Ok(())
 }
 
 // What became of copying the metadata.
@@ -188,13 +186,14 @@ where
     let next = format!(in alloc; "{folder}/{NEXT}")?;
     let gathered = format!(in alloc; "{next}/metadata")?;
     let metadata = format!(in alloc; "{folder}/metadata")?;
+    remove(rt, next.as_str())?;
     make_folders(rt, gathered.as_str())?;
     make_folders(rt, format!(in alloc; "{next}/targets")?.as_str())?;
     make_folders(rt, metadata.as_str())?;
-    clear(alloc, disk, gathered.as_str())?;
     copy(rt, runtime, repository, disk, gathered.as_str())?;
     check(rt, repository, disk, next.as_str(), root)?;
-    settle(rt, disk, gathered.as_str(), metadata.as_str())
+    settle(rt, disk, gathered.as_str(), metadata.as_str())?;
+    remove(rt, next.as_str())
 }
 
 // What was mirrored.
