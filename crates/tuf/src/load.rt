@@ -11,8 +11,8 @@ use std::time::Duration;
 use tough::http::HttpTransportBuilder;
 use tough::jiff::Timestamp;
 use tough::{
-    DefaultTransport, Error, ExpirationEnforcement, FixedClock, Keeper, LocalRuntime, Repository,
-    RepositoryLoader, Transport, UpdateError, Url, open_on,
+    DefaultTransport, Error, ExpirationEnforcement, FixedClock, Keeper, Limits, LocalRuntime,
+    Repository, RepositoryLoader, Transport, UpdateError, Url, open_on,
 };
 use tough_signatures::StandardVerify;
 
@@ -79,6 +79,15 @@ pub(crate) fn connect<R: Host>(rt: &R) -> Result<(LocalRuntime, DefaultTransport
     Ok((runtime, transport))
 }
 
+// What an update takes at most. A timestamp, and a root, are parsed before it is known whether they are signed, so they are bounded more narrowly
+// than by default: the one has three entries, the other hundreds of keys.
+fn limits() -> Limits {
+    let mut limits = Limits::default();
+    limits.max_root_size = 524_288;
+    limits.max_timestamp_size = 65_536;
+    limits
+}
+
 // A loader of what is wanted.
 fn loader_of<'a, T: Transport, K: Keeper>(
     alloc: Global,
@@ -98,6 +107,7 @@ fn loader_of<'a, T: Transport, K: Keeper>(
         .verifier(StandardVerify)
         .clock(FixedClock(start))
         .keeper(keeper)
+        .limits(limits())
         .expiration_enforcement(enforcement)
 }
 
