@@ -1,5 +1,5 @@
 -- What one more holder's signature adds to a tally.
-use Rattle.std.proofs.Common.{◌≡◌, ℕ, suc, ◌+◌, List, [], ◌∷◌, ◌++◌, map, filter, length, Bool, true, false, not, ◌&&◌, ◌||◌, cond, Option, Some, None, option_map, refl, sym, ap, ◌∙◌, subst, arith}
+use Rattle.std.proofs.Common.{◌≡◌, ℕ, ◌+◌, List, [], ◌∷◌, ◌++◌, map, filter, length, Bool, true, false, not, ◌&&◌, ◌||◌, cond, Option, Some, None, option_map, refl, sym, ap, ◌∙◌, subst, arith}
 use Rattle.std.proofs.lemmas.Bool.{and_parts, or_parts, or_from}
 use Rattle.std.proofs.lemmas.Slice.Eq.{bytes_eq-Decides}
 use Rattle.std.proofs.lemmas.Cmp.{nat_list_eq_equiv}
@@ -8,9 +8,7 @@ use Rattle.std.specs.Str.{bytes_eq}
 use Rattle.tough_decoded.specs.Spelled.{Spelled}
 use Rattle.tough_keys.specs.Key.{KeyDoc}
 use Rattle.tough_keys.specs.Same.{KeyData, Verifies, data_of}
-use Rattle.tough_keys.specs.Equal.{same_doc}
 use Rattle.tough_keys.specs.Equals.{data_of-same}
-use Rattle.tough_roles.specs.Policy.{pair_of}
 use Rattle.tough_roles.specs.Root.{RootDoc, RoleKeysDoc, key_under, root_json}
 use Rattle.tough_roles.specs.Chain.{text_by}
 use Rattle.tough_roles.specs.Signature.{SignatureDoc}
@@ -19,7 +17,7 @@ use Rattle.tough_roles.specs.declared.role_type.RoleType.TheVariants as types
 use Rattle.tough_roles.proofs.Counts.{list_any-map, any-filter}
 use Rattle.tough_sign.specs.Making.{Known, is_listed, SignWell}
 use Rattle.tough_ceremony.specs.Listing.{role_in}
-use Rattle.tough_ceremony.specs.Signing.{root_ids, listed_by, equals, is_of, lists, lists_in, signature_under, others, signed_under, AreIds, AreSignedBy, Agrees}
+use Rattle.tough_ceremony.specs.Signing.{root_ids, listed_by, equals, is_of, lists_in, signature_under, others, signed_under, AreSignedBy, Agrees}
 use Rattle.tough_ceremony.specs.Tallying.{each_once, signed_by, signed_of, waiting_of}
 use Rattle.tough_ceremony.proofs.Noting.{same_listed}
 
@@ -231,5 +229,5 @@ module _ {S : Type 0} (v : Verifies) (key_of : S → KeyDoc) (signs : S → List
   pub signed_after : Given → length (signed_of v by.keys text after asked.keyids) ≡ length (signed_of v by.keys text before asked.keyids) + length (filter mine (waiting_of v by.keys text before asked.keyids))
   signed_after g = more mine (signed_by v by.keys text before) (signed_by v by.keys text after) (each_once asked.keyids) (each_all (λ id. signed_by v by.keys text after id ≡ (mine id || signed_by v by.keys text before id)) asked.keyids (adds g))
 
-  pub once_after : AreSignedBy key_of signs signer r old before after → some_twice before ≡ false → some_twice after ≡ false
-  once_after s h = ap some_twice s.put ∙ stays_once s.ids s.sig s.under.once before h
+pub once_after : {S : Type 0} (key_of : S → KeyDoc) (signs : S → List ℕ → List ℕ → Type 0) (signer : S) (r : RootDoc) (old : Option RootDoc) (before after : List SignatureDoc) → AreSignedBy key_of signs signer r old before after → some_twice before ≡ false → some_twice after ≡ false
+once_after key_of signs signer r old before after s h = ap some_twice s.put ∙ stays_once s.ids s.sig s.under.once before h

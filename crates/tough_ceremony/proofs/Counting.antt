@@ -1,7 +1,7 @@
 -- A tally counts the different keys that signed, as a client does.
-use Rattle.std.proofs.Common.{◌≡◌, ℕ, List, [], ◌∷◌, map, filter, length, Bool, true, false, not, ◌&&◌, ◌||◌, cond, nat_le, if◌then◌else◌, Option, Some, None, option_map, Result, Ok, Err, refl, sym, ap, ◌∙◌, subst}
+use Rattle.std.proofs.Common.{◌≡◌, ℕ, List, [], ◌∷◌, map, filter, length, Bool, true, false, not, ◌&&◌, ◌||◌, cond, nat_le, if◌then◌else◌, Option, Some, option_map, Ok, Err, refl, sym, ap, ◌∙◌, subst}
 use Rattle.std.specs.Prelude.{Decides}
-use Rattle.std.proofs.lemmas.Bool.{and_parts, and_from, not-true}
+use Rattle.std.proofs.lemmas.Bool.{and_parts, not-true}
 use Rattle.std.proofs.lemmas.List.{length-map}
 use Rattle.std.proofs.lemmas.Slice.Eq.{bytes_eq-Decides}
 use Rattle.std.proofs.lemmas.Cmp.{nat_list_eq_equiv}
@@ -16,14 +16,15 @@ use Rattle.tough_roles.specs.Counting.{key_of}
 use Rattle.tough_roles.specs.Policy.{Policy, policy, policy_of, pair_of}
 use Rattle.tough_roles.specs.Root.{RootDoc, RoleKeysDoc}
 use Rattle.tough_roles.specs.Signature.{SignatureDoc, SignedDoc}
-use Rattle.tough_roles.specs.Verdict.{Refused, MissingRole, SignatureThreshold, has_signed, signers, signer_count, some_twice, counted, verdict}
+use Rattle.tough_roles.specs.Verdict.{Refused, MissingRole, SignatureThreshold, has_signed, signer_count, some_twice, counted, verdict}
 use Rattle.tough_roles.specs.declared.role_type.RoleType.{RoleType}
 use Rattle.tough_roles.specs.declared.role_type.RoleType.TheVariants as types
 use Rattle.tough_roles.proofs.Counts.{list_any-map, any-filter}
 use Rattle.tough_roles.proofs.lemmas.Reached.{reaches-from, reaches-to}
 use Rattle.tough_sign.specs.Making.{Known, is_listed}
 use Rattle.tough_ceremony.specs.Listing.{role_in}
-use Rattle.tough_ceremony.specs.Tallying.{each_once, signed_by, signed_of}
+use Rattle.tough_ceremony.specs.Tallying.{each_once, signed_by, signed_of, signed_in, threshold_in, is_reached, IsTallyOf}
+use Rattle.tough_ceremony.specs.declared.tally.Tally.{Tally}
 
 same_some : {X : Type 0} (x y : X) → Some x ≡ Some y → x ≡ y
 same_some x y e = cc
@@ -104,6 +105,13 @@ fine_to v absent type p text ss h =
 
 policy_is : (by : RootDoc) (asked : RoleKeysDoc) → role_in types.Root by ≡ Some asked → policy by types.Root ≡ Some (policy_of by.keys asked)
 policy_is by asked h = ap (option_map (policy_of by.keys)) h
+
+-- what a tally answers, by what it was made of
+pub reached_by : (v : Verifies) (known : Known) (asked : RoleKeysDoc) (text : List ℕ) (ss : List SignatureDoc) (t : Tally) → IsTallyOf v known asked text ss t
+    → is_reached t ≡ (not (some_twice ss) && nat_le asked.threshold (length (signed_of v known text ss asked.keyids)))
+reached_by v known asked text ss t h =
+    ap (λ b. b && nat_le (threshold_in t) (length (signed_in t))) h.once
+    ∙ (ap (λ n. not (some_twice ss) && nat_le n (length (signed_in t))) h.threshold ∙ ap (λ (l : List Spelled). not (some_twice ss) && nat_le asked.threshold (length l)) h.signed)
 
 -- what a tally counts as reached is what a client accepts
 pub reached_is : {A : Type 0} (v : Verifies) (by : RootDoc) (json : A → Option Data) (s : SignedDoc A) (asked : RoleKeysDoc) (text : List ℕ) (b : Bool) → role_in types.Root by ≡ Some asked → text_by json s.role ≡ Some text

@@ -1,5 +1,5 @@
 -- Why a root isn't edited, signed or tallied.
-use Rattle.std.specs.Prelude.{◌≡◌, ⊤, ℕ, List, Bool, true, false, Option, Some, None, string_bytes}
+use Rattle.std.specs.Prelude.{◌≡◌, ⊤, ℕ, List, true, false, Option, Some, None, string_bytes}
 use Rattle.tough_decoded.specs.Spelled.{Spelled}
 use Rattle.tough_keys.specs.Key.{KeyDoc, key_id_of}
 use Rattle.tough_keys.specs.declared.sign.SignError.{SignError}

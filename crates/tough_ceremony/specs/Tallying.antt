@@ -1,5 +1,5 @@
 -- Which keys signed a root, and which still have to (TUF specification 1.0, section 5.3.4: a threshold of different keys).
-use Rattle.std.specs.Prelude.{◌≡◌, ℕ, List, [], ◌∷◌, map, filter, length, Bool, not, ◌&&◌, nat_le, Option, Some, if◌then◌else◌}
+use Rattle.std.specs.Prelude.{◌≡◌, ℕ, List, [], ◌∷◌, map, filter, length, Bool, not, ◌&&◌, nat_le, Some, if◌then◌else◌}
 use Rattle.std.specs.Int.NonZero.{non_zero_u64_get}
 use Rattle.tough_decoded.specs.Spelled.{Spelled}
 use Rattle.tough_keys.specs.Same.{Verifies}

@@ -1,4 +1,4 @@
-use Rattle.std.proofs.Common.{refl, sym, ap, option_map, ◌∙◌}
+use Rattle.std.proofs.Common.{sym, ap, option_map, ◌∙◌}
 use Rattle.tough_roles.specs.Root.{role_keys_doc}
 use Rattle.tough_roles.specs.declared.role_type.RoleType.TheVariants as types
 use Rattle.tough_roles.proofs.lemmas.Verdicts.{get-roles_doc}
