@@ -1,0 +1,4 @@
+pub mod Rolls
+pub mod Noting
+pub mod Counting
+pub mod Adding

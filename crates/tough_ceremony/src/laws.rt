@@ -1,0 +1,41 @@
+//! What signing and tallying promise together.
+
+ghost use Rattle.std.specs.Prelude.{◌≡◌, ◌+◌, ℕ, List, [], ◌∷◌, Option, Some, false, filter, length, not};
+ghost use Rattle.tough_keys.specs.Same.{Verifies};
+ghost use Rattle.tough_roles.specs.Chain.{text_by};
+ghost use Rattle.tough_roles.specs.Root.{RootDoc, RoleKeysDoc, root_json};
+ghost use Rattle.tough_roles.specs.Signature.{SignatureDoc};
+ghost use Rattle.tough_roles.specs.Verdict.{some_twice};
+ghost use Rattle.tough_roles.specs.declared.role_type.RoleType.TheVariants as types;
+ghost use Rattle.tough_sign.specs.Making.{SignWell};
+ghost use Rattle.tough_ceremony.specs.Listing.{role_in};
+ghost use Rattle.tough_ceremony.specs.Signing.{lists_in, AreSignedBy, Agrees};
+ghost use Rattle.tough_ceremony.specs.Tallying.{signed_of, waiting_of};
+
+use tough_keys::Sign;
+
+/// Where a holder signs whose signatures verify, the holder's identifiers wait no longer in the tally, and all others wait as before; so many more are counted
+/// as waited; and where no identifier stood twice among the signatures, none does.
+pub fn signing_counts<S: Sign>()
+    ensures waiting { (v : Verifies) (signer : S) (r by : RootDoc) (old : Option RootDoc)
+        (asked : RoleKeysDoc) (text : List ℕ) (before after : List SignatureDoc)
+        → SignWell v S.key S.signs (signer ∷ [])
+        → AreSignedBy S.key S.signs signer r old before after → text_by root_json r ≡ Some text
+        → role_in types.Root by ≡ Some asked → Agrees (S.key signer) by r old
+        → waiting_of v by.keys text after asked.keyids
+        ≡ filter (λ id. not (lists_in (S.key signer) r old id))
+        (waiting_of v by.keys text before asked.keyids) }
+    ensures count { (v : Verifies) (signer : S) (r by : RootDoc) (old : Option RootDoc)
+        (asked : RoleKeysDoc) (text : List ℕ) (before after : List SignatureDoc)
+        → SignWell v S.key S.signs (signer ∷ [])
+        → AreSignedBy S.key S.signs signer r old before after → text_by root_json r ≡ Some text
+        → role_in types.Root by ≡ Some asked → Agrees (S.key signer) by r old
+        → length (signed_of v by.keys text after asked.keyids)
+        ≡ length (signed_of v by.keys text before asked.keyids)
+        + length (filter (lists_in (S.key signer) r old)
+        (waiting_of v by.keys text before asked.keyids)) }
+    ensures once { (signer : S) (r : RootDoc) (old : Option RootDoc)
+        (before after : List SignatureDoc)
+        → AreSignedBy S.key S.signs signer r old before after
+        → some_twice before ≡ false → some_twice after ≡ false }
+{}
