@@ -6,12 +6,13 @@ use crate::host::Host;
 use crate::keys::read_signers;
 use crate::roots::unsigned;
 use crate::standing::{Standing, standing_in};
-use crate::version::after;
+use crate::version::LAST;
 use crate::{expiry, files, when, writing};
 use std::alloc::Global;
 use tough::editor::signed::{NewFile, SignedRole};
 use tough::jiff::Timestamp as Instant;
 use tough::schema::{KeyHolder, Timestamp};
+use tough_ceremony::renew_timestamp;
 use tough_signatures::SigningKey;
 
 const NOTHING: &str = "no repository stands there; make one by `tuf publish`";
@@ -43,13 +44,15 @@ fn found<R: Host>(rt: &R, words: &Refreshing<'_>) -> Result<Standing, Fault> {
 
 // The timestamp with the next version, which leads to the same snapshot.
 fn renewed<R: Host>(rt: &R, words: &Refreshing<'_>, old: Timestamp) -> Result<Timestamp, Fault> {
-    let mut timestamp = old;
-    timestamp.version = after(rt.alloc(), "timestamp", timestamp.version)?;
-    timestamp.expires = match words.expires {
+    let expires = match words.expires {
         Some(expires) => expires,
         None => when::from_now(rt, expiry::TIMESTAMP)?,
     };
-    Ok(timestamp)
+    let mut timestamp = old;
+    match renew_timestamp(&mut timestamp, expires) {
+        Ok(()) => Ok(timestamp),
+        Err(_) => Err(refused(rt.alloc(), "timestamp", LAST)),
+    }
 }
 
 // Writes the timestamp's file.

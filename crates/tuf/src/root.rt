@@ -3,48 +3,19 @@
 use crate::fault::Fault;
 use crate::host::Host;
 use crate::report::{Form, Object, Report};
-use crate::roots::{ROLES, RootFile, Tally, count_signed, is_signed_by, line, message, read, text};
+use crate::roots::{ROLES, RootFile, count_signed, is_signed_by, line, message, read, text};
 use crate::{files, when};
 use std::alloc::Global;
-use std::collections::BTreeMap;
-use std::num::NonZeroU64;
-use tough::Map;
-use tough::jiff::Timestamp;
 use tough::schema::decoded::{Decoded, Hex};
-use tough::schema::{RoleKeys, RoleType, Root, Signed};
-
-// A role that lists no keys yet.
-fn empty_role(alloc: Global) -> RoleKeys {
-    RoleKeys {
-        keyids: Vec::new(alloc),
-        threshold: NonZeroU64::MIN,
-        _extra: Map::new(alloc),
-    }
-}
-
-// A root without keys, whose snapshots are consistent.
-fn empty(alloc: Global, expires: Timestamp) -> Result<Root, Fault> {
-    let mut roles = BTreeMap::new(alloc);
-    for role in ROLES {
-        roles.insert(role, empty_role(alloc))?;
-    }
-    Ok(Root {
-        spec_version: String::from_str(alloc, "1.0.0")?,
-        consistent_snapshot: true,
-        version: NonZeroU64::MIN,
-        expires,
-        keys: BTreeMap::new(alloc),
-        roles,
-        _extra: Map::new(alloc),
-    })
-}
+use tough::schema::{RoleType, Root, Signed};
+use tough_ceremony::{Tally, empty_root};
 
 /// Makes a root without keys in a new file.
 pub(crate) fn new<R: Host>(rt: &R, path: &str, expires: &str) -> Result<String, Fault> {
     let alloc = rt.alloc();
     let expires = when::instant(rt, expires)?;
     let signed = Signed {
-        signed: empty(alloc, expires)?,
+        signed: empty_root(alloc, expires)?,
         signatures: Vec::new(alloc),
     };
     let bytes = text(alloc, path, signed)?;
@@ -120,8 +91,8 @@ fn add_tally(alloc: Global, report: &mut Report, tally: &Option<Tally<'_>>) -> R
     let words = line(alloc, "its own keys", tally)?;
     let mut object = Object::new(alloc);
     if let Some(tally) = tally {
-        object.number("signed", tally.signed)?;
-        object.number("threshold", tally.threshold)?;
+        object.number("signed", tally.signed().len() as u64)?;
+        object.number("threshold", tally.threshold())?;
     }
     object.flag("verifies", tally.as_ref().is_some_and(|it| it.is_reached()))?;
     Ok(report.add(words.as_str(), &object)?)
@@ -138,7 +109,7 @@ pub(crate) fn show<R: Host>(rt: &R, path: &str, form: Form) -> Result<String, Fa
     for role in ROLES {
         add_role(alloc, &mut report, &root, message.as_slice(), role)?;
     }
-    let tally = count_signed(alloc, signed, message.as_slice(), &root.signed.signatures)?;
+    let tally = count_signed(alloc, path, signed, &root.signed)?;
     add_tally(alloc, &mut report, &tally)?;
     Ok(report.into_text())
 }

@@ -3,16 +3,19 @@
 use crate::fault::{Fault, misspelt, refused};
 use crate::files;
 use crate::host::Host;
-use crate::keys::{identifier, read_public};
-use crate::roots::{ROLES, RootFile, read, text, unsigned};
-use crate::version::after;
+use crate::keys::read_public;
+use crate::roots::{ROLES, RootFile, read, text, told_of, unsigned};
+use crate::version::LAST;
 use std::alloc::Global;
 use std::num::NonZeroU64;
 use tough::jiff::Timestamp;
 use tough::schema::decoded::{Decoded, Hex};
 use tough::schema::{RoleKeys, RoleType, Root, Signed};
+use tough_ceremony::{CeremonyError, list_key, next_version, unlist_key};
 
 const NO_ROLE: &str = "the root lacks this role; make a new one by `tuf root new`";
+
+const LISTED: &str = "the role has this key already";
 
 const NO_KEY: &str = "not exactly one key of the role begins so; `tuf root show` lists them";
 
@@ -55,32 +58,17 @@ fn lacks(alloc: Global, role: RoleType) -> Fault {
     refused(alloc, role.name(), NO_ROLE)
 }
 
-// The role lists one more key.
-fn list(alloc: Global, path: &str, keys: &mut RoleKeys, id: &Decoded<Hex>) -> Result<(), Fault> {
-    if keys.keyids.contains(id) {
-        return Err(refused(alloc, path, "the role has this key already"));
-    }
-    keys.keyids.push(id.clone()?)?;
-    Ok(())
-}
-
 // The key of a file is listed for a role.
 fn add<R: Host>(rt: &R, root: &mut Root, word: &str) -> Result<(), Fault> {
     let alloc = rt.alloc();
     let (role, path) = role_and(alloc, word, "ROLE=FILE")?;
     let key = read_public(rt, path)?;
-    let id = identifier(alloc, &key)?;
-    match root.roles.get_mut(&role) {
-        Some(keys) => list(alloc, path, keys, &id)?,
-        None => return Err(lacks(alloc, role)),
+    match list_key(alloc, root, role, key) {
+        Ok(()) => Ok(()),
+        Err(CeremonyError::NoRole { role }) => Err(lacks(alloc, role)),
+        Err(CeremonyError::AlreadyListed) => Err(refused(alloc, path, LISTED)),
+        Err(error) => Err(told_of(alloc, path, error)),
     }
-    drop(root.keys.insert(id, key)?);
-    Ok(())
-}
-
-// Whether a role lists the identifier.
-fn is_used(root: &Root, id: &Decoded<Hex>) -> bool {
-    root.roles.values().any(|keys| keys.keyids.contains(id))
 }
 
 // The place of the one identifier that begins so.
@@ -97,15 +85,15 @@ fn place_of(keyids: &[Decoded<Hex>], beginning: &str) -> Option<usize> {
     found
 }
 
-// The role lists the one key no longer whose identifier begins so.
-fn unlist(
+// The one identifier of the role that begins so.
+fn id_of(
     alloc: Global,
     word: &str,
-    keys: &mut RoleKeys,
+    keys: &RoleKeys,
     beginning: &str,
 ) -> Result<Decoded<Hex>, Fault> {
     match place_of(&keys.keyids, beginning) {
-        Some(place) if place < keys.keyids.len() => Ok(keys.keyids.remove(place)),
+        Some(place) if place < keys.keyids.len() => Ok(keys.keyids[place].clone()?),
         _ => Err(refused(alloc, word, NO_KEY)),
     }
 }
@@ -113,14 +101,14 @@ fn unlist(
 // A key is no longer listed for a role, and goes where no other role lists it.
 fn remove(alloc: Global, root: &mut Root, word: &str) -> Result<(), Fault> {
     let (role, beginning) = role_and(alloc, word, "ROLE=ID")?;
-    let id = match root.roles.get_mut(&role) {
-        Some(keys) => unlist(alloc, word, keys, beginning)?,
+    let id = match root.roles.get(&role) {
+        Some(keys) => id_of(alloc, word, keys, beginning)?,
         None => return Err(lacks(alloc, role)),
     };
-    if !is_used(root, &id) {
-        drop(root.keys.remove(&id));
+    match unlist_key(root, role, &id) {
+        Ok(()) => Ok(()),
+        Err(error) => Err(told_of(alloc, word, error)),
     }
-    Ok(())
 }
 
 // So many of the role's keys must sign.
@@ -129,12 +117,9 @@ fn set_threshold(alloc: Global, root: &mut Root, word: &str) -> Result<(), Fault
     let Some(threshold) = number.parse::<u64>().ok().and_then(NonZeroU64::new) else {
         return Err(misspelt(alloc, word, "a number from 1 on behind the '='"));
     };
-    match root.roles.get_mut(&role) {
-        Some(keys) => {
-            keys.threshold = threshold;
-            Ok(())
-        }
-        None => Err(lacks(alloc, role)),
+    match tough_ceremony::set_threshold(root, role, threshold) {
+        Ok(()) => Ok(()),
+        Err(_) => Err(lacks(alloc, role)),
     }
 }
 
@@ -153,8 +138,8 @@ fn change<R: Host>(rt: &R, root: &mut Root, edit: &Editing<'_>) -> Result<(), Fa
     if let Some(expires) = edit.expires {
         root.expires = expires;
     }
-    if edit.bump {
-        root.version = after(alloc, edit.root, root.version)?;
+    if edit.bump && next_version(root).is_err() {
+        return Err(refused(alloc, edit.root, LAST));
     }
     Ok(())
 }

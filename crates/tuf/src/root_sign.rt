@@ -1,14 +1,13 @@
 //! `tuf root sign`: holders of a root's keys sign it, one after another.
 
-use crate::fault::{Fault, about, refused};
+use crate::fault::{Fault, refused};
 use crate::files;
 use crate::host::Host;
-use crate::keys::{public_of, read_signer};
-use crate::roots::{RootFile, count_signed, line, listed, message, read, text};
+use crate::keys::read_signer;
+use crate::roots::{RootFile, count_signed, line, read, text, told_of};
 use std::alloc::Global;
-use tough::schema::decoded::{Decoded, Hex};
-use tough::schema::{Key, RoleType, Root, Sign, Signature, Signed};
-use tough_signatures::SigningKey;
+use tough::schema::{Root, Signed};
+use tough_ceremony::{CeremonyError, sign_root};
 
 const NO_KEY: &str = "no key of this root's role root, nor of the root before; see --old-root";
 
@@ -21,73 +20,24 @@ pub(crate) struct Signing<'a> {
     pub(crate) keys: &'a [&'a str],
 }
 
-// Adds the identifier under which the root lists the key for roots.
-fn note(ids: &mut Vec<Decoded<Hex>>, root: &Root, key: &Key) -> Result<(), Fault> {
-    if let Some(id) = listed(root, RoleType::Root, key) {
-        if !ids.contains(id) {
-            ids.push(id.clone()?)?;
-        }
-    }
-    Ok(())
-}
-
-// The identifiers under which the roots list the key for roots.
-fn identifiers(
-    alloc: Global,
-    root: &Root,
-    old: Option<&RootFile>,
-    key: &Key,
-) -> Result<Vec<Decoded<Hex>>, Fault> {
-    let mut ids = Vec::new(alloc);
-    note(&mut ids, root, key)?;
-    if let Some(old) = old {
-        note(&mut ids, &old.signed.signed, key)?;
-    }
-    Ok(ids)
-}
-
-// The signature of the message under this identifier.
-fn signature_by(
-    alloc: Global,
-    path: &str,
-    signer: &SigningKey,
-    id: Decoded<Hex>,
-    message: &[u8],
-) -> Result<Signature, Fault> {
-    let sig = match signer.sign(alloc, message) {
-        Ok(sig) => Decoded::from_vec(alloc, sig)?,
-        Err(error) => return Err(about(alloc, path, &error)),
-    };
-    Ok(Signature { keyid: id, sig })
-}
-
-// Puts the signature in the place of one under its identifier, else behind the others.
-fn put(signatures: &mut Vec<Signature>, signature: Signature) -> Result<(), Fault> {
-    signatures.retain(|other| other.keyid != signature.keyid);
-    signatures.push(signature)?;
-    Ok(())
-}
-
 // Adds the signatures by the key of a file.
 fn sign_by<R: Host>(
     rt: &R,
     root: &mut RootFile,
     old: Option<&RootFile>,
     path: &str,
-    message: &[u8],
 ) -> Result<(), Fault> {
     let alloc = rt.alloc();
     let signer = read_signer(rt, path)?;
-    let key = public_of(alloc, &signer)?;
-    let ids = identifiers(alloc, &root.signed.signed, old, &key)?;
-    if ids.is_empty() {
-        return Err(refused(alloc, path, NO_KEY));
+    let before = match old {
+        Some(old) => Some(&old.signed.signed),
+        None => None,
+    };
+    match sign_root(alloc, &mut root.signed, before, &signer) {
+        Ok(()) => Ok(()),
+        Err(CeremonyError::NotListed) => Err(refused(alloc, path, NO_KEY)),
+        Err(error) => Err(told_of(alloc, path, error)),
     }
-    for id in ids {
-        let signature = signature_by(alloc, path, &signer, id, message)?;
-        put(&mut root.signed.signatures, signature)?;
-    }
-    Ok(())
 }
 
 // Who signed the root, of its own keys and of those of the root before.
@@ -96,13 +46,11 @@ fn told(
     path: &str,
     root: &RootFile,
     old: Option<&RootFile>,
-    message: &[u8],
 ) -> Result<String, Fault> {
-    let signatures = root.signed.signatures.as_slice();
-    let own = count_signed(alloc, &root.signed.signed, message, signatures)?;
+    let own = count_signed(alloc, path, &root.signed.signed, &root.signed)?;
     let mut text = line(alloc, path, &own)?;
     if let Some(old) = old {
-        let before = count_signed(alloc, &old.signed.signed, message, signatures)?;
+        let before = count_signed(alloc, path, &old.signed.signed, &root.signed)?;
         text.push_str(line(alloc, "keys of the root before", &before)?.as_str())?;
     }
     Ok(text)
@@ -115,12 +63,10 @@ fn sign_by_all<R: Host>(
     old: Option<&RootFile>,
     signing: &Signing<'_>,
 ) -> Result<String, Fault> {
-    let (alloc, path) = (rt.alloc(), signing.root);
-    let message = message(alloc, path, &root.signed.signed)?;
     for key in signing.keys {
-        sign_by(rt, root, old, key, message.as_slice())?;
+        sign_by(rt, root, old, key)?;
     }
-    told(alloc, path, root, old, message.as_slice())
+    told(rt.alloc(), signing.root, root, old)
 }
 
 // Adds the signatures, where the root before is at hand.

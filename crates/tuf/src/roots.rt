@@ -6,7 +6,8 @@ use crate::host::Host;
 use std::alloc::Global;
 use tough::editor::signed::SignedRole;
 use tough::schema::decoded::{Decoded, Hex};
-use tough::schema::{Key, Role, RoleKeys, RoleType, Root, Signature, Signed, Verify};
+use tough::schema::{Key, Role, RoleType, Root, Signature, Signed, Verify};
+use tough_ceremony::{CeremonyError, Tally, tally_root};
 use tough_signatures::StandardVerify;
 
 /// The roles of a root, in the order in which they are told.
@@ -88,56 +89,43 @@ pub(crate) fn is_signed_by(
     false
 }
 
-/// Who signed a root, of the keys that a root lists for that.
-#[derive(Drop)]
-pub(crate) struct Tally<'a> {
-    pub(crate) signed: u64,
-    pub(crate) threshold: u64,
-    pub(crate) waiting: Vec<&'a Decoded<Hex>>,
-}
-
-impl Tally<'_> {
-    /// Whether as many signed as must.
-    pub(crate) fn is_reached(&self) -> bool {
-        self.signed >= self.threshold
+/// What an error of an edit, of signing or of counting says about a file, a role or a word.
+pub(crate) fn told_of(alloc: Global, what: &str, error: CeremonyError) -> Fault {
+    match error {
+        CeremonyError::Memory => Fault::Memory,
+        error => about(alloc, what, &error),
     }
 }
 
-// Counts which of the keys signed.
-fn count_of<'a>(
-    alloc: Global,
-    root: &Root,
-    keys: &'a RoleKeys,
-    message: &[u8],
-    signatures: &[Signature],
-) -> Result<Tally<'a>, Fault> {
-    let mut signed = 0u64;
-    let mut waiting = Vec::new(alloc);
-    for id in &keys.keyids {
-        if is_signed_by(root, id, message, signatures) {
-            signed = signed.saturating_add(1);
-        } else {
-            waiting.push(id)?;
-        }
-    }
-    Ok(Tally {
-        signed,
-        threshold: keys.threshold.get(),
-        waiting,
-    })
-}
-
-/// Which of the keys that this root lists for roots signed the message; none where it lists none.
+/// Which of the keys that this root lists for roots signed the root of the file; none where it lists none.
 pub(crate) fn count_signed<'a>(
     alloc: Global,
+    path: &str,
     root: &'a Root,
-    message: &[u8],
-    signatures: &[Signature],
+    document: &Signed<Root>,
 ) -> Result<Option<Tally<'a>>, Fault> {
-    match root.roles.get(&RoleType::Root) {
-        Some(keys) => Ok(Some(count_of(alloc, root, keys, message, signatures)?)),
-        None => Ok(None),
+    match tally_root(alloc, root, document, &StandardVerify) {
+        Ok(tally) => Ok(Some(tally)),
+        Err(CeremonyError::NoRole { .. }) => Ok(None),
+        Err(error) => Err(told_of(alloc, path, error)),
     }
+}
+
+// What a root lacks that isn't complete: other signatures, keys, or those keys that may still sign.
+fn wants(alloc: Global, tally: &Tally<'_>) -> Result<String, Fault> {
+    let mut text = String::new(alloc);
+    if !tally.is_once() {
+        text.push_str(", two signatures by one key")?;
+    } else if tally.waiting().is_empty() {
+        text.push_str(", lacks keys")?;
+    } else {
+        text.push_str(", waits for")?;
+        for id in tally.waiting() {
+            text.push_str(" ")?;
+            text.push_str(id.as_str())?;
+        }
+    }
+    Ok(text)
 }
 
 /// A line that says who signed, and who may still.
@@ -145,16 +133,10 @@ pub(crate) fn line(alloc: Global, whose: &str, tally: &Option<Tally<'_>>) -> Res
     let Some(tally) = tally else {
         return Ok(format!(in alloc; "{whose}: no keys for roots\n")?);
     };
-    let (signed, threshold) = (tally.signed, tally.threshold);
+    let (signed, threshold) = (tally.signed().len(), tally.threshold());
     let mut text = format!(in alloc; "{whose}: {signed} of {threshold} signatures")?;
-    if !tally.is_reached() && tally.waiting.is_empty() {
-        text.push_str(", lacks keys")?;
-    } else if !tally.is_reached() {
-        text.push_str(", waits for")?;
-        for id in &tally.waiting {
-            text.push_str(" ")?;
-            text.push_str(id.as_str())?;
-        }
+    if !tally.is_reached() {
+        text.push_str(wants(alloc, tally)?.as_str())?;
     }
     text.push_str("\n")?;
     Ok(text)
