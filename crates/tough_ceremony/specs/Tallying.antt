@@ -3,10 +3,12 @@ use Rattle.std.specs.Prelude.{◌≡◌, ℕ, List, [], ◌∷◌, map, filter, 
 use Rattle.std.specs.Int.NonZero.{non_zero_u64_get}
 use Rattle.tough_decoded.specs.Spelled.{Spelled}
 use Rattle.tough_keys.specs.Same.{Verifies}
-use Rattle.tough_roles.specs.Chain.{text_by}
+use Rattle.tough_roles.specs.Chain.{text_by, ReachesUnder}
 use Rattle.tough_roles.specs.Policy.{pair_of}
-use Rattle.tough_roles.specs.Root.{RootDoc, RoleKeysDoc, root_json}
-use Rattle.tough_roles.specs.Signature.{SignatureDoc, SignedDoc}
+use Rattle.tough_roles.specs.Root.{RootDoc, RoleKeysDoc, root_doc, root_json}
+use Rattle.tough_roles.specs.Signature.{SignatureDoc, SignedDoc, signed_doc}
+use Rattle.tough_roles.specs.declared.root.Root.{Root}
+use Rattle.tough_roles.specs.declared.signed.Signed.{Signed}
 use Rattle.tough_roles.specs.Verdict.{has_signed, some_twice}
 use Rattle.tough_roles.specs.declared.role_type.RoleType.TheVariants as types
 use Rattle.tough_sign.specs.Making.{Known, is_listed}
@@ -64,3 +66,7 @@ pub record IsTally (verifies : Verifies) (by : RootDoc) (s : SignedDoc RootDoc) 
   pub text : List ℕ
   pub canonical : text_by root_json s.role ≡ Some text
   pub tally : IsTallyOf verifies by.keys asked text s.signatures t
+
+-- a client accepts the document's signatures under the root
+abbrev pub IsAccepted : Verifies → Root → Signed Root → Type 0
+IsAccepted verifies by s = ReachesUnder verifies (root_doc by) types.Root (λ r. root_json (root_doc r)) (signed_doc (λ r. r) s)

@@ -1,16 +1,18 @@
 //! What signing and tallying promise together.
 
-ghost use Rattle.std.specs.Prelude.{◌≡◌, ◌+◌, ℕ, List, [], ◌∷◌, Option, Some, false, filter, length, not};
+ghost use Rattle.std.specs.Prelude.{◌≡◌, ◌+◌, ◌↔◌, ℕ, List, [], ◌∷◌, Option, Some, false, filter, length, not};
 ghost use Rattle.tough_keys.specs.Same.{Verifies};
-ghost use Rattle.tough_roles.specs.Chain.{text_by};
-ghost use Rattle.tough_roles.specs.Root.{RootDoc, RoleKeysDoc, root_json};
-ghost use Rattle.tough_roles.specs.Signature.{SignatureDoc};
+ghost use Rattle.tough_roles.specs.Chain.{text_by, IsNext};
+ghost use Rattle.tough_roles.specs.Root.{RootDoc, RoleKeysDoc, root_doc, root_json};
+ghost use Rattle.tough_roles.specs.Signature.{SignatureDoc, signed_doc};
 ghost use Rattle.tough_roles.specs.Verdict.{some_twice};
 ghost use Rattle.tough_roles.specs.declared.role_type.RoleType.TheVariants as types;
+ghost use Rattle.tough_roles.specs.declared.root.Root.{Root};
+ghost use Rattle.tough_roles.specs.declared.signed.Signed.{Signed};
 ghost use Rattle.tough_sign.specs.Making.{SignWell};
 ghost use Rattle.tough_ceremony.specs.Listing.{role_in};
 ghost use Rattle.tough_ceremony.specs.Signing.{lists_in, AreSignedBy, Agrees};
-ghost use Rattle.tough_ceremony.specs.Tallying.{signed_of, waiting_of};
+ghost use Rattle.tough_ceremony.specs.Tallying.{signed_of, waiting_of, IsAccepted};
 
 use tough_keys::Sign;
 
@@ -38,4 +40,13 @@ pub fn signing_counts<S: Sign>()
         (before after : List SignatureDoc)
         → AreSignedBy S.key S.signs signer r old before after
         → some_twice before ≡ false → some_twice after ≡ false }
+{}
+
+/// The next root of a client (TUF specification 1.0, section 5.3) is the one whose version is one more, and whose signatures are accepted under the root
+/// before it and under itself, as its tallies under these two tell.
+pub fn complete_is_next()
+    ensures { (v : Verifies) (old next : Signed Root)
+        → IsNext v (signed_doc root_doc old) (signed_doc root_doc next)
+        ↔ (IsAccepted v old.signed next × IsAccepted v next.signed next
+        × ((root_doc next.signed).head.version ≡ (root_doc old.signed).head.version + 1)) }
 {}

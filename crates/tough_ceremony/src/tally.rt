@@ -5,12 +5,10 @@ ghost use Rattle.std.specs.List.{list_any};
 ghost use Rattle.std.specs.Str.{bytes_eq};
 ghost use Rattle.tough_keys.specs.Key.{key_doc};
 ghost use Rattle.tough_keys.specs.Same.{data_of};
-ghost use Rattle.tough_roles.specs.Chain.{ReachesUnder};
-ghost use Rattle.tough_roles.specs.Root.{root_doc, keys_doc, role_keys_doc, root_json};
+ghost use Rattle.tough_roles.specs.Root.{root_doc, keys_doc, role_keys_doc};
 ghost use Rattle.tough_roles.specs.Signature.{signatures_doc, signed_doc};
 ghost use Rattle.tough_roles.specs.Verdict.{is_by, some_twice};
-ghost use Rattle.tough_roles.specs.declared.role_type.RoleType.TheVariants as types;
-ghost use Rattle.tough_ceremony.specs.Tallying.{signed_by, signed_of, waiting_of, signed_in, waiting_in, threshold_in, is_once, is_reached, IsTallyOf, IsTally};
+ghost use Rattle.tough_ceremony.specs.Tallying.{signed_by, signed_of, waiting_of, signed_in, waiting_in, threshold_in, is_once, is_reached, IsTallyOf, IsTally, IsAccepted};
 ghost use Rattle.tough_ceremony.specs.Refusals.{IsUncounted};
 
 use crate::error::CeremonyError;
@@ -196,8 +194,7 @@ pub fn tally_root<'a, V: Verify>(
     ensures tally { IfOk result (IsTally (V.verifies verifier.now) (root_doc by.now)
         (signed_doc root_doc document.now)) }
     ensures reached { IfOk result (λ t. Decides (is_reached t)
-        (ReachesUnder (V.verifies verifier.now) (root_doc by.now) types.Root
-        (λ r. root_json (root_doc r)) (signed_doc (λ r. r) document.now))) }
+        (IsAccepted (V.verifies verifier.now) by.now document.now)) }
     ensures refused { IfErr result
         (IsUncounted (root_doc by.now) (root_doc document.now.signed)) }
 {
