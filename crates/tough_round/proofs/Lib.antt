@@ -11,6 +11,8 @@ pub mod Placing
 pub mod Reading
 pub mod Rooting
 pub mod Standings
+pub mod Depths
+pub mod Shallow
 pub mod Filed
 pub mod Loadables
 pub mod Signing

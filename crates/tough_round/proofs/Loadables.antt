@@ -126,10 +126,10 @@ module _ (apart : EncodesApart) (v : Verifies) (s : SettingDoc) (start : ℤ) (e
   top-version = sym (ap (λ (p : SignedDoc TargetsDoc). p.role.head.version) top-is)
 
   snapshot-reading : snapshot_in (buffer_of (snapshot_of r)) ≡ Some (snapshot_in_it r)
-  snapshot-reading = reads snapshot_at snapshot_doc (signed_of (snapshot_of r)) (buffer_of (snapshot_of r)) (f.snapshot.back tt may.snapshot_shallow)
+  snapshot-reading = reads snapshot_at snapshot_doc (signed_of (snapshot_of r)) (buffer_of (snapshot_of r)) (f.snapshot.back tt f.snapshot_shallow)
 
   timestamp-reading : timestamp_in (buffer_of (timestamp_of r)) ≡ Some (timestamp_in_it r)
-  timestamp-reading = reads timestamp_at timestamp_doc (signed_of (timestamp_of r)) (buffer_of (timestamp_of r)) (f.timestamp.back tt may.timestamp_shallow)
+  timestamp-reading = reads timestamp_at timestamp_doc (signed_of (timestamp_of r)) (buffer_of (timestamp_of r)) (f.timestamp.back tt f.timestamp_shallow)
 
   -- ---- the documents of the roles
 

@@ -27,7 +27,7 @@ pub released-loads : {S : Type 0} (key_of : S → KeyDoc) (signs : S → List �
     → Loadable v (files_of r) s (loaded_of s start r)
 released-loads key_of signs apart snapshots timestamps roots belows v s start signers e r well released may =
     let made = released.made in
-    let f = made-filed key_of signs signers released.closed r made in
+    let f = made-filed key_of signs signers e released.closed r released.closes made may.snapshot_shallow may.timestamp_shallow in
     let sorted = (root-read (buffer_of (root_of r)) (root_in_it r) f.rooted).0.1 in
     let top = keys-rise-top apart v s start e r may f in
     let below = keys-rise-below apart v s start e r may f in
@@ -40,4 +40,4 @@ released-loads key_of signs apart snapshots timestamps roots belows v s start si
 pub released-found : {S : Type 0} (key_of : S → KeyDoc) (signs : S → List ℕ → List ℕ → Type 0) → EncodesApart
     → (v : Verifies) (s : SettingDoc) (start : ℤ) (signers : List S) (e : ReleaseDoc) (r : SignedRepository) → IsReleased key_of signs signers e r → MayLoad v s start e r
     → AllByRecursion (λ f. files_of r f.0 ≡ Some f.1) (written r)
-released-found key_of signs apart v s start signers e r released may = all-found apart v s start e r may (made-filed key_of signs signers released.closed r released.made)
+released-found key_of signs apart v s start signers e r released may = all-found apart v s start e r may (made-filed key_of signs signers e released.closed r released.closes released.made may.snapshot_shallow may.timestamp_shallow)

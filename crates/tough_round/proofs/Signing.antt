@@ -67,13 +67,13 @@ ReachesBelow {T} {S} json kind key_of signs = (v : Verifies) (g : DelegationsDoc
 held-page : (d : Signed DelegatedTargets) → signed_doc delegated_doc d ≡ page_of (held_doc d)
 held-page d = ap (λ (t : TargetsDoc). let p : SignedDoc TargetsDoc = record { role = t; signatures = (held_doc d).signatures } in p) (top-tells (out-DelegatedTargets d.signed).targets ∙ ap top_doc (sym (held-below d)))
 
-name-is : (d : DelegatedTargets) (n : List ℕ) (t : TreeDoc) → named_tree d ≡ (n, t) → delegated_name d ≡ n
+pub name-is : (d : DelegatedTargets) (n : List ℕ) (t : TreeDoc) → named_tree d ≡ (n, t) → delegated_name d ≡ n
 name-is d n t h = sym (ap (λ (x : List ℕ × TreeDoc). x.0) (named-out d)) ∙ ap (λ (x : List ℕ × TreeDoc). x.0) h
 
 top-id : (n : List ℕ) → is_top n ≡ true → delegated_id n ≡ standard types.Targets
 top-id n h = ap (λ b. if b then standard types.Targets else delegated n) h
 
-below-id : (n : List ℕ) → is_top n ≡ false → delegated_id n ≡ delegated n
+pub below-id : (n : List ℕ) → is_top n ≡ false → delegated_id n ≡ delegated n
 below-id n h = ap (λ b. if b then standard types.Targets else delegated n) h
 
 is-role-in : (name : List ℕ) (t : TreeDoc) → is_role (sought name t) ≡ true → is_role (seek_in name t) ≡ true

@@ -1,14 +1,13 @@
 -- When the files of a signed repository can be loaded (TUF specification 1.0, section 5). The documents that the signers signed reach their
 -- thresholds; of those that were taken over it is asked.
-use Rattle.std.specs.Prelude.{◌≡◌, ◌≢◌, ◌⊎◌, ◌≤◌, ◌<◌, ◌-◌, ◌^◌, ℕ, ℤ, ◌++◌, List, length, true, false, is_some, Option, Some, None, codes}
+use Rattle.std.specs.Prelude.{◌≡◌, ◌≢◌, ◌⊎◌, ◌≤◌, ◌<◌, ◌+◌, ℕ, ℤ, ◌++◌, List, length, true, false, is_some, Option, Some, None, codes}
+use Rattle.serde_json.specs.Data.{Members, members_depth}
 use Rattle.serde_json.specs.Read.{max_depth}
 use Rattle.tough_keys.specs.Same.{Verifies}
 use Rattle.tough_roles.specs.Chain.{ReachesUnder}
 use Rattle.tough_roles.specs.Readable.{NestsWithin}
 use Rattle.tough_roles.specs.Root.{root_json}
 use Rattle.tough_roles.specs.Signature.{SignedDoc, signed_json}
-use Rattle.tough_roles.specs.Snapshot.{snapshot_json}
-use Rattle.tough_roles.specs.Timestamp.{timestamp_json}
 use Rattle.tough_roles.specs.declared.role_type.RoleType.TheVariants as types
 use Rattle.tough_schema.specs.Delegations.{DelegationsDoc}
 use Rattle.tough_schema.specs.Fresh.{carriers_below}
@@ -36,6 +35,10 @@ pub record IsRoleName (name : List ℕ) : Type 0 where
   pub snapshot : name ≢ codes "snapshot"
   pub timestamp : name ≢ codes "timestamp"
   pub tail : (m : List ℕ) → name ≢ m ++ codes ".root"
+
+-- Extras of a role that nest no deeper than is read: they stand two levels below the JSON of the signed document.
+abbrev pub IsShallow : Members → Type 0
+IsShallow extra = members_depth extra + 2 ≤ max_depth
 
 -- an editor of the role's document is open, whose document the signers sign
 abbrev pub IsOpened : ReleaseDoc → List ℕ → Type 0
@@ -65,9 +68,9 @@ module _ (verifies : Verifies) (s : SettingDoc) (start : ℤ) (e : ReleaseDoc) w
     pub one_update : 0 < s.limits.max_root_updates
     pub start_text : time_text start ≢ None
     pub timestamp_size : length (buffer_of (timestamp_of r)) ≤ s.limits.max_timestamp_size
-    pub timestamp_shallow : NestsWithin max_depth (signed_json timestamp_json (timestamp_in_it r))
+    pub timestamp_shallow : IsShallow e.timestamp.extra
     pub timestamp_in_time : is_expired s.enforced start (timestamp_in_it r).role.head.expires ≡ false
-    pub snapshot_shallow : NestsWithin max_depth (signed_json snapshot_json (snapshot_in_it r))
+    pub snapshot_shallow : IsShallow e.snapshot.extra
     pub snapshot_in_time : is_expired s.enforced start (snapshot_in_it r).role.head.expires ≡ false
     pub targets_signed : IsOpened e top_name ⊎ ReachesUnder verifies (root_in_it r).role types.Targets targets_json (top_page (tree_in_it r))
     pub targets_keys : KeysAreOwn (top_page (tree_in_it r)).role.delegations
