@@ -11,6 +11,7 @@ use std::alloc::Global;
 use std::num::NonZeroU64;
 use tough::TargetName;
 use tough::editor::RepositoryEdits;
+use tough::jiff::Timestamp;
 use tough::schema::{DelegatedTargets, Signed, Target, Targets};
 use tough_signatures::StandardVerify;
 
@@ -20,6 +21,30 @@ const NEXT: &str = "its holders sign the next one, which --take takes in";
 
 const ANOTHER: &str = "another document of this version was published; sign one of the next";
 
+// Whether the document delegates to roles of its own.
+fn delegates(document: &Targets) -> bool {
+    match &document.delegations {
+        Some(delegations) => !delegations.roles.is_empty(),
+        None => false,
+    }
+}
+
+// The document has expired.
+fn expired(alloc: Global, path: &str, expires: Timestamp) -> Fault {
+    match format!(in alloc; "{path}: expired {expires}; `tuf role sign` makes the next") {
+        Ok(text) => Fault::Told(text),
+        Err(_) => Fault::Memory,
+    }
+}
+
+// The document is of an older version than is needed.
+fn older(alloc: Global, path: &str, version: NonZeroU64, needed: NonZeroU64) -> Fault {
+    match format!(in alloc; "{path}: version {version}, where {needed} is needed") {
+        Ok(text) => Fault::Told(text),
+        Err(_) => Fault::Memory,
+    }
+}
+
 // Refuses a document that delegates to roles, has expired, or is of an older version than is needed.
 fn check<R: Host>(
     rt: &R,
@@ -28,20 +53,15 @@ fn check<R: Host>(
     needed: Option<NonZeroU64>,
 ) -> Result<(), Fault> {
     let alloc = rt.alloc();
-    if let Some(delegations) = &document.delegations {
-        if !delegations.roles.is_empty() {
-            return Err(refused(alloc, path, FURTHER));
-        }
+    if delegates(document) {
+        return Err(refused(alloc, path, FURTHER));
     }
-    let (version, expires) = (document.version, document.expires);
-    if expires <= when::now(rt)? {
-        let text = format!(in alloc; "{path}: expired {expires}; `tuf role sign` makes the next")?;
-        return Err(Fault::Told(text));
+    if document.expires <= when::now(rt)? {
+        return Err(expired(alloc, path, document.expires));
     }
     match needed {
-        Some(needed) if version < needed => {
-            let text = format!(in alloc; "{path}: version {version}, where {needed} is needed")?;
-            Err(Fault::Told(text))
+        Some(needed) if document.version < needed => {
+            Err(older(alloc, path, document.version, needed))
         }
         _ => Ok(()),
     }
