@@ -59,12 +59,12 @@ fn check<R: Host>(
     if document.expires <= when::now(rt)? {
         return Err(expired(alloc, path, document.expires));
     }
-    match needed {
-        Some(needed) if document.version < needed => {
-            Err(older(alloc, path, document.version, needed))
+    if let Some(needed) = needed {
+        if document.version.get() < needed.get() {
+            return Err(older(alloc, path, document.version, needed));
         }
-        _ => Ok(()),
     }
+    Ok(())
 }
 
 /// The document of a file, which must be of this version at least, if one is named.
