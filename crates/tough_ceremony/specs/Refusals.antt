@@ -42,9 +42,9 @@ pub record IsAlready (type : RoleType) (key : KeyDoc) (r : RootDoc) : Type 0 whe
   pub own : key_id_of key ≡ Some id
   pub listed : Lists type (in_digits id) true r
 
--- the root hasn't the role, or that lists the key, or the key has no identifier; want of memory says nothing
+-- the key has no identifier; or else the root hasn't the role, or that lists the key's identifier; want of memory says nothing
 abbrev pub IsNotListed : RoleType → KeyDoc → RootDoc → CeremonyError → Type 0
-IsNotListed type key r (errors.NoRole role) = (role ≡ type) × (role_in type r ≡ None)
+IsNotListed type key r (errors.NoRole role) = (role ≡ type) × (role_in type r ≡ None) × ((id : List ℕ) × (key_id_of key ≡ Some id))
 IsNotListed type key r errors.AlreadyListed = IsAlready type key r
 IsNotListed type key r errors.NoIdentifier = key_id_of key ≡ None
 IsNotListed type key r errors.Memory = ⊤
@@ -68,10 +68,11 @@ IsFailure fails (errors.Signer reason) = fails (string_bytes reason)
 IsFailure fails errors.Memory = ⊤
 IsFailure fails _ = ⊥
 
--- no root lists the key for roots, or the root has no canonical form, or the signer failed for one of these reasons; want of memory says nothing
+-- no root lists the key for roots; or else the root has no canonical form; or the signer failed for one of these reasons; want of memory says
+-- nothing
 abbrev pub IsUnsigned : (List ℕ → Type 0) → KeyDoc → RootDoc → Option RootDoc → CeremonyError → Type 0
 IsUnsigned fails key r old errors.NotListed = (id : Spelled) → lists_in key r old id ≡ false
-IsUnsigned fails key r old errors.Unwritable = text_by root_json r ≡ None
+IsUnsigned fails key r old errors.Unwritable = ((id : Spelled) × (lists_in key r old id ≡ true)) × (text_by root_json r ≡ None)
 IsUnsigned fails key r old (errors.Signer reason) = fails (string_bytes reason)
 IsUnsigned fails key r old errors.Memory = ⊤
 IsUnsigned fails key r old _ = ⊥

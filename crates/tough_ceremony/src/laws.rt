@@ -1,6 +1,6 @@
 //! What signing and tallying promise together.
 
-ghost use Rattle.std.specs.Prelude.{◌≡◌, ◌+◌, ◌↔◌, ℕ, List, [], ◌∷◌, Option, Some, false, filter, length, not};
+ghost use Rattle.std.specs.Prelude.{◌≡◌, ◌+◌, ◌↔◌, ℕ, List, [], ◌∷◌, Option, Some, true, false, filter, length, not};
 ghost use Rattle.tough_keys.specs.Same.{Verifies};
 ghost use Rattle.tough_roles.specs.Chain.{text_by, IsNext};
 ghost use Rattle.tough_roles.specs.Root.{RootDoc, RoleKeysDoc, root_doc, root_json};
@@ -12,12 +12,14 @@ ghost use Rattle.tough_roles.specs.declared.signed.Signed.{Signed};
 ghost use Rattle.tough_sign.specs.Making.{SignWell};
 ghost use Rattle.tough_ceremony.specs.Listing.{role_in};
 ghost use Rattle.tough_ceremony.specs.Signing.{lists_in, AreSignedBy, Agrees};
-ghost use Rattle.tough_ceremony.specs.Tallying.{signed_of, waiting_of, IsAccepted};
+ghost use Rattle.tough_ceremony.specs.Tallying.{signed_of, waiting_of, is_reached, IsTally, IsAccepted};
+ghost use Rattle.tough_ceremony.specs.declared.tally.Tally.{Tally};
 
 use tough_keys::Sign;
 
 /// Where a holder signs whose signatures verify, the holder's identifiers wait no longer in the tally, and all others wait as before; so many more are counted
-/// as waited; and where no identifier stood twice among the signatures, none does.
+/// as waited; and where no identifier stood twice among the signatures, none does. The root that counts must have the holder's key under each identifier
+/// under which the holder signs and that it lists: so it is where it is one of the roots that the holder signs for, since identifiers are digests of keys.
 pub fn signing_counts<S: Sign>()
     ensures waiting { (v : Verifies) (signer : S) (r by : RootDoc) (old : Option RootDoc)
         (asked : RoleKeysDoc) (text : List ℕ) (before after : List SignatureDoc)
@@ -43,10 +45,16 @@ pub fn signing_counts<S: Sign>()
 {}
 
 /// The next root of a client (TUF specification 1.0, section 5.3) is the one whose version is one more, and whose signatures are accepted under the root
-/// before it and under itself, as its tallies under these two tell.
+/// before it and under itself, which its tallies under these two tell.
 pub fn complete_is_next()
-    ensures { (v : Verifies) (old next : Signed Root)
+    ensures accepted { (v : Verifies) (old next : Signed Root)
         → IsNext v (signed_doc root_doc old) (signed_doc root_doc next)
         ↔ (IsAccepted v old.signed next × IsAccepted v next.signed next
+        × ((root_doc next.signed).head.version ≡ (root_doc old.signed).head.version + 1)) }
+    ensures tallied { (v : Verifies) (old next : Signed Root) (before itself : Tally)
+        → IsTally v (root_doc old.signed) (signed_doc root_doc next) before
+        → IsTally v (root_doc next.signed) (signed_doc root_doc next) itself
+        → IsNext v (signed_doc root_doc old) (signed_doc root_doc next)
+        ↔ ((is_reached before ≡ true) × (is_reached itself ≡ true)
         × ((root_doc next.signed).head.version ≡ (root_doc old.signed).head.version + 1)) }
 {}

@@ -76,6 +76,7 @@ fn more_keyids(
 }
 
 // The key's own identifier, and what the role lists with it.
+#[tactic(auto, using(crate::proofs::Refusing::taken))]
 fn place_of(
     alloc: Global,
     root: &Root,
@@ -119,7 +120,8 @@ fn put_key(
 
 /// Lists the key for the role, under its own identifier in lower-case digits, behind those that the role lists, and puts it among the root's keys
 /// (TUF specification 1.0, section 4.3). The refusals, in this order: `NoIdentifier` where the key has no canonical form, `NoRole` where the root
-/// hasn't the role, `AlreadyListed` where the role lists the key; `Memory` when out of memory. The root stays as it is then.
+/// hasn't the role, `AlreadyListed` where the role lists the key's
+/// identifier; `Memory` when out of memory. The root stays as it is then. An entry that stands under the identifier is replaced, and keeps its spelling.
 pub fn list_key(
     alloc: Global,
     root: &mut Root,

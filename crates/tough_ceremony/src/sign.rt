@@ -185,6 +185,7 @@ fn signer_ids<S: Sign>(
 }
 
 // The signatures of the document, with those by the signer.
+#[tactic(auto, using(crate::proofs::Refusing::textless))]
 fn signatures_by<S: Sign>(
     alloc: Global,
     document: &Signed<Root>,
@@ -204,10 +205,10 @@ fn signatures_by<S: Sign>(
     Ok(all)
 }
 
-/// Signs the root once, and puts the signature under each identifier under which the root, or the one before it, lists the signer's key for roots: in
+/// Puts one signature of the root under each identifier under which the root, or the one before it, lists the signer's key for roots: in
 /// the place of what stood there, behind all other signatures, which stay as they are, in their order (TUF specification 1.0, sections 4.2 and 6.1).
-/// The refusals, in this order: `Signer` where the signer doesn't tell its key, `NotListed` where no root lists it, `Unwritable` where the root has no
-/// canonical form, `Signer` where the signer fails; `Memory` when out of memory. The document stays as it is then.
+/// The refusals: `Signer` where the signer doesn't tell its key, or fails; `NotListed` where no root lists the key; `Unwritable` where one does, and the
+/// root has no canonical form; `Memory` when out of memory. The document stays as it is then.
 pub fn sign_root<S: Sign>(
     alloc: Global,
     document: &mut Signed<Root>,

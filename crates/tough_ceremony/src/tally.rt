@@ -21,8 +21,8 @@ use tough_decoded::{Decoded, Hex};
 use tough_keys::{Key, Verify};
 use tough_roles::{RoleKeys, RoleType, Root, Signature, Signed};
 
-/// Which of the keys that a root lists for roots signed a root, and which still have to (TUF specification 1.0, section 5.3.4). Each identifier is told
-/// once, in the order of the root's list.
+/// Which of the keys that a root lists for roots signed a root, and which still have to (TUF specification 1.0, section 5.3.4). Identifiers are
+/// counted, as a client counts them: each is told once, in the order of the root's list, at the last place where it stands there.
 #[derive(Drop)]
 pub struct Tally<'a> {
     signed: Vec<&'a Decoded<Hex>>,
@@ -60,7 +60,7 @@ impl<'a> Tally<'a> {
         self.once
     }
 
-    /// Whether as many keys signed as must, and no two signatures stand under one identifier.
+    /// Whether under as many identifiers as must a key signed, and no two signatures stand under one identifier.
     pub fn is_reached(&self) -> bool
         ensures { result ≡ is_reached self.now }
     {

@@ -22,6 +22,7 @@ mod naming;
 mod nodes;
 mod put;
 mod read_delegations;
+mod read_plain;
 mod read_target;
 mod read_targets;
 mod seek;

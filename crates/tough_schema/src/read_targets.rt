@@ -12,6 +12,7 @@ ghost use Rattle.tough_schema.specs.Target.{target_doc, target_at};
 ghost use Rattle.tough_schema.specs.Targets.{name_at, listing_doc, listing_from, listing_at, targets_doc, targets_at, targets_around};
 
 use crate::read_delegations::delegations;
+use crate::read_plain::plain_target;
 use crate::read_target::target_of;
 use crate::target::Target;
 use crate::targets::Targets;
@@ -35,18 +36,30 @@ fn name_of(alloc: Global, raw: &str) -> Result<TargetName, ReadError>
     }
 }
 
-// The target that the member of the name is; only for this member a value is made.
-fn target_in(alloc: Global, raw: &str, value: Borrowed<'_>) -> Result<Target, ReadError>
-    ensures { (d : Data) → of_json (value_view value.entry) ≡ Some d
+// The target that the member of the name is, by its value.
+fn target_by_value(alloc: Global, raw: &str, value: &Borrowed<'_>) -> Result<Target, ReadError>
+    ensures { (d : Data) → of_json (value_view value.now) ≡ Some d
         → Reads target_doc result (target_at d) }
 {
-    let value = match value_in(alloc, &value) {
+    let value = match value_in(alloc, value) {
         Ok(value) => value,
         Err(error) => return Err(error),
     };
     match target_of(alloc, value) {
         Ok(target) => Ok(target),
         Err(error) => Err(within(alloc, raw, error)),
+    }
+}
+
+// The target that the member of the name is; a value is made only for this member, and only if it is not plain.
+fn target_in(alloc: Global, raw: &str, value: Borrowed<'_>) -> Result<Target, ReadError>
+    ensures { (d : Data) → of_json (value_view value.entry) ≡ Some d
+        → Reads target_doc result (target_at d) }
+{
+    match plain_target(alloc, &value) {
+        Ok(Some(target)) => Ok(target),
+        Ok(None) => target_by_value(alloc, raw, &value),
+        Err(_) => Err(ReadError::Memory),
     }
 }
 

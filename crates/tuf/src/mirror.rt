@@ -5,7 +5,7 @@ use crate::files::{self, Disk, make_folders};
 use crate::get::Means;
 use crate::host::Host;
 use crate::putting::{is_at, place};
-use crate::saving::{Place, names, save_watched};
+use crate::saving::{Place, found, names, save_watched};
 use crate::standing::standing_in;
 use crate::writing::TIMESTAMP;
 use std::alloc::Global;
@@ -18,7 +18,7 @@ const NEXT: &str = ".next";
 
 const CHANGED: &str = "the repository changed while it was copied; run it again";
 
-// The length of the target; none where its file is there already.
+// The length of the target; none where its file is there already, or no client finds it.
 fn missing<R: Host, T, K: Keeper, C>(
     alloc: Global,
     repository: &Repository<T, K, C>,
@@ -27,9 +27,8 @@ fn missing<R: Host, T, K: Keeper, C>(
     folder: &str,
 ) -> Result<Option<u64>, Fault> {
     let consistent = repository.root().signed.consistent_snapshot;
-    let target = match repository.targets().signed.find_target(alloc, name, false) {
-        Ok(target) => target,
-        Err(error) => return Err(about(alloc, name.resolved(), &error)),
+    let Some(target) = found(alloc, repository, name)? else {
+        return Ok(None);
     };
     let path = place(alloc, folder, name.resolved(), target, consistent)?;
     if is_at(alloc, disk, path.as_str(), target) {
