@@ -40,6 +40,7 @@ pub use tough_client::DirStore;
 pub use tough_client::DocumentName;
 pub use tough_client::Entry;
 pub use tough_client::ExpirationEnforcement;
+pub use tough_client::Extent;
 pub use tough_client::Fault;
 pub use tough_client::FixedClock;
 pub use tough_client::Keeper;

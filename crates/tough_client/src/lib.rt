@@ -20,7 +20,7 @@ pub use save::{Prefix, SaveTarget};
 pub use tough_error::{Error, Result};
 pub use tough_load::{
     Act, Answer, Ask, Clock, Core, Counts, DirStore, DocumentName, Entry, ExpirationEnforcement,
-    Fault, FixedClock, Keeper, Limits, ListedVersion, Load, LoadParts, LoadRun, Loaded,
+    Extent, Fault, FixedClock, Keeper, Limits, ListedVersion, Load, LoadParts, LoadRun, Loaded,
     MemoryStore, Receipt, Received, Refusal, Replaced, RepositoryLoader, Request, SnapshotVersions,
     StepError, Store, StoreError, SystemClock, TimestampVersions, Tip, Unset, UpdateError, Vault,
 };

@@ -19,7 +19,7 @@ use Rattle.tough_trust.specs.Walk.{first_root}
 use Rattle.tough_trust.specs.delegations.Bare.{held_as}
 use Rattle.tough_trust.proofs.lemmas.Walking.{first-passed}
 use Rattle.tough_update.specs.delegations.Growing.{Progress, wants, grown, go_on, begun}
-use Rattle.tough_update.specs.Delegated.{metas_in, is_reserved, if_found, grown_on, given, role_given, role_stored, with_received, role_holder}
+use Rattle.tough_update.specs.Delegated.{metas_in, is_reserved, if_found, grown_on, given, role_given, role_stored, with_received, role_holder, roles_begun, finished}
 use Rattle.tough_update.specs.Stages.{WalkDoc, BaseDoc, KnownDoc, WantedDoc, PendingDoc, ReceivedDoc, RolesDoc, LoadedDoc, StageDoc, SettingDoc}
 use Rattle.tough_update.specs.Stages as at
 use Rattle.tough_update.specs.Answered.{AnswerDoc}
@@ -121,7 +121,8 @@ module _ (v : Verifies) (s : SettingDoc) (served : Files) (now : ℤ) (root : Si
   step-alone (at.PutLast w) h l = ending Alone bad s.limits s.enforced w (λ _. tt)
   step-alone (at.PutTimestamp b t) h l = want_snapshot-alone b t (metafile_in t.role.meta snapshot_file)
   step-alone (at.PutSnapshot k n) h l = want_targets-alone k (metafile_in k.snapshot.role.meta targets_file)
-  step-alone (at.PutTargets k d) h l = grown-alone k [] (begun (metas_in k) (held_as [] d))
+  step-alone (at.PutTargets k d) h l =
+      if-fine Alone bad s.whole (roles_begun s.limits k d) (finished k [] d) (λ _. grown-alone k [] (begun (metas_in k) (held_as [] d))) (found-alone (first_missing d.role) (record { known = k; targets = d; received = [] }))
   step-alone (at.PutDelegated k roles name d) h l = given-alone k roles d
 
   pub is-alone : (stage : StageDoc) → Alone stage → AloneAt stage

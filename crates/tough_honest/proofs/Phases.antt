@@ -138,5 +138,5 @@ after-least v s (at.PutLast w) = unless-least 2 two (Checked (ExpiredMetadata ro
     (Ok (at.Fetch (at.Timestamp (base_of w)) (timestamp_request s.limits))) (same 2)
 after-least v s (at.PutTimestamp b t) = snapshot-least s.limits b t (metafile_in t.role.meta snapshot_file)
 after-least v s (at.PutSnapshot k listed) = targets-least s.limits k (metafile_in k.snapshot.role.meta targets_file)
-after-least v s (at.PutTargets k d) = grown-least s.limits k [] (go_on (metas_in k) (first_work (held_as [] d)))
+after-least v s (at.PutTargets k d) = either-least 4 s.whole _ _ (grown-least s.limits k [] (go_on (metas_in k) (first_work (held_as [] d)))) (found-least _ _)
 after-least v s (at.PutDelegated k roles name d) = grown-least s.limits k roles.received (go_on (metas_in k) (given roles.work d))

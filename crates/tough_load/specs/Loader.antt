@@ -3,9 +3,9 @@ use Rattle.std.specs.Prelude.{◌≡◌, ◌*◌, ◌^◌, ℕ, List, [], None, 
 use Rattle.url.specs.Parts.{Parts}
 use Rattle.tough_checks.specs.Checks.{enforces}
 use Rattle.tough_net.specs.declared.limits.Limits.{Limits}
-use Rattle.tough_update.specs.Stages.{CoreDoc, new_core}
+use Rattle.tough_update.specs.Stages.{CoreDoc, new_core, reaching}
 use Rattle.tough_update.specs.Counts.{none_yet}
-use Rattle.tough_update.specs.View.{core_doc, counts_of}
+use Rattle.tough_update.specs.View.{core_doc, counts_of, is_whole}
 use Rattle.tough_net.specs.Urls.{with_slash}
 use Rattle.tough_load.specs.declared.loader.RepositoryLoader.{RepositoryLoader}
 use Rattle.tough_load.specs.declared.load.Load.{Load}
@@ -21,6 +21,8 @@ pub record SettingsDoc : Type 0 where
   pub limits : Limits
   -- whether documents that have expired are refused
   pub enforced : Bool
+  -- whether the documents of delegated roles are loaded too
+  pub whole : Bool
 
 -- one mebibyte for roots, timestamps and snapshots, ten for targets, and 1,024 new roots
 abbrev pub default_limits : Limits
@@ -28,7 +30,7 @@ default_limits = record { max_root_size = 2 ^ 20; max_targets_size = 10 * 2 ^ 20
 
 -- the update that begins with these settings: nothing was answered yet
 abbrev pub first_core : SettingsDoc → CoreDoc
-first_core s = new_core s.root s.limits s.enforced
+first_core s = reaching s.whole (new_core s.root s.limits s.enforced)
 
 module _ {T V C K : Type 0} where
   abbrev pub settings_of : RepositoryLoader T V C K → SettingsDoc
@@ -38,6 +40,7 @@ module _ {T V C K : Type 0} where
     targets_base = l.settings.targets_base_url;
     limits = l.settings.limits;
     enforced = enforces l.settings.enforcement;
+    whole = is_whole l.settings.extent;
   }
 
   abbrev pub transport_of : RepositoryLoader T V C K → T

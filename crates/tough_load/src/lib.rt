@@ -15,7 +15,7 @@ pub use loader::{RepositoryLoader, Unset};
 pub use run::LoadRun;
 pub use tough_trust::Keeper;
 pub use tough_update::{
-    Act, Answer, Ask, Core, Counts, Fault, Limits, Loaded, Received, Request, UpdateError,
+    Act, Answer, Ask, Core, Counts, Extent, Fault, Limits, Loaded, Received, Request, UpdateError,
 };
 pub use tough_vault::{
     Clock, DirStore, DocumentName, Entry, ExpirationEnforcement, FixedClock, ListedVersion,

@@ -3,6 +3,7 @@
 ghost use Rattle.std.specs.Prelude.{◌≡◌, true, Ok, IfOk, IfErr};
 ghost use Rattle.tough_checks.specs.Checks.{enforces};
 ghost use Rattle.tough_net.specs.Urls.{with_slash};
+ghost use Rattle.tough_update.specs.View.{is_whole};
 ghost use Rattle.tough_load.specs.Base.{IsUnbegun, AreUnbegun};
 
 use crate::load::Load;
@@ -10,7 +11,7 @@ use std::alloc::Global;
 use tough_net::{SlashError, Transport, with_slash};
 use tough_roles::Verify;
 use tough_trust::Keeper;
-use tough_update::{Core, Limits, UpdateError};
+use tough_update::{Core, Extent, Limits, UpdateError};
 use tough_vault::{Clock, ExpirationEnforcement};
 use url::Url;
 
@@ -27,6 +28,7 @@ struct Settings<'a> {
     targets_base_url: Url,
     limits: Limits,
     enforcement: ExpirationEnforcement,
+    extent: Extent,
 }
 
 /// Loads a repository (TUF specification 5), from the bytes of a root that is trusted and two URLs. `load` is there once the transport, the
@@ -43,7 +45,7 @@ pub struct RepositoryLoader<'a, T, V, C, K> {
 impl<'a> RepositoryLoader<'a, Unset, Unset, Unset, Unset> {
     ghost use Rattle.tough_load.specs.Loader.{settings_of, default_limits};
 
-    /// A loader with the default limits, that refuses expired documents.
+    /// A loader with the default limits, that refuses expired documents, and loads those of delegated roles too.
     pub fn new(
         alloc: Global,
         root: &'a [u8],
@@ -58,6 +60,7 @@ impl<'a> RepositoryLoader<'a, Unset, Unset, Unset, Unset> {
                   = targets_base_url;
               limits = default_limits;
               enforced = true;
+              whole = true;
             } }
     {
         RepositoryLoader {
@@ -68,6 +71,7 @@ impl<'a> RepositoryLoader<'a, Unset, Unset, Unset, Unset> {
                 targets_base_url,
                 limits: Limits::default(),
                 enforcement: ExpirationEnforcement::Safe,
+                extent: Extent::Whole,
             },
             transport: Unset,
             verifier: Unset,
@@ -194,6 +198,21 @@ impl<'a, T, V, C, K> RepositoryLoader<'a, T, V, C, K> {
         };
         RepositoryLoader { settings, ..self }
     }
+
+    /// Which documents are loaded: those of the delegated roles too, or the top-level ones alone.
+    pub fn extent(self, extent: Extent) -> RepositoryLoader<'a, T, V, C, K>
+        ensures settings { settings_of result
+            ≡ record (settings_of self.entry) { whole = is_whole extent } }
+        ensures others { (transport_of result ≡ transport_of self.entry)
+            × (verifier_of result ≡ verifier_of self.entry)
+            × (clock_of result ≡ clock_of self.entry) × (keeper_of result ≡ keeper_of self.entry) }
+    {
+        let settings = Settings {
+            extent,
+            ..self.settings
+        };
+        RepositoryLoader { settings, ..self }
+    }
 }
 
 // A base URL, with a slash at its end.
@@ -245,7 +264,9 @@ impl<T: Transport, V: Verify + Drop, C: Clock + Drop, K: Keeper> RepositoryLoade
             keeper,
             clock,
             verifier,
-            core: Core::new(trusted, settings.limits, settings.enforcement),
+            core: Core::new(trusted, settings.limits, settings.enforcement).to_extent(
+                settings.extent,
+            ),
             fetch: None,
             receipts: Vec::new(alloc),
         })

@@ -4,6 +4,7 @@ pub mod Entry
 pub mod Head
 pub mod Reached
 pub mod Rereading
+pub mod Rising
 pub mod Root
 pub mod Table
 pub mod Tables

@@ -16,4 +16,5 @@ pub mod RoleId
 pub mod Names
 pub mod Keyring
 pub mod Readable
+pub mod Orderly
 pub mod Written

@@ -7,6 +7,7 @@ pub mod head;
 pub mod keyring;
 pub mod laws;
 pub mod names;
+pub mod orderly;
 pub mod read_root;
 mod read_signed;
 mod read_snapshot;

@@ -1,4 +1,4 @@
-ghost use Rattle.std.specs.Prelude.{◌≡◌, ℕ, List, Bool, Option, Some, IfOk, option_and_then, string_bytes};
+ghost use Rattle.std.specs.Prelude.{◌≡◌, ℕ, List, Bool, Option, Some, IfOk, IsTrue, option_and_then, string_bytes};
 ghost use Rattle.std.specs.Int.NonZero.{non_zero_u64_get};
 ghost use Rattle.json.specs.Value.{value_view};
 ghost use Rattle.serde_json.specs.Data.{Data};
@@ -9,6 +9,7 @@ ghost use Rattle.tough_json.specs.Pieces.{text_in, Appends};
 ghost use Rattle.tough_roles.specs.Chain.{text_by};
 ghost use Rattle.tough_roles.specs.Document.{ReadsValue};
 ghost use Rattle.tough_roles.specs.Head.{Head};
+ghost use Rattle.tough_roles.specs.Orderly.{IsOrderly};
 ghost use Rattle.tough_roles.specs.RoleId.{RoleIdDoc, role_id_doc};
 ghost use Rattle.tough_roles.specs.declared.role_type.RoleType.{RoleType as RoleKind};
 
@@ -70,6 +71,15 @@ pub trait Role {
             (option_and_then (text_in form) (json self.now)) t.items) }
     {
         Err(PieceError::Refused)
+    }
+
+    /// Whether the role's JSON is known to be read as the role, where it has one and the role is kept. No value of the
+    /// whole is made; `false` says nothing.
+    fn reads_back(&self, alloc: Global) -> Result<bool, AllocError>
+        ensures { IfOk result (λ known. IsTrue known → (d : Data) → json self.now ≡ Some d
+            → IsOrderly d × (is_kept self.now → is_read d self.now)) }
+    {
+        Ok(false)
     }
 
     /// The canonical text of the role as it is kept, which is what is signed; `Unwritable` where it has none.

@@ -245,6 +245,7 @@ module _ (apart : EncodesApart) (v : Verifies) (s : SettingDoc) (start : ℤ) (e
       → Below (Vouch v) (tree_in_it r).role
       → Loadable v files s (loaded_of s start r)
   loadable timestamp-signed snapshot-signed targets-signed vouched = record {
+    whole = may.whole;
     start_text = may.start_text;
     root = ap root_in may.trusted ∙ f.rooted;
     root_signed = may.root_signed;

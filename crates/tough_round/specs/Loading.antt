@@ -61,6 +61,8 @@ module _ (verifies : Verifies) (s : SettingDoc) (start : ℤ) (e : ReleaseDoc) w
 
   -- What is asked of a signed repository and of an update by these settings that begins at this moment.
   pub record MayLoad (r : SignedRepository) : Type 0 where
+    -- the documents of delegated roles are loaded too
+    pub whole : s.whole ≡ true
     -- the root that is handed in
     pub trusted : s.trusted ≡ buffer_of (root_of r)
     pub root_signed : ReachesUnder verifies (root_in_it r).role types.Root root_json (root_in_it r)

@@ -44,7 +44,7 @@ parts-replaced d x t ms new h =
     let b = bind_ok (with_optional (codes "delegations") a.0 ms) _ new a.2 in
     onward (optional_json delegations_json t.delegations) a.0 _ _ a.1 (onward (with_optional (codes "delegations") a.0 ms) b.0 _ _ b.1 (with-place (codes "targets") d x b.0 new b.2))
 
-around-replaced : (d x : Data) (t : TargetsDoc) (new : Members) → around_json d t ≡ Some new → around_json x t ≡ Some (replaced (codes "targets") x new)
+pub around-replaced : (d x : Data) (t : TargetsDoc) (new : Members) → around_json d t ≡ Some new → around_json x t ≡ Some (replaced (codes "targets") x new)
 unfolding around_json
 around-replaced d x t new h =
     let a = bind_ok (parts_json d t t.extra) _ new h in

@@ -35,3 +35,4 @@ pub mod Put
 pub mod Putting
 pub mod Measuring
 pub mod Joining
+pub mod Fitting

@@ -10,6 +10,7 @@ mod equal;
 mod fall;
 pub mod file_digest;
 mod find;
+mod fitting;
 mod from_path;
 mod hashed;
 mod held;

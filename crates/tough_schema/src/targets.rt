@@ -9,6 +9,7 @@ ghost use Rattle.tough_schema.specs.Fresh.{IsFresh, IsFreshDelegated};
 ghost use Rattle.tough_schema.specs.Targets.{targets_doc, delegated_doc, delegated_name, delegated_file, delegated_id, targets_at, targets_json, bare_targets, KeysAreOwn};
 
 use crate::delegations::Delegations;
+use crate::fitting::targets_read_back;
 use crate::read_targets::targets_in;
 use crate::target::Target;
 use crate::write_targets::{append_targets, targets_value};
@@ -145,6 +146,11 @@ impl Role for Targets {
         Ok(text)
     }
 
+    fn reads_back(&self, alloc: Global) -> Result<bool, AllocError> {
+        let known = targets_read_back(alloc, self)?;
+        Ok(known)
+    }
+
     fn version(&self) -> NonZeroU64 {
         self.version
     }
@@ -209,6 +215,11 @@ impl Role for DelegatedTargets {
     ) -> Result<Vec<u8>, PieceError> {
         let text = append_targets(alloc, &self.targets, form, out)?;
         Ok(text)
+    }
+
+    fn reads_back(&self, alloc: Global) -> Result<bool, AllocError> {
+        let known = targets_read_back(alloc, &self.targets)?;
+        Ok(known)
     }
 
     fn version(&self) -> NonZeroU64 {

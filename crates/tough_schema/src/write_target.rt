@@ -67,7 +67,7 @@ fn is_unstated(digest: &Option<Decoded<Hex>>) -> bool
 }
 
 // Whether the target states a length and its SHA-256 alone.
-fn is_plain(target: &Target) -> bool
+pub(crate) fn is_plain(target: &Target) -> bool
     ensures { IsTrue result → IsPlain (target_doc target.now) }
 {
     is_bare(&target.custom)

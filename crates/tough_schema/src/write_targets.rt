@@ -62,7 +62,7 @@ fn with_parts(
 
 // The document's members, with that value under `targets`.
 #[tactic(auto, unfolding(crate::specs::Targets::around_json))]
-fn members_around(
+pub(crate) fn members_around(
     alloc: Global,
     targets: &Targets,
     listed: Value,

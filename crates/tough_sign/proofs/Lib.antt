@@ -2,3 +2,5 @@ pub mod Newline
 pub mod Inserts
 pub mod Reaching
 pub mod Makings
+pub mod Laying
+pub mod Rereading

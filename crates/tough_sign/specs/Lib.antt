@@ -3,3 +3,4 @@ pub mod Making
 pub mod Signers
 pub mod Files
 pub mod Listing
+pub mod Laying

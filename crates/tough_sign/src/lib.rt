@@ -3,6 +3,7 @@
 
 mod file;
 pub mod laws;
+mod layout;
 mod meta;
 mod pretty;
 mod signers;

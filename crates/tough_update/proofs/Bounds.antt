@@ -27,7 +27,7 @@ use Rattle.tough_trust.specs.Walk.{next_root}
 use Rattle.tough_trust.specs.Outcomes.{holds_json}
 use Rattle.tough_trust.specs.Requests.{RequestDoc}
 use Rattle.tough_trust.specs.Listed.{by_root, judged}
-use Rattle.tough_update.specs.Delegated.{metas_in, is_reserved, if_found, grown_on, given, role_given, role_stored, with_received, role_holder}
+use Rattle.tough_update.specs.Delegated.{metas_in, is_reserved, if_found, grown_on, given, role_given, role_stored, with_received, role_holder, roles_begun, finished}
 use Rattle.tough_update.specs.Stages.{WalkDoc, BaseDoc, KnownDoc, WantedDoc, PendingDoc, ReceivedDoc, RolesDoc, LoadedDoc, StageDoc, SettingDoc, CoreDoc}
 use Rattle.tough_update.specs.Stages as at
 use Rattle.tough_update.specs.Answered.{AnswerDoc}
@@ -254,7 +254,9 @@ module _ (v : Verifies) (s : SettingDoc) where
     step-bounded (at.PutTargets k d) t l =
         let none : m.delegated ≡ 0 = (early l t.0).1 in
         let top = held_as [] d in
-        grown-bounded k [] (begun (metas_in k) top) (omega (arith, none)) (subst (λ x. ProgressGrows x (begun (metas_in k) top)) (sym none) (begun-grows (metas_in k) top t.2 t.1))
+        if-fine Next bad s.whole (roles_begun s.limits k d) (finished k [] d) (λ _.
+        grown-bounded k [] (begun (metas_in k) top) (omega (arith, none)) (subst (λ x. ProgressGrows x (begun (metas_in k) top)) (sym none) (begun-grows (metas_in k) top t.2 t.1)))
+        (found-bounded (first_missing d.role) (record { known = k; targets = d; received = [] }) (omega (arith, none)))
     step-bounded (at.PutDelegated k roles name d) t l = given-bounded k roles d (subst (Grows 1 roles.work) (sym l) t.0) t.1 t.2
 
     -- an answer that isn't waited for

@@ -17,7 +17,7 @@ use Rattle.tough_trust.specs.Walk.{next_root}
 use Rattle.tough_trust.specs.Outcomes.{holds_json}
 use Rattle.tough_trust.specs.Requests.{RequestDoc, root_request}
 use Rattle.tough_trust.specs.Listed.{by_root, judged}
-use Rattle.tough_update.specs.Delegated.{metas_in, is_reserved, if_found, grown_on, given, role_given, role_stored, with_received, role_holder}
+use Rattle.tough_update.specs.Delegated.{metas_in, is_reserved, if_found, grown_on, given, role_given, role_stored, with_received, role_holder, roles_begun, finished}
 use Rattle.tough_update.specs.delegations.Growing.{wanted_name, Progress, wants, grown, go_on, begun}
 use Rattle.tough_names.specs.Named.{Named}
 use Rattle.tough_schema.specs.Whole.{TreeDoc}
@@ -356,7 +356,8 @@ module _ (v : Verifies) (c : CoreDoc) where
       step-counts (at.PutLast w) t l = walk_ended-counts w (few-same 0 (asked-none (at.Step (at.PutLast w)) l.1 refl) t)
       step-counts (at.PutTimestamp b s) t l = want_snapshot-counts b s (metafile_in s.role.meta snapshot_file) (few-same 1 (asked-none (at.Step (at.PutTimestamp b s)) l.1 refl) t)
       step-counts (at.PutSnapshot k m) t l = want_targets-counts k (metafile_in k.snapshot.role.meta targets_file) (few-same 2 (asked-none (at.Step (at.PutSnapshot k m)) l.1 refl) t)
-      step-counts (at.PutTargets k d) t l = grown-counts k [] (begun (metas_in k) (held_as [] d))
+      step-counts (at.PutTargets k d) t l =
+          if-fine (Counts next) bad c.setting.whole (roles_begun c.setting.limits k d) (finished k [] d) (λ _. grown-counts k [] (begun (metas_in k) (held_as [] d))) (found-counts (first_missing d.role) (record { known = k; targets = d; received = [] }))
       step-counts (at.PutDelegated k roles name d) t l = given-counts k roles d
 
       turn-counts : (st : StageDoc) → run v c h ≡ in_stage c st → Counts h st → Counts next (settled (stage_after v c.setting st a))

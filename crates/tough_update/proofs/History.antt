@@ -15,7 +15,7 @@ use Rattle.tough_trust.specs.Walk.{first_root, next_root}
 use Rattle.tough_trust.specs.Outcomes.{holds_json}
 use Rattle.tough_trust.specs.Requests.{RequestDoc, root_request, timestamp_request}
 use Rattle.tough_trust.specs.Listed.{by_root, judged}
-use Rattle.tough_update.specs.Delegated.{metas_in, is_reserved, if_found, grown_on, given, role_given, role_stored, with_received, role_holder}
+use Rattle.tough_update.specs.Delegated.{metas_in, is_reserved, if_found, grown_on, given, role_given, role_stored, with_received, role_holder, roles_begun, finished}
 use Rattle.tough_update.specs.delegations.Growing.{first_name, wanted_name, Progress, wants, grown, go_on, begun}
 use Rattle.tough_names.specs.Named.{Named}
 use Rattle.tough_schema.specs.Whole.{TreeDoc, HeldDoc}
@@ -205,7 +205,9 @@ module _ (v : Verifies) (c : CoreDoc) where
     step-tells (at.PutLast w) t l = walk_ended-tells w
     step-tells (at.PutTimestamp b s) t l = want_snapshot-tells b s (metafile_in s.role.meta snapshot_file) refl (sym l.0) l.1
     step-tells (at.PutSnapshot k n) t l = want_targets-tells k n (metafile_in k.snapshot.role.meta targets_file) refl (sym l.0) l.1
-    step-tells (at.PutTargets k d) t l = grown-tells k [] (begun (metas_in k) (held_as [] d)) (accepted-more k t) (held_as [] d, [], refl)
+    step-tells (at.PutTargets k d) t l =
+        if-fine (Tells next) (bad next) c.setting.whole (roles_begun c.setting.limits k d) (finished k [] d) (λ _. grown-tells k [] (begun (metas_in k) (held_as [] d)) (accepted-more k t) (held_as [] d, [], refl))
+        (found-tells (first_missing d.role) (record { known = k; targets = d; received = [] }))
     step-tells (at.PutDelegated k roles name d) t l = given-tells k roles t.1.0 d (accepted-more k t.0) t.1.1
 
     -- a root's fetch ended the walk

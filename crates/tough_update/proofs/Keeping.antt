@@ -16,7 +16,7 @@ use Rattle.tough_update.specs.delegations.Numbered.{last_number}
 use Rattle.tough_update.specs.delegations.Growing.{Progress, wants, grown, go_on, begun, wanted_name}
 use Rattle.tough_trust.specs.delegations.Bare.{held_as}
 use Rattle.tough_trust.proofs.lemmas.Bare.{bare-none}
-use Rattle.tough_update.proofs.growth.Kept.{tree-few}
+use Rattle.tough_update.proofs.growth.Kept.{documents-carriers, tree-few}
 use Rattle.tough_update.proofs.growth.Laws.{WorkKeeps, ProgressKeeps, begun-keeps, taken-keeps}
 use Rattle.tough_update.proofs.growth.Placed.{WorkCarries, ProgressCarries, begun-carries, taken-carries, placed-few}
 use Rattle.tough_update.specs.declared.counts.Counts.{Counts}
@@ -25,7 +25,7 @@ use Rattle.tough_trust.specs.Walk.{next_root}
 use Rattle.tough_trust.specs.Outcomes.{holds_json}
 use Rattle.tough_trust.specs.Requests.{RequestDoc}
 use Rattle.tough_trust.specs.Listed.{by_root, judged}
-use Rattle.tough_update.specs.Delegated.{metas_in, is_reserved, if_found, grown_on, given, role_given, role_stored, with_received, role_holder}
+use Rattle.tough_update.specs.Delegated.{metas_in, is_reserved, if_found, grown_on, given, role_given, role_stored, with_received, role_holder, roles_begun, finished}
 use Rattle.tough_update.specs.Stages.{WalkDoc, BaseDoc, KnownDoc, WantedDoc, PendingDoc, ReceivedDoc, RolesDoc, LoadedDoc, StageDoc, SettingDoc, CoreDoc}
 use Rattle.tough_update.specs.Stages as at
 use Rattle.tough_update.specs.Answered.{AnswerDoc}
@@ -135,7 +135,11 @@ module _ (v : Verifies) (s : SettingDoc) (n m : Counts) (same : m.kept ≡ n.kep
   step-keeps (at.PutLast w) t _ = walk_ended-keeps w (same ∙ t)
   step-keeps (at.PutTimestamp b x) t _ = want_snapshot-keeps b x (metafile_in x.role.meta snapshot_file) (same ∙ t)
   step-keeps (at.PutSnapshot k listed) t _ = want_targets-keeps k (metafile_in k.snapshot.role.meta targets_file) (same ∙ t)
-  step-keeps (at.PutTargets k d) t _ = let top = held_as [] d in grown-keeps k [] (begun (metas_in k) top) (begun-keeps (metas_in k) top t.1) (begun-carries (metas_in k) top)
+  step-keeps (at.PutTargets k d) t _ =
+      let top = held_as [] d in
+      let few : length (documents_below d.role) ≤ length (metas_in k) = omega (arith, documents-carriers d.role, ap (λ (ns : List (List ℕ)). length ns) t.1) in
+      if-fine Next bad s.whole (roles_begun s.limits k d) (finished k [] d) (λ _. grown-keeps k [] (begun (metas_in k) top) (begun-keeps (metas_in k) top t.1) (begun-carries (metas_in k) top))
+      (found-keeps (first_missing d.role) (record { known = k; targets = d; received = [] }) few)
   step-keeps (at.PutDelegated k roles name d) t _ = given-keeps k roles d t.1 t.2 t.3
 
   -- an answer that isn't waited for

@@ -12,3 +12,4 @@ pub mod Noting
 pub mod Counting
 pub mod Bounds
 pub mod Keeping
+pub mod Topping

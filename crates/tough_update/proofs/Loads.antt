@@ -32,7 +32,7 @@ use Rattle.tough_trust.specs.Outcomes.{holds_json, if_read, unless, and_then}
 use Rattle.tough_trust.proofs.lemmas.Judging.{judged-to}
 use Rattle.tough_trust.specs.Requests.{RequestDoc, fits_request, root_request, timestamp_request, snapshot_request, targets_request, role_request}
 use Rattle.tough_trust.specs.Listed.{by_root, by_delegations, targets_text, targets_verdict, targets_refusal, judged}
-use Rattle.tough_update.specs.Delegated.{metas_in, is_reserved, if_found, grown_on, roles_begun, role_given, role_stored, with_received, role_holder}
+use Rattle.tough_update.specs.Delegated.{metas_in, is_reserved, if_found, grown_on, roles_begun, role_given, role_stored, with_received, role_holder, finished}
 use Rattle.tough_trust.specs.delegations.Bare.{bare, top_page, held_as}
 use Rattle.tough_update.specs.growth.Full.{fetch_order}
 use Rattle.tough_update.specs.delegations.Numbered.{Nodes, last_document}
@@ -289,7 +289,8 @@ module _ (v : Verifies) (files : Files) (s : SettingDoc) (l : LoadedDoc) (able :
 
   leads-put_targets : Leads (more + 1) (at.Step (at.PutTargets l.known (bare (top_page l.targets))))
   leads-put_targets = leads-turn more (at.Step (at.PutTargets l.known (bare (top_page l.targets)))) (settled (roles_begun s.limits l.known (bare (top_page l.targets)))) (got.Step (Ok (tt {0}))) (λ e. cc)
-      (passes (act.PutDocument targets_file (targets_text (top_page (bare (top_page l.targets))))) (ap (λ t. refusal_at_first v (act.PutDocument targets_file t)) bare-text ∙ targets-pass)) refl leads-roles
+      (passes (act.PutDocument targets_file (targets_text (top_page (bare (top_page l.targets))))) (ap (λ t. refusal_at_first v (act.PutDocument targets_file t)) bare-text ∙ targets-pass))
+      (ap (λ b. settled (if b then roles_begun s.limits l.known (bare (top_page l.targets)) else finished l.known [] (bare (top_page l.targets)))) able.whole) leads-roles
 
   abbrev page : SignedDoc TargetsDoc
   page = top_page l.targets

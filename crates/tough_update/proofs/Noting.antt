@@ -14,7 +14,7 @@ use Rattle.tough_trust.specs.Walk.{next_root}
 use Rattle.tough_trust.specs.Outcomes.{holds_json}
 use Rattle.tough_trust.specs.Requests.{RequestDoc}
 use Rattle.tough_trust.specs.Listed.{by_root, judged}
-use Rattle.tough_update.specs.Delegated.{metas_in, is_reserved, if_found, grown_on, given, role_given, role_stored, with_received, role_holder}
+use Rattle.tough_update.specs.Delegated.{metas_in, is_reserved, if_found, grown_on, given, role_given, role_stored, with_received, role_holder, roles_begun, finished}
 use Rattle.tough_names.specs.Named.{Named}
 use Rattle.tough_schema.specs.Whole.{TreeDoc}
 use Rattle.tough_schema.specs.Entries.{first_missing}
@@ -79,7 +79,8 @@ module _ (v : Verifies) where
   step-late s (at.PutLast w) = walk_ended-late s w
   step-late s (at.PutTimestamp b t) = want_snapshot-late s b t (metafile_in t.role.meta snapshot_file)
   step-late s (at.PutSnapshot k n) = want_targets-late s k (metafile_in k.snapshot.role.meta targets_file)
-  step-late s (at.PutTargets k d) = grown-late s k [] (begun (metas_in k) (held_as [] d))
+  step-late s (at.PutTargets k d) =
+      if-fine Late bad s.whole (roles_begun s.limits k d) (finished k [] d) (λ _. grown-late s k [] (begun (metas_in k) (held_as [] d))) (found-late (first_missing d.role) (record { known = k; targets = d; received = [] }))
   step-late s (at.PutDelegated k roles name d) = given-late s k roles d
 
   answer-late : (s : SettingDoc) (st : StageDoc) (a : AnswerDoc) → Late st → Late (settled (stage_after v s st a))

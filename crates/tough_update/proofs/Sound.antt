@@ -22,7 +22,7 @@ use Rattle.tough_trust.specs.Outcomes.{holds_json, if_read}
 use Rattle.tough_trust.specs.Requests.{RequestDoc, bound, stated_digests, fits_request, root_request}
 use Rattle.tough_schema.specs.Targets.{TargetsDoc, targets_json}
 use Rattle.tough_trust.specs.Listed.{targets_in, by_root, by_delegations, targets_verdict, judged}
-use Rattle.tough_update.specs.Delegated.{metas_in, is_reserved, if_found, grown_on, roles_begun, given, role_given, role_stored, with_received, new_role, role_holder}
+use Rattle.tough_update.specs.Delegated.{metas_in, is_reserved, if_found, grown_on, roles_begun, given, role_given, role_stored, with_received, new_role, role_holder, finished}
 use Rattle.tough_update.specs.delegations.Growing.{first_name, wanted_name, WorkDoc, Progress, wants, grown, first_of, holder_of, go_on, begun}
 use Rattle.tough_names.specs.Named.{Named as ListedName}
 use Rattle.tough_schema.specs.Delegations.{DelegationsDoc}
@@ -32,9 +32,9 @@ use Rattle.tough_schema.specs.Whole.{TreeDoc, HeldDoc}
 use Rattle.tough_schema.specs.Fresh.{carriers_below}
 use Rattle.tough_schema.specs.Entries.{IsValid, first_missing}
 use Rattle.tough_schema.proofs.lemmas.Valid.{valid-missing}
-use Rattle.tough_trust.specs.delegations.Bare.{bare, top_page, held_as}
+use Rattle.tough_trust.specs.delegations.Bare.{all_unloaded, roles_of, bare, top_page, held_as}
 use Rattle.tough_update.specs.growth.Once.{AreBare, Distinct, runs}
-use Rattle.tough_update.specs.growth.Under.{page_of, Relation, Below, AllTaken}
+use Rattle.tough_update.specs.growth.Under.{page_of, Relation, Under, Below, AllTaken}
 use Rattle.tough_update.specs.growth.Listed.{WantsListed}
 use Rattle.tough_trust.proofs.lemmas.Bare.{top-bare, bare-none}
 use Rattle.tough_update.proofs.growth.Listed.{wanted-listed}
@@ -71,6 +71,15 @@ vouched verifies entries (Some g) name d h l = (delegated-at verifies g name d (
 first-entry : (waiting : List Entry) (U : List ℕ → Type 0) → U (first_name waiting) → IfSome (first_of waiting) (λ e. U e.name)
 first-entry [] U h = tt
 first-entry (e ∷ rest) U h = h
+
+-- ---- a document none of whose roles has one
+
+under-none : (U : Relation) (g : Option DelegationsDoc) (es : List Entry) → Under U g (all_unloaded es)
+under-none U g [] = tt
+under-none U g (e ∷ es) = under-none U g es
+
+bare-below : (U : Relation) (d : SignedDoc TargetsDoc) → Below U (bare d).role
+bare-below U d = under-none U _ (roles_of d.role.delegations)
 
 -- ---- steps that succeeded
 
@@ -272,6 +281,14 @@ module _ (verifies : Verifies) (s : SettingDoc) (N : ℤ → Type 0) (G E : Sign
     begun-fine k d h = subst (λ x. Fine Holds bad (roles_begun s.limits k x)) (sym h.1.1)
         (grown-fine k [] (begun (metas_in k) (held_as [] (bare h.1.0))) h.0 (record { top = h.1.0; fine = h.1.2; documents = []; read = tt; taken = tt; grows = refl }))
 
+    -- the targets are all
+    bare-found : (k : KnownDoc) (top : SignedDoc TargetsDoc) (o : Option ListedName) → first_missing (bare top).role ≡ o → KnownFine k → TargetsFine k top → Fine Holds bad (if_found o (record { known = k; targets = bare top; received = [] }))
+    bare-found k top None is h u = (h, record { top = subst (TargetsFine k) (sym (top-bare top)) u; below = bare-below (RoleFine k) top; once = subst Distinct (sym (bare-none top)) tt; found = (valid-missing (bare top).role).1 is })
+    bare-found k top (Some name) is h u = tt
+
+    top-fine : (k : KnownDoc) (d : SignedDoc TreeDoc) → HoldsPending (at.PutTargets k d) → Fine Holds bad (finished k [] d)
+    top-fine k d h = subst (λ x. Fine Holds bad (finished k [] x)) (sym h.1.1) (bare-found k h.1.0 (first_missing (bare h.1.0).role) refl h.0 h.1.2)
+
     -- one document more
     grows-on : (k : KnownDoc) (w : WorkDoc) (m : MetafileDoc) (page : SignedDoc TargetsDoc) → GrowsTo k (wants w m) → RoleFine k (holder_of w) (wanted_name w) page → GrowsTo k (go_on (metas_in k) (given w (bare page)))
     grows-on k w m page g u =
@@ -320,7 +337,7 @@ module _ (verifies : Verifies) (s : SettingDoc) (N : ℤ → Type 0) (G E : Sign
         let p = timestamp-passes verifies b.root.role t l.0.0 in
         want_snapshot-fine b t (metafile_in t.role.meta snapshot_file) refl h (p.0, p.1, not-expired role.Timestamp s.enforced b.start t.role.head.expires l.0.1)
     step-fine (at.PutSnapshot k listed) h l = want_targets-fine k (metafile_in k.snapshot.role.meta targets_file) refl (known-fine k listed h l.0)
-    step-fine (at.PutTargets k d) h l = begun-fine k d h
+    step-fine (at.PutTargets k d) h l = if-fine Holds bad s.whole (roles_begun s.limits k d) (finished k [] d) (λ _. begun-fine k d h) (top-fine k d h)
     step-fine (at.PutDelegated k roles name d) h l = given-fine k roles h.1.0 d h.2.0 h.2.1 h.0 h.1.1 h.2.2
 
     -- each answer keeps what holds of a stage

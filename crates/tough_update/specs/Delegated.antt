@@ -45,6 +45,10 @@ grown_on l k received (grown t) = finished k received t
 abbrev pub roles_begun : Limits → KnownDoc → SignedDoc TreeDoc → Result StageDoc Failure
 roles_begun l k d = grown_on l k [] (go_on (metas_in k) (first_work (held_as [] d)))
 
+-- the same, or, where delegated roles aren't loaded, the top-level documents are all
+abbrev pub targets_stored : SettingDoc → KnownDoc → SignedDoc TreeDoc → Result StageDoc Failure
+targets_stored s k d = if s.whole then roles_begun s.limits k d else finished k [] d
+
 -- a role gets its document
 abbrev pub given : WorkDoc → SignedDoc TreeDoc → WorkDoc
 given w d = with_taken w w.waiting (held_as (wanted_name w) d)

@@ -12,5 +12,6 @@ pub mod Runs
 pub mod Loadable
 pub mod Asked
 pub mod Asking
+pub mod Tops
 pub mod Counts
 pub mod Counted

@@ -132,8 +132,9 @@ abbrev pub all_received : Files → SettingDoc → KnownDoc → TreeDoc → List
 all_received files s k t = map (λ name. (name, role_bytes files s k name)) (fetch_order t)
 
 -- Documents that are served, from one root, that vouch for one another and haven't expired, and that can be stored. Each delegated role has
--- its document, and no two roles have one name.
+-- its document, which is loaded too, and no two roles have one name.
 pub record Loadable (verifies : Verifies) (files : Files) (s : SettingDoc) (l : LoadedDoc) : Type 0 where
+  pub whole : s.whole ≡ true
   pub start_text : time_text l.known.start ≢ None
   pub root : root_in s.trusted ≡ Some l.known.root
   pub root_signed : ReachesUnder verifies l.known.root.role role.Root root_json l.known.root

@@ -22,7 +22,7 @@ use Rattle.tough_trust.specs.Outcomes.{unless, if_read, holds_json, and_then}
 use Rattle.tough_trust.specs.Requests.{RequestDoc, timestamp_request, snapshot_request, targets_request}
 use Rattle.tough_trust.specs.delegations.Bare.{top_page}
 use Rattle.tough_trust.specs.Listed.{by_root, targets_text, judged}
-use Rattle.tough_update.specs.Delegated.{roles_begun, role_given, new_role}
+use Rattle.tough_update.specs.Delegated.{targets_stored, role_given, new_role}
 use Rattle.tough_update.specs.Stages.{WalkDoc, BaseDoc, KnownDoc, WantedDoc, PendingDoc, StageDoc, SettingDoc, CoreDoc}
 use Rattle.tough_update.specs.Stages as at
 use Rattle.tough_update.specs.Questions.{Question}
@@ -114,7 +114,7 @@ after verifies s (at.PutRoot w) = walked s.limits w
 after verifies s (at.PutLast w) = walk_ended s.limits s.enforced w
 after verifies s (at.PutTimestamp b t) = want_snapshot s.limits b t (metafile_in t.role.meta snapshot_file)
 after verifies s (at.PutSnapshot k listed) = want_targets s.limits k (metafile_in k.snapshot.role.meta targets_file)
-after verifies s (at.PutTargets k d) = roles_begun s.limits k d
+after verifies s (at.PutTargets k d) = targets_stored s k d
 after verifies s (at.PutDelegated k roles name d) = role_given s.limits k roles d
 
 -- ---- answers

@@ -1,5 +1,5 @@
 -- The states of an update (TUF specification 1.0, section 5): each stage waits for one answer, and has what is known by then.
-use Rattle.std.specs.Prelude.{ℕ, ℤ, List, Bool, Result}
+use Rattle.std.specs.Prelude.{ℕ, ℤ, List, Bool, true, Result}
 use Rattle.tough_roles.specs.Signature.{SignedDoc}
 use Rattle.tough_roles.specs.Root.{RootDoc}
 use Rattle.tough_roles.specs.Timestamp.{TimestampDoc}
@@ -81,19 +81,25 @@ pub data StageDoc : Type 0 where
   -- the outcome was handed out
   Taken : StageDoc
 
--- what the caller set: the bytes of the root that is trusted, the limits, and whether expiry counts
+-- what the caller set: the bytes of the root that is trusted, the limits, whether expiry counts, and whether the documents of delegated roles are
+-- loaded too
 pub record SettingDoc : Type 0 where
   pub trusted : List ℕ
   pub limits : Limits
   pub enforced : Bool
+  pub whole : Bool
 
 pub record CoreDoc : Type 0 where
   pub setting : SettingDoc
   pub stage : StageDoc
 
--- an update by these bytes of a root, to which nothing was answered yet
+-- a whole update by these bytes of a root, to which nothing was answered yet
 abbrev pub new_core : List ℕ → Limits → Bool → CoreDoc
-new_core trusted limits enforced = record { setting = record { trusted = trusted; limits = limits; enforced = enforced }; stage = Moment }
+new_core trusted limits enforced = record { setting = record { trusted = trusted; limits = limits; enforced = enforced; whole = true }; stage = Moment }
+
+-- the update that loads the documents of delegated roles too, or doesn't
+abbrev pub reaching : Bool → CoreDoc → CoreDoc
+reaching whole c = record { setting = record c.setting { whole = whole }; stage = c.stage }
 
 -- the update whose outcome was handed out
 abbrev pub handed_out : CoreDoc → CoreDoc

@@ -1,5 +1,5 @@
 -- The machine of the program, seen as plain data.
-use Rattle.std.specs.Prelude.{ℕ, List, Option, Some, None, Result, Ok, Err, map, option_map, string_bytes}
+use Rattle.std.specs.Prelude.{ℕ, Bool, true, false, List, Option, Some, None, Result, Ok, Err, map, option_map, string_bytes}
 use Rattle.tough_roles.specs.Signature.{signed_doc}
 use Rattle.tough_roles.specs.Root.{root_doc}
 use Rattle.tough_roles.specs.declared.root.Root.{Root}
@@ -32,6 +32,8 @@ use Rattle.tough_update.specs.declared.stage.Pending.TheVariants as pending
 use Rattle.tough_update.specs.declared.stage.Stage.{Stage}
 use Rattle.tough_update.specs.declared.stage.Stage.TheVariants as in_stage
 use Rattle.tough_update.specs.declared.turns.Setting.{Setting}
+use Rattle.tough_update.specs.declared.extent.Extent.{Extent}
+use Rattle.tough_update.specs.declared.extent.Extent.TheVariants as reach
 use Rattle.tough_update.specs.declared.counts.Counts.{Counts}
 use Rattle.tough_update.specs.declared.machine.Core.{Core}
 use Rattle.tough_vault.specs.Looking.{look_doc}
@@ -136,8 +138,13 @@ stage_doc (in_stage.Step p) = at.Step (pending_doc p)
 stage_doc (in_stage.Done r) = at.Done (outcome_doc r)
 stage_doc in_stage.Taken = at.Taken
 
+-- the documents of delegated roles are loaded too
+abbrev pub is_whole : Extent → Bool
+is_whole reach.Whole = true
+is_whole reach.TopLevel = false
+
 abbrev pub setting_doc : Setting → SettingDoc
-setting_doc s = record { trusted = s.trusted.now; limits = s.limits; enforced = enforces s.enforcement }
+setting_doc s = record { trusted = s.trusted.now; limits = s.limits; enforced = enforces s.enforcement; whole = is_whole s.extent }
 
 -- how much it fetched and keeps
 abbrev pub counts_of : Core → Counts
@@ -148,4 +155,4 @@ abbrev pub last_file_of : Core → Option (List ℕ)
 last_file_of c = option_map string_bytes c.last_file
 
 abbrev pub core_doc : Core → CoreDoc
-core_doc c = record { setting = record { trusted = c.trusted.items; limits = c.limits; enforced = enforces c.enforcement }; stage = stage_doc c.stage }
+core_doc c = record { setting = record { trusted = c.trusted.items; limits = c.limits; enforced = enforces c.enforcement; whole = is_whole c.extent }; stage = stage_doc c.stage }

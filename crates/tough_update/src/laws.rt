@@ -1,6 +1,6 @@
 //! Laws over whole updates.
 
-ghost use Rattle.std.specs.Prelude.{◌≡◌, List, Ok};
+ghost use Rattle.std.specs.Prelude.{◌≡◌, List, Ok, false};
 ghost use Rattle.tough_keys.specs.Same.{Verifies};
 ghost use Rattle.tough_trust.specs.Requests.{RequestDoc};
 ghost use Rattle.tough_update.specs.Stages.{LoadedDoc, CoreDoc, Done};
@@ -10,6 +10,7 @@ ghost use Rattle.tough_update.specs.Machine.{question};
 ghost use Rattle.tough_update.specs.Loadable.{Files, AllHonest, Loadable, IsLoaded};
 ghost use Rattle.tough_update.specs.Runs.{run, Along, IsFresh, Loaded};
 ghost use Rattle.tough_update.specs.Asking.{AsksFile, AsksFew};
+ghost use Rattle.tough_update.specs.Tops.{AsksNoRole};
 ghost use Rattle.tough_update.specs.declared.counts.Counts.{Counts};
 ghost use Rattle.tough_update.specs.Counted.{Counted, FetchesFew, KeepsFew, KeepsAll};
 
@@ -36,6 +37,12 @@ pub fn asks()
         → IsFresh c → question (run verifies c answers) ≡ Fetch r → AsksFile verifies c answers r }
 {}
 
+/// An update that loads the top-level documents alone asks for no document of a delegated role, and stores none.
+pub fn tops_ask_no_role()
+    ensures { (verifies : Verifies) (c : CoreDoc) (answers : List AnswerDoc)
+        → IsFresh c → c.setting.whole ≡ false → AsksNoRole (run verifies c answers).stage }
+{}
+
 /// In any run, at most as many roots are asked for as the limit allows, one after another from the one after the root that the walk began
 /// with, and then at most three files.
 pub fn asks_few()
@@ -56,4 +63,4 @@ pub fn counts_few()
 {}
 
 /// How many laws this file states.
-pub const LAWS: usize = 5;
+pub const LAWS: usize = 6;

@@ -4,6 +4,7 @@
 mod ask;
 mod counts;
 pub mod delegations;
+mod extent;
 pub mod growth_laws;
 pub mod laws;
 mod machine;
@@ -13,6 +14,7 @@ mod turns;
 
 pub use ask::{Answer, Ask};
 pub use counts::Counts;
+pub use extent::Extent;
 pub use machine::Core;
 pub use stage::{Loaded, Received};
 pub use tough_trust::{Act, Fault, Limits, Request, UpdateError};

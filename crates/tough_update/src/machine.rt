@@ -3,15 +3,16 @@
 ghost use Rattle.std.specs.Prelude.{◌≡◌, None, IsSome, IsNone, option_map, option_copied, string_bytes};
 ghost use Rattle.tough_checks.specs.Checks.{enforces};
 ghost use Rattle.tough_update.specs.Counts.{none_yet, with_fetch, with_tree};
-ghost use Rattle.tough_update.specs.Stages.{handed_out, new_core};
+ghost use Rattle.tough_update.specs.Stages.{handed_out, new_core, reaching};
 ghost use Rattle.tough_update.specs.Asked.{IsLastFile, file_asked};
 ghost use Rattle.tough_update.specs.Machine.{question, stage_after};
 ghost use Rattle.tough_trust.specs.Failure.{Gives};
-ghost use Rattle.tough_update.specs.View.{core_doc, counts_of, last_file_of, stage_doc, answer_doc, question_of, setting_doc, outcome_doc};
+ghost use Rattle.tough_update.specs.View.{core_doc, counts_of, is_whole, last_file_of, stage_doc, answer_doc, question_of, setting_doc, outcome_doc};
 ghost use Rattle.tough_update.specs.Promises.{Settles, Goes, fits, ended};
 
 use crate::ask::{Answer, Ask};
 use crate::counts::Counts;
+use crate::extent::Extent;
 use crate::stage::{Loaded, Pending, Stage};
 use crate::turns::{Setting, end_cut, end_unstarted, read_wanted, take_step, take_stored};
 use std::alloc::Global;
@@ -27,6 +28,7 @@ pub struct Core {
     trusted: Vec<u8>,
     limits: Limits,
     enforcement: ExpirationEnforcement,
+    extent: Extent,
     stage: Stage,
     counts: Counts,
     last_file: Option<String>,
@@ -83,7 +85,7 @@ fn next<V: Verify>(setting: &Setting<'_>, stage: Stage, answer: Answer, verifier
 }
 
 impl Core {
-    /// An update from a root that is trusted, given as its bytes.
+    /// An update from a root that is trusted, given as its bytes. It loads the documents of delegated roles too.
     pub fn new(trusted: Vec<u8>, limits: Limits, enforcement: ExpirationEnforcement) -> Core
         ensures core { core_doc result ≡ new_core trusted.items limits (enforces enforcement) }
         ensures counts { counts_of result ≡ none_yet }
@@ -93,6 +95,7 @@ impl Core {
             trusted,
             limits,
             enforcement,
+            extent: Extent::Whole,
             stage: Stage::Moment,
             counts: Counts {
                 roots: 0,
@@ -102,6 +105,15 @@ impl Core {
             },
             last_file: None,
         }
+    }
+
+    /// The update, which loads these documents.
+    pub fn to_extent(self, extent: Extent) -> Core
+        ensures core { core_doc result ≡ reaching (is_whole extent) (core_doc self) }
+        ensures counts { counts_of result ≡ counts_of self }
+        ensures file { last_file_of result ≡ last_file_of self }
+    {
+        Core { extent, ..self }
     }
 
     /// What is wanted next.
@@ -176,6 +188,7 @@ impl Core {
             trusted: &self.trusted,
             limits: self.limits,
             enforcement: self.enforcement,
+            extent: self.extent,
         };
         let counts = self.counts.with_fetch(&stage, &answer);
         let stage = next(&setting, stage, answer, verifier);

@@ -8,11 +8,12 @@ ghost use Rattle.tough_schema.specs.Whole.{tree_doc};
 ghost use Rattle.tough_update.specs.delegations.Growing.{wants, go_on, wanted_name};
 ghost use Rattle.tough_update.specs.delegations.View.{work_doc};
 ghost use Rattle.tough_trust.specs.Failure.{Gives};
-ghost use Rattle.tough_update.specs.Delegated.{role_holder, metas_in, with_received, finished, grown_on, roles_begun, role_given, role_stored, new_role};
+ghost use Rattle.tough_update.specs.Delegated.{role_holder, metas_in, with_received, finished, grown_on, roles_begun, targets_stored, role_given, role_stored, new_role};
 ghost use Rattle.tough_trust.specs.Listed.{judged};
 ghost use Rattle.tough_update.specs.View.{known_doc, roles_doc, received_docs, stage_doc, setting_doc};
 
 use crate::delegations::{Growth, Progress};
+use crate::extent::Extent;
 use crate::stage::{Known, Loaded, Pending, Received, Roles, Stage, Wanted};
 use crate::turns::Setting;
 use std::alloc::{AllocError, Global};
@@ -70,8 +71,8 @@ fn grow_on(
     }
 }
 
-/// The targets were stored: the documents of their roles are fetched.
-pub(crate) fn begin_roles(
+// The documents of the roles are fetched.
+fn begin_roles(
     alloc: Global,
     limits: &Limits,
     known: Known,
@@ -82,6 +83,22 @@ pub(crate) fn begin_roles(
 {
     let growth = Growth::new(alloc, targets)?;
     grow_on(alloc, limits, known, growth, Vec::new(alloc))
+}
+
+/// The targets were stored: the documents of their roles are fetched, where those are loaded.
+pub(crate) fn end_targets(
+    setting: &Setting<'_>,
+    known: Known,
+    targets: Signed<Targets>,
+) -> Result<Stage, UpdateError>
+    ensures { Gives stage_doc
+        (targets_stored (setting_doc setting.now) (known_doc known)
+        (signed_doc tree_doc targets)) result }
+{
+    match setting.extent {
+        Extent::Whole => begin_roles(setting.alloc, &setting.limits, known, targets),
+        Extent::TopLevel => finish(setting.alloc, known, targets, Vec::new(setting.alloc)),
+    }
 }
 
 /// A role gets its document.

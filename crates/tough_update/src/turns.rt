@@ -20,7 +20,8 @@ ghost use Rattle.tough_update.specs.Answered as got;
 ghost use Rattle.tough_roles.specs.declared.role_type.RoleType.TheVariants as types;
 ghost use Rattle.tough_update.specs.View.{walk_doc, base_doc, known_doc, wanted_doc, pending_doc, stage_doc, setting_doc};
 
-use crate::roles::{begin_roles, give_role, take_role};
+use crate::extent::Extent;
+use crate::roles::{end_targets, give_role, take_role};
 use crate::stage::{Base, Known, Pending, Stage, Walk, Wanted};
 use jiff::Timestamp as Instant;
 use std::alloc::Global;
@@ -38,6 +39,7 @@ pub(crate) struct Setting<'a> {
     pub(crate) trusted: &'a [u8],
     pub(crate) limits: Limits,
     pub(crate) enforcement: ExpirationEnforcement,
+    pub(crate) extent: Extent,
 }
 
 /// The walk goes on from a root, or ends where there is no later version.
@@ -348,7 +350,7 @@ fn after<V: Verify>(
         Pending::PutTimestamp(base, timestamp) => go_to_snapshot(alloc, limits, base, timestamp),
         Pending::PutSnapshot(known, _) => go_to_targets(alloc, limits, known),
         Pending::PutTargets(known, targets) => {
-            begin_roles(alloc, limits, known, targets.into_document())
+            end_targets(setting, known, targets.into_document())
         }
         Pending::PutDelegated(known, roles, _, targets) => {
             give_role(alloc, limits, known, roles, targets.into_document())

@@ -24,7 +24,7 @@ use Rattle.tough_trust.proofs.lemmas.Walking.{first-passed}
 use Rattle.tough_trust.specs.delegations.Bare.{held_as}
 use Rattle.tough_update.specs.Answered.{AnswerDoc}
 use Rattle.tough_update.specs.Answered as got
-use Rattle.tough_update.specs.Delegated.{metas_in, is_reserved, if_found, grown_on, given, role_given, role_stored, with_received, role_holder}
+use Rattle.tough_update.specs.Delegated.{metas_in, is_reserved, if_found, grown_on, given, role_given, role_stored, with_received, role_holder, roles_begun, finished}
 use Rattle.tough_update.specs.delegations.Growing.{Progress, wants, grown, first_work, go_on}
 use Rattle.tough_update.specs.Machine.{walked, walk_from, walk_ended, want_snapshot, known_of, want_targets, read_wanted, after, stage_after}
 use Rattle.tough_update.specs.Promises.{Goes}
@@ -159,7 +159,8 @@ module _ (G : SignedDoc RootDoc → Type 0) (v : Verifies) (s : SettingDoc) (han
   step-stands (at.PutLast w) h = ended-stands w
   step-stands (at.PutTimestamp b x) h = want_snapshot-stands b x (metafile_in x.role.meta snapshot_file)
   step-stands (at.PutSnapshot k listed) h = want_targets-stands k (metafile_in k.snapshot.role.meta targets_file)
-  step-stands (at.PutTargets k d) h = grown-stands k [] (go_on (metas_in k) (first_work (held_as [] d)))
+  step-stands (at.PutTargets k d) h =
+      else_well s.whole (roles_begun s.limits k d) (finished k [] d) (grown-stands k [] (go_on (metas_in k) (first_work (held_as [] d)))) (λ _. found-stands (first_missing d.role) (record { known = k; targets = d; received = [] }))
   step-stands (at.PutDelegated k roles name d) h = given-stands k roles d
 
   turn-stands : (st : StageDoc) (a : AnswerDoc) → Stands G st → Tells G a → Well G (stage_after v s st a)

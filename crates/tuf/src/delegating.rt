@@ -77,6 +77,7 @@ pub(crate) fn add_delegated<R: Host>(
         holder: Holder::New,
         version,
         given: Some(given),
+        is_bin: false,
     })?;
     Ok(())
 }

@@ -6,6 +6,8 @@
 #![tactic(auto)]
 
 mod begin;
+mod binned;
+mod bins;
 mod chain;
 mod check;
 mod delegating;
@@ -16,6 +18,7 @@ mod fault;
 mod files;
 mod found;
 mod get;
+mod grouped;
 mod host;
 mod kept;
 mod key;
@@ -23,6 +26,7 @@ mod keys;
 mod load;
 mod mirror;
 mod nowhere;
+mod owners;
 mod publish;
 mod putting;
 mod refresh;

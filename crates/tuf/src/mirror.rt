@@ -11,6 +11,7 @@ use crate::writing::TIMESTAMP;
 use std::alloc::Global;
 use std::io::ErrorKind;
 use std::{fs, io};
+use tough::schema::Target;
 use tough::{Clock, Error, Files, Keeper, LocalRuntime, Prefix, Repository, TargetName, Transport};
 
 // The folder below the mirror in which its next metadata is gathered.
@@ -18,27 +19,28 @@ const NEXT: &str = ".next";
 
 const CHANGED: &str = "the repository changed while it was copied; run it again";
 
-// The length of the target; none where its file is there already, or no client finds it.
-fn missing<R: Host, T, K: Keeper, C>(
+// Whether the target's file isn't there.
+fn is_missing<R: Host, T, K: Keeper, C>(
     alloc: Global,
     repository: &Repository<T, K, C>,
     disk: &mut Disk<R>,
     name: &TargetName,
+    target: &Target,
     folder: &str,
-) -> Result<Option<u64>, Fault> {
+) -> Result<bool, Fault> {
     let consistent = repository.root().signed.consistent_snapshot;
-    let Some(target) = found(alloc, repository, name)? else {
-        return Ok(None);
-    };
     let path = place(alloc, folder, name.resolved(), target, consistent)?;
-    if is_at(alloc, disk, path.as_str(), target) {
-        Ok(None)
-    } else {
-        Ok(Some(target.length))
-    }
+    Ok(!is_at(alloc, disk, path.as_str(), target))
 }
 
-// Saves the targets whose files aren't there: how many.
+/// How many targets a client finds, and how many of them were saved.
+#[derive(Clone, Copy, Drop)]
+struct Tally {
+    found: u64,
+    saved: u64,
+}
+
+// Saves the targets that a client finds and whose files aren't there.
 fn save_all<R: Host, T, K, C>(
     rt: &R,
     runtime: &mut LocalRuntime,
@@ -47,7 +49,7 @@ fn save_all<R: Host, T, K, C>(
     names: &[TargetName],
     folder: &str,
     means: Means<'_>,
-) -> Result<u64, Fault>
+) -> Result<Tally, Fault>
 where
     T: Transport,
     K: Keeper,
@@ -60,20 +62,24 @@ where
         Prefix::None
     };
     let targets = format!(in alloc; "{folder}/targets")?;
-    let mut count = 0u64;
+    let mut tally = Tally { found: 0, saved: 0 };
     for name in names {
-        if let Some(length) = missing(alloc, repository, disk, name, folder)? {
+        let Some(target) = found(alloc, repository, name)? else {
+            continue;
+        };
+        tally.found = tally.found.saturating_add(1);
+        if is_missing(alloc, repository, disk, name, target, folder)? {
             let place = Place {
                 folder: targets.as_str(),
                 prefix,
-                length,
+                length: target.length,
                 err: means.err,
             };
             save_watched(rt, runtime, repository, name, place)?;
-            count = count.saturating_add(1);
+            tally.saved = tally.saved.saturating_add(1);
         }
     }
-    Ok(count)
+    Ok(tally)
 }
 
 // Removes the folder, which a run that was killed may have left.
@@ -200,14 +206,14 @@ fn told<T, K: Keeper, C>(
     alloc: Global,
     repository: &Repository<T, K, C>,
     folder: &str,
-    count: usize,
-    saved: u64,
+    tally: Tally,
 ) -> Result<String, Fault> {
+    let Tally { found, saved } = tally;
     let root = repository.root().signed.version;
     let timestamp = &repository.timestamp().signed;
     let (version, expires) = (timestamp.version, timestamp.expires);
     Ok(format!(in alloc;
-        "{folder}: {count} targets, {saved} of them new, root {root}, timestamp {version}, which expires {expires}\n"
+        "{folder}: {found} targets, {saved} of them new, root {root}, timestamp {version}, which expires {expires}\n"
     )?)
 }
 
@@ -229,7 +235,7 @@ where
     let mut disk = files::disk(rt)?;
     make_folders(rt, format!(in alloc; "{folder}/targets")?.as_str())?;
     let names = names(alloc, repository)?;
-    let saved = save_all(rt, runtime, repository, &mut disk, &names, folder, means)?;
+    let tally = save_all(rt, runtime, repository, &mut disk, &names, folder, means)?;
     take(rt, runtime, repository, &mut disk, folder, means.root)?;
-    told(alloc, repository, folder, names.len(), saved)
+    told(alloc, repository, folder, tally)
 }

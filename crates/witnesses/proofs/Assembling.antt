@@ -92,6 +92,7 @@ module _ (verifies : Verifies) (start : ℤ) (limits : Limits) (f : Repository) 
         l = record { known = known; targets = g; received = all_received (files_of f) (setting_of limits f) known g.role };
         begins = refl;
         able = record {
+          whole = refl;
           start_text = text;
           root = r.reading;
           root_signed = r.signed;

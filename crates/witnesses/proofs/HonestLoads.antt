@@ -92,22 +92,23 @@ module _ (t : MemoryTransport) (base : Parts) (limits : Limits) (f : Repository)
 
 -- ---- the whole
 
-same-setting : (a b : List ℕ) (l m : Limits) (x y : Bool) → a ≡ b → l ≡ m → x ≡ y
-    → (let p : SettingDoc = record { trusted = a; limits = l; enforced = x } in p) ≡ (let q : SettingDoc = record { trusted = b; limits = m; enforced = y } in q)
-same-setting a b l m x y e f g =
-    ap (λ (t : List ℕ). let p : SettingDoc = record { trusted = t; limits = l; enforced = x } in p) e
-    ∙ (ap (λ (t : Limits). let p : SettingDoc = record { trusted = b; limits = t; enforced = x } in p) f
-    ∙ ap (λ (t : Bool). let p : SettingDoc = record { trusted = b; limits = m; enforced = t } in p) g)
+same-setting : (a b : List ℕ) (l m : Limits) (x y v w : Bool) → a ≡ b → l ≡ m → x ≡ y → v ≡ w
+    → (let p : SettingDoc = record { trusted = a; limits = l; enforced = x; whole = v } in p) ≡ (let q : SettingDoc = record { trusted = b; limits = m; enforced = y; whole = w } in q)
+same-setting a b l m x y v w e f g h =
+    ap (λ (t : List ℕ). let p : SettingDoc = record { trusted = t; limits = l; enforced = x; whole = v } in p) e
+    ∙ (ap (λ (t : Limits). let p : SettingDoc = record { trusted = b; limits = t; enforced = x; whole = v } in p) f
+    ∙ (ap (λ (t : Bool). let p : SettingDoc = record { trusted = b; limits = m; enforced = t; whole = v } in p) g
+    ∙ ap (λ (t : Bool). let p : SettingDoc = record { trusted = b; limits = m; enforced = y; whole = t } in p) h))
 
 same-ok : (u w : Parts) (o : Parsed Parts) → o ≡ Ok u → o ≡ Ok w → w ≡ u
 same-ok u w o h k = cc
 
 pub has-honest-load : (f : Repository) (start : ℤ) (base : Parts) (loader : MemoryLoader) (load ended : MemoryLoad) (outcome : Result LoadedDoc Failure) → HasLoadable demo_verifies start default_limits f
-    → ServesFour (transport_of loader) base f → with_slash (settings_of loader).metadata_base ≡ Ok base → (settings_of loader).root ≡ f.trusted → (settings_of loader).limits ≡ default_limits → (settings_of loader).enforced ≡ true
+    → ServesFour (transport_of loader) base f → with_slash (settings_of loader).metadata_base ≡ Ok base → (settings_of loader).root ≡ f.trusted → (settings_of loader).limits ≡ default_limits → (settings_of loader).enforced ≡ true → (settings_of loader).whole ≡ true
     → fixed_gives (clock_of loader) start → Untouched memory_files 0 (parts_of (keeper_of loader).now) → IsBegun loader load → MemoryFinishes load outcome ended → IsFineOutcome outcome → HasHonestLoad start
-has-honest-load f start base loader load ended outcome h there slash trusted limits enforced shows untouched begun finishes fine =
+has-honest-load f start base loader load ended outcome h there slash trusted limits enforced whole shows untouched begun finishes fine =
     let at = loads-at (transport_of loader) base default_limits f start h there in
-    let setting = same-setting f.trusted (settings_of loader).root default_limits (settings_of loader).limits true (settings_of loader).enforced (sym trusted) (sym limits) (sym enforced) in
+    let setting = same-setting f.trusted (settings_of loader).root default_limits (settings_of loader).limits true (settings_of loader).enforced true (settings_of loader).whole (sym trusted) (sym limits) (sym enforced) (sym whole) in
     let here : part.base_of load ≡ base = same-ok base (part.base_of load) (with_slash (settings_of loader).metadata_base) slash begun.base in
     record {
       loader = loader;

@@ -36,7 +36,7 @@ files_of f name = lookup (bytes_eq name) ((codes "timestamp.json", f.timestamp) 
 
 -- an update that is handed this root, and refuses what has expired
 abbrev pub setting_of : Limits → Repository → SettingDoc
-setting_of limits f = record { trusted = f.trusted; limits = limits; enforced = true }
+setting_of limits f = record { trusted = f.trusted; limits = limits; enforced = true; whole = true }
 
 -- ---- what is found out of each document
 

@@ -1,6 +1,6 @@
 //! The laws of a load, over any devices on which it ends with documents.
 
-ghost use Rattle.std.specs.Prelude.{◌≡◌, List, Ok, IfOk};
+ghost use Rattle.std.specs.Prelude.{◌≡◌, List, Ok, IfOk, false};
 ghost use Rattle.url.specs.Parts.{Parts};
 ghost use Rattle.tough_trust.specs.Steps.{Keeping};
 ghost use Rattle.tough_trust.specs.Requests.{RequestDoc};
@@ -22,7 +22,9 @@ ghost use Rattle.tough_load.specs.declared.load.Load.{Load as LoadDoc};
 use crate::Unmet;
 use std::alloc::AllocGlobal;
 use std::random::RandomSource;
-use tough_load::{Clock, Keeper, Load, RepositoryLoader, drive};
+use tough_load::{
+    Clock, Core, ExpirationEnforcement, Extent, Keeper, Limits, Load, RepositoryLoader, drive,
+};
 use tough_net::Transport;
 use tough_roles::Verify;
 
@@ -73,4 +75,12 @@ where
         }
         _ => Err(Unmet::Input),
     }
+}
+
+/// Witness of `tough_update::laws::tops_ask_no_role`: an update of the top-level documents, before its first answer.
+pub fn top_core(trusted: Vec<u8>, limits: Limits, enforcement: ExpirationEnforcement) -> Core
+    ensures fresh { IsFresh (core_doc result) }
+    ensures tops { (core_doc result).setting.whole ≡ false }
+{
+    Core::new(trusted, limits, enforcement).to_extent(Extent::TopLevel)
 }

@@ -27,6 +27,7 @@ use Rattle.tough_json.proofs.lemmas.Json.{json_of-some}
 use Rattle.tough_json.proofs.lemmas.Write.{bind_ok, some-inj}
 use Rattle.tough_roles.specs.Signature.{SignedDoc, signed_parts_json, signed_at, signed_json}
 use Rattle.tough_roles.proofs.lemmas.Signed.{signed-back}
+use Rattle.tough_roles.specs.Orderly.{IsOrderly, AreOrderly, HasOrder}
 use Rattle.tough_roles.specs.Readable.{IsWord, IsValue, AreValues, AreMembers, IsReadable}
 
 -- ---- numbers
@@ -87,7 +88,7 @@ put-last (member l e xs) k d ms h =
 -- ---- the value that the JSON is
 
 mutual
-  of_json-outline : (d : Data) → IsValue d → has_float d ≡ false → of_json (outline d) ≡ Some d
+  of_json-outline : (d : Data) → IsOrderly d → has_float d ≡ false → of_json (outline d) ≡ Some d
   of_json-outline null v f = refl
   of_json-outline (boolean b) v f = refl
   of_json-outline (number n) v f = ap (option_map number) (number-back n v f)
@@ -95,25 +96,25 @@ mutual
   of_json-outline (array ds) v f = ap (option_map array) (of_items-outline ds v f)
   of_json-outline (object ms) v f = ap (option_map object) (of_members-outline ms no_members v f tt)
 
-  of_items-outline : (ds : Items) → AreValues ds → items_have_float ds ≡ false → of_items (items_outline ds) ≡ Some ds
+  of_items-outline : (ds : Items) → AreOrderly ds → items_have_float ds ≡ false → of_items (items_outline ds) ≡ Some ds
   of_items-outline no_items v f = refl
   of_items-outline (item d ds) v f =
       let p = or_parts (has_float d) _ f in
       rw (of_json-outline d v.0 p.0, of_items-outline ds v.1 p.1) refl
 
-  of_members-outline : (ms xs : Members) → AreMembers ms → members_have_float ms ≡ false → Before xs ms → of_members (members_outline ms) xs ≡ Some (both xs ms)
+  of_members-outline : (ms xs : Members) → HasOrder ms → members_have_float ms ≡ false → Before xs ms → of_members (members_outline ms) xs ≡ Some (both xs ms)
   of_members-outline no_members xs v f h = ap Some (sym (both-none xs))
   of_members-outline (member k d ms) xs v f h =
       let p = or_parts (has_float d) _ f in
-      ap (option_and_then (λ e. of_members (members_outline ms) (put k e xs))) (of_json-outline d v.2 p.0)
+      ap (option_and_then (λ e. of_members (members_outline ms) (put k e xs))) (of_json-outline d v.1 p.0)
       ∙ ap (of_members (members_outline ms)) (put-last xs k d ms h)
-      ∙ of_members-outline ms (last xs k d) v.3 p.1 (before-rest xs k d ms h v.1)
+      ∙ of_members-outline ms (last xs k d) v.2 p.1 (before-rest xs k d ms h v.0)
       ∙ ap Some (both-last xs k d ms)
 
 -- ---- its tokens
 
 mutual
-  numbers-outline : (d : Data) → IsValue d → has_float d ≡ false → tree.HasNumbers (outline d)
+  pub numbers-outline : (d : Data) → IsOrderly d → has_float d ≡ false → tree.HasNumbers (outline d)
   numbers-outline null v f = tt
   numbers-outline (boolean b) v f = tt
   numbers-outline (number n) v f = number-is n v f
@@ -121,13 +122,13 @@ mutual
   numbers-outline (array ds) v f = item_numbers ds v f
   numbers-outline (object ms) v f = member_numbers ms v f
 
-  item_numbers : (ds : Items) → AreValues ds → items_have_float ds ≡ false → tree.ItemsHaveNumbers (items_outline ds)
+  item_numbers : (ds : Items) → AreOrderly ds → items_have_float ds ≡ false → tree.ItemsHaveNumbers (items_outline ds)
   item_numbers no_items v f = tt
   item_numbers (item d ds) v f = let p = or_parts (has_float d) _ f in (numbers-outline d v.0 p.0, item_numbers ds v.1 p.1)
 
-  member_numbers : (ms : Members) → AreMembers ms → members_have_float ms ≡ false → tree.MembersHaveNumbers (members_outline ms)
+  member_numbers : (ms : Members) → HasOrder ms → members_have_float ms ≡ false → tree.MembersHaveNumbers (members_outline ms)
   member_numbers no_members v f = tt
-  member_numbers (member k d ms) v f = let p = or_parts (has_float d) _ f in (numbers-outline d v.2 p.0, member_numbers ms v.3 p.1)
+  member_numbers (member k d ms) v f = let p = or_parts (has_float d) _ f in (numbers-outline d v.1 p.0, member_numbers ms v.2 p.1)
 
 mutual
   depth-outline : (d : Data) → tree.depth (outline d) ≡ depth d
@@ -146,7 +147,7 @@ mutual
   members_depth-outline no_members = refl
   members_depth-outline (member k d ms) = rw (depth-outline d, members_depth-outline ms) refl
 
-text-read : (d : Data) → IsValue d → has_float d ≡ false → depth d ≤ max_depth → read (compact_text d) ≡ Some d
+pub text-read : (d : Data) → IsOrderly d → has_float d ≡ false → depth d ≤ max_depth → read (compact_text d) ≡ Some d
 text-read d v f shallow =
     let ts = tree.json_tokens (outline d) in
     let shown : tokens (compact_text d) ≡ ts = ap tokens (sym (print-outline d)) ∙ tokens-print ts (ArePrintable-json_tokens (outline d) (numbers-outline d v f)) in
@@ -187,6 +188,25 @@ mutual
       IsUtf8-append (comma_if later) (quoted k ++ 58 ∷ (compact_text d ++ members_text true ms)) (comma later)
       (named_text k (compact_text d ++ members_text true ms) v.0 (IsUtf8-append (compact_text d) (members_text true ms) (text-utf8 d v.2 p.0) (members-utf8 true ms v.3 p.1)))
 
+-- ---- a value is in order
+
+mutual
+  value-orderly : (d : Data) → IsValue d → IsOrderly d
+  value-orderly null v = tt
+  value-orderly (boolean b) v = tt
+  value-orderly (number n) v = v
+  value-orderly (string s) v = tt
+  value-orderly (array ds) v = values-orderly ds v
+  value-orderly (object ms) v = members-order ms v
+
+  values-orderly : (ds : Items) → AreValues ds → AreOrderly ds
+  values-orderly no_items v = tt
+  values-orderly (item d ds) v = (value-orderly d v.0, values-orderly ds v.1)
+
+  members-order : (ms : Members) → AreMembers ms → HasOrder ms
+  members-order no_members v = tt
+  members-order (member k d ms) v = (v.1, value-orderly d v.2, members-order ms v.3)
+
 -- ---- what is written is read
 
 no-float : (d : Data) (bytes : List ℕ) (b : Bool) → has_float d ≡ b → (if b then None else Some (compact_text d)) ≡ Some bytes → (has_float d ≡ false) × (compact_text d ≡ bytes)
@@ -196,7 +216,7 @@ no-float d bytes false f h = (f, some-inj h)
 pub text-back : (d : Data) (bytes : List ℕ) → IsReadable d → text_in forms.Compact d ≡ Some bytes → json_of bytes ≡ Some d
 text-back d bytes r h =
     let p = no-float d bytes (has_float d) refl h in
-    ap json_of (sym p.1) ∙ json_of-some (compact_text d) d (text-utf8 d r.value p.0) (text-read d r.value p.0 r.shallow)
+    ap json_of (sym p.1) ∙ json_of-some (compact_text d) d (text-utf8 d r.value p.0) (text-read d (value-orderly d r.value) p.0 r.shallow)
 
 -- the bytes read as x, where the JSON that they are the text of does
 pub read-back : {A : Type 0} (f : Data → Option A) (d : Data) (x : A) (bytes : List ℕ) → IsReadable d → text_in forms.Compact d ≡ Some bytes → f d ≡ Some x → option_and_then f (json_of bytes) ≡ Some x

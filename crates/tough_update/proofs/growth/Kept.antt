@@ -48,7 +48,7 @@ mutual
   kept-below : (k : ℕ) (t : TreeDoc) → length (kept (preorder_below k t)) ≡ length (carriers_below t)
   kept-below k (tree o bs) = kept-carriers k bs
 
-documents-carriers : (t : TreeDoc) → length (documents_below t) ≡ length (carriers_below t)
+pub documents-carriers : (t : TreeDoc) → length (documents_below t) ≡ length (carriers_below t)
 documents-carriers t = kept-below 0 t
 
 -- ---- different names that are listed

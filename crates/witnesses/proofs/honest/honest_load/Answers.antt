@@ -22,7 +22,7 @@ returns-in-Ok-Ok g c =
     (subst (λ l. HasLoadable demo_verifies start l f) c.default.ensures c.in_ok-loadable.ensures)
     (subst (λ t. ServesFour t base f) (sym given) (c.in_ok-transport.ensures c.args.trusted.now))
     (ap (λ s. with_slash s.metadata_base) sets ∙ (ap with_slash (c.in_ok-clone-2.ensures.cases ∙ sym c.in_ok-clone.ensures.cases) ∙ c.in-Ok.ensures.given))
-    (ap (λ s. s.root) sets) (ap (λ s. s.limits) sets) (ap (λ s. s.enforced) sets)
+    (ap (λ s. s.root) sets) (ap (λ s. s.limits) sets) (ap (λ s. s.enforced) sets) (ap (λ s. s.whole) sets)
     (sym (ap (λ k. k.0.nanosecond) (c.keeper-loader.ensures.others.2 ∙ c.clock.ensures.given)))
     (subst (λ k. Untouched memory_files 0 (parts_of k.now)) (sym c.keeper-loader.ensures.given) (untouched-of c.new-vault.result c.new.result c.new-vault.ensures.store c.new-vault.ensures.tip c.new.ensures))
     c.in-Ok-load.ensures.begun c.in-Ok-Ok.ensures.done (subst (λ r. IsFineOutcome (outcome_doc r)) (sym c.in-Ok-Ok.field-0-is) tt) in
