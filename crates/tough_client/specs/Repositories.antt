@@ -1,5 +1,6 @@
 -- A repository that was loaded, by its parts.
 use Rattle.std.specs.Prelude.{◌≡◌, Bool, List}
+use Rattle.std.specs.declared.alloc.Global.{Global}
 use Rattle.url.specs.Parts.{Parts}
 use Rattle.tough_checks.specs.Checks.{enforces}
 use Rattle.tough_trust.specs.Steps.{Keeping}
@@ -20,6 +21,9 @@ module _ {T K C R : Type 0} where
   -- the documents that were loaded
   abbrev pub documents_of : Repository T K C R → LoadedDoc
   documents_of r = loaded_doc r.loaded
+
+  abbrev pub alloc_of : Repository T K C R → Global
+  alloc_of r = r.alloc
 
   abbrev pub transport_of : Repository T K C R → T
   transport_of r = r.transport
@@ -75,6 +79,15 @@ module _ {T K C R : Type 0} where
     pub timestamp : p.timestamp ≡ timestamp_of (loaded_of r)
     pub snapshot : p.snapshot ≡ snapshot_of (loaded_of r)
     pub targets : p.targets ≡ targets_of (loaded_of r)
+
+  -- its files are served as they were, and its settings are those
+  pub record IsServedAs (old new : Repository T K C R) : Type 0 where
+    pub alloc : alloc_of new ≡ alloc_of old
+    pub transport : transport_of new ≡ transport_of old
+    pub metadata_base : metadata_base_of new ≡ metadata_base_of old
+    pub targets_base : targets_base_of new ≡ targets_base_of old
+    pub limits : limits_of new ≡ limits_of old
+    pub enforced : enforced_of new ≡ enforced_of old
 
   -- all is as it was, but for the keeper, the clock and the receipts
   pub record IsKept (old new : Repository T K C R) : Type 0 where

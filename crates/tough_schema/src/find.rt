@@ -15,7 +15,8 @@ use tough_names::TargetName;
 use tough_roles::Error;
 
 impl DelegatedRole {
-    pub(crate) fn matches(&self, name: &Hashed<'_>) -> bool
+    /// Whether the role may list the name: its path set matches (TUF specification 1.0, section 4.5, `paths` and `path_hash_prefixes`).
+    pub fn matches(&self, name: &Hashed<'_>) -> bool
         ensures { result ≡ matches name.now.name.now (role_tree self.now).0 }
     {
         self.paths.matches_hashed(name)

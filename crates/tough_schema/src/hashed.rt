@@ -9,8 +9,9 @@ use tough_names::{PathHashPrefix, TargetName, digits_of};
 
 /// A name, with its digest's digits where they were computed: once, however many prefixes it is compared with.
 #[derive(Drop)]
-pub(crate) struct Hashed<'a> {
-    pub(crate) name: &'a TargetName,
+pub struct Hashed<'a> {
+    /// The name.
+    pub name: &'a TargetName,
     digits: Option<[u8; 64]>,
     ghost right: { (d : List ℕ) → digits ≡ Some d
         → d ≡ encode_lower (sha256 name.now.resolved) },
@@ -18,7 +19,7 @@ pub(crate) struct Hashed<'a> {
 
 impl<'a> Hashed<'a> {
     /// The name with its digits.
-    pub(crate) fn new(name: &'a TargetName) -> Hashed<'a>
+    pub fn new(name: &'a TargetName) -> Hashed<'a>
         ensures { result.name.now ≡ name.now }
     {
         Hashed {

@@ -40,6 +40,7 @@ mod write_targets;
 pub use copy::copy_listing;
 pub use delegations::{DelegatedRole, Delegations, PathSet};
 pub use file_digest::FileError;
+pub use hashed::Hashed;
 pub use key_holder::KeyHolder;
 pub use nodes::{Found, Nodes};
 pub use target::Target;

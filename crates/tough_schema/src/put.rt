@@ -100,21 +100,22 @@ fn turn_back(
     here
 }
 
-// Puts the document at the end of the way.
-fn put_along(document: &mut Targets, way: &[usize], new: Signed<DelegatedTargets>)
-    ensures { IsOpenIn way.now (tree_doc document.old)
-        → tree_doc document.new ≡ along way.now (held_doc new) (tree_doc document.old) }
-{
-    let Some((first, others)) = way.split_first() else {
-        return;
-    };
-    let old = exchange_in(document, *first, None);
-    let last = turn(old, others);
-    let whole = turn_back(last, others, new);
-    exchange_in(document, *first, whole);
-}
-
 impl Targets {
+    /// The role at the end of the way gets this document. The way has a place for each list that it goes through, from the top on, counted from
+    /// the end of the list.
+    pub fn put_along(&mut self, way: &[usize], new: Signed<DelegatedTargets>)
+        ensures { IsOpenIn way.now (tree_doc self.old)
+            → tree_doc self.new ≡ along way.now (held_doc new) (tree_doc self.old) }
+    {
+        let Some((first, others)) = way.split_first() else {
+            return;
+        };
+        let old = exchange_in(self, *first, None);
+        let last = turn(old, others);
+        let whole = turn_back(last, others, new);
+        exchange_in(self, *first, whole);
+    }
+
     /// Replaces the document of the role that `delegated_role` returns for the name. Its errors, which change nothing.
     pub fn put_document(
         &mut self,
@@ -133,7 +134,7 @@ impl Targets {
             return Err(error);
         }
         if let Some(way) = way_to(alloc, self, name)? {
-            put_along(self, &way, document);
+            self.put_along(&way, document);
         }
         Ok(())
     }

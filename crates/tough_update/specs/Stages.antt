@@ -1,10 +1,11 @@
 -- The states of an update (TUF specification 1.0, section 5): each stage waits for one answer, and has what is known by then.
-use Rattle.std.specs.Prelude.{ℕ, ℤ, List, Bool, true, Result}
+use Rattle.std.specs.Prelude.{ℕ, ℤ, List, [], ◌∷◌, ◌++◌, Bool, true, Result}
 use Rattle.tough_roles.specs.Signature.{SignedDoc}
 use Rattle.tough_roles.specs.Root.{RootDoc}
 use Rattle.tough_roles.specs.Timestamp.{TimestampDoc}
 use Rattle.tough_roles.specs.Snapshot.{SnapshotDoc}
-use Rattle.tough_schema.specs.Whole.{TreeDoc}
+use Rattle.tough_schema.specs.Putting.{along}
+use Rattle.tough_schema.specs.Whole.{TreeDoc, HeldDoc}
 use Rattle.tough_update.specs.delegations.Growing.{WorkDoc}
 use Rattle.tough_net.specs.declared.limits.Limits.{Limits}
 use Rattle.tough_trust.specs.Failure.{Failure}
@@ -43,6 +44,10 @@ pub record LoadedDoc : Type 0 where
   pub known : KnownDoc
   pub targets : SignedDoc TreeDoc
   pub received : List ReceivedDoc
+
+-- a role's document at the end of the way, of which these bytes were received
+abbrev pub with_role : List ℕ → HeldDoc → List ℕ → LoadedDoc → LoadedDoc
+with_role way h bytes l = record l { targets = record l.targets { role = along way h l.targets.role }; received = l.received ++ (h.name, bytes) ∷ [] }
 
 -- ---- the stages; each waits for one answer
 

@@ -1,5 +1,6 @@
 -- The machine of the program, seen as plain data.
 use Rattle.std.specs.Prelude.{ℕ, Bool, true, false, List, Option, Some, None, Result, Ok, Err, map, option_map, string_bytes}
+use Rattle.jiff.specs.declared.timestamp.Timestamp.{Timestamp as Instant}
 use Rattle.tough_roles.specs.Signature.{signed_doc}
 use Rattle.tough_roles.specs.Root.{root_doc}
 use Rattle.tough_roles.specs.declared.root.Root.{Root}
@@ -81,6 +82,10 @@ known_doc k = record { start = k.start.nanosecond; root = signed_doc root_doc k.
 -- the documents of an update that succeeded
 abbrev pub root_of : Loaded → Signed Root
 root_of l = l.known.root
+
+-- when the update began
+abbrev pub start_of : Loaded → Instant
+start_of l = l.known.start
 
 abbrev pub timestamp_of : Loaded → Signed Timestamp
 timestamp_of l = l.known.timestamp

@@ -1,15 +1,19 @@
 //! The stages of an update.
 
-ghost use Rattle.std.specs.Prelude.{◌≡◌};
+ghost use Rattle.std.specs.Prelude.{◌≡◌, OnOk, OnErr};
 ghost use Rattle.tough_checks.specs.Checks.{enforces};
 ghost use Rattle.tough_update.specs.Machine.{base_of, act_at};
 ghost use Rattle.tough_trust.specs.View.{act_of};
-ghost use Rattle.tough_update.specs.View.{latest, walk_doc, base_doc, pending_doc, root_of, timestamp_of, snapshot_of, targets_of, received_of};
+ghost use Rattle.tough_schema.specs.Putting.{IsOpenIn};
+ghost use Rattle.tough_schema.specs.Whole.{tree_doc, held_doc};
+ghost use Rattle.tough_update.specs.Stages.{with_role};
+ghost use Rattle.tough_update.specs.View.{latest, walk_doc, base_doc, pending_doc, start_of, root_of, timestamp_of, snapshot_of, targets_of, received_of, loaded_doc};
 
 use crate::delegations::Growth;
 use jiff::Timestamp as Instant;
+use std::alloc::AllocError;
 use tough_roles::{Root, Signed, Snapshot, Timestamp, Written};
-use tough_schema::Targets;
+use tough_schema::{DelegatedTargets, Targets};
 use tough_trust::{Act, Request, UpdateError};
 use tough_vault::{DocumentName, ExpirationEnforcement};
 
@@ -182,6 +186,33 @@ impl Loaded {
         ensures { result.now ≡ targets_of self.now }
     {
         &self.targets
+    }
+
+    /// When the update began, by its clock.
+    pub fn start(&self) -> Instant
+        ensures { result ≡ start_of self.now }
+    {
+        self.known.start
+    }
+
+    /// Puts the document of a delegated role at the end of the way, a place for each list of roles from the targets on, each counted from the
+    /// end of its list; and these bytes behind those that were received. It checks nothing: the caller has verified the document. Without
+    /// memory nothing changes.
+    pub fn put_role(
+        &mut self,
+        way: &[usize],
+        document: Signed<DelegatedTargets>,
+        bytes: Vec<u8>,
+    ) -> Result<(), AllocError>
+        ensures put { OnOk result (IsOpenIn way.now (tree_doc (targets_of self.old).signed)
+            → loaded_doc self.new
+            ≡ with_role way.now (held_doc document) bytes.items (loaded_doc self.old)) }
+        ensures refused { OnErr result (loaded_doc self.new ≡ loaded_doc self.old) }
+    {
+        let role = document.signed.name.clone()?;
+        self.received.push(Received { role, bytes })?;
+        self.targets.signed.put_along(way, document);
+        Ok(())
     }
 
     /// The four top-level documents: the root, the timestamp, the snapshot and the targets.
