@@ -10,7 +10,7 @@ mod run;
 
 pub use driving::drive;
 pub use hashes::fetch_hashes;
-pub use load::{Load, LoadParts};
+pub use load::{Load, LoadParts, fetch_file};
 pub use loader::{RepositoryLoader, Unset};
 pub use run::LoadRun;
 pub use tough_trust::Keeper;

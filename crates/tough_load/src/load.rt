@@ -74,8 +74,9 @@ fn answer_of(outcome: Result<Vec<u8>, TransportError>) -> Answer
     }
 }
 
-// Starts to fetch a file.
-fn start<T: Transport>(
+/// Starts to fetch a metadata file, whose name is joined to the base URL: no longer than asked, and with each digest that is asked for. `JoinUrl`
+/// where the name can't be joined, `Transport` where the transport refuses.
+pub fn fetch_file<T: Transport>(
     alloc: Global,
     transport: &T,
     base: &Url,
@@ -183,7 +184,7 @@ impl<T: Transport, K: Keeper, C: Clock + Drop, V: Verify + Drop> Load<T, K, C, V
             Ask::Moment => Answer::Moment(self.clock.now()),
             Ask::Stored(first) => Answer::Stored(self.keeper.read_root(first, &self.verifier)),
             Ask::Fetch(request) => {
-                match start(self.alloc, &self.transport, &self.base, request) {
+                match fetch_file(self.alloc, &self.transport, &self.base, request) {
                     Ok(fetch) => {
                         self.fetch = Some(fetch);
                         return None;

@@ -1,6 +1,6 @@
 use Rattle.std.proofs.Common.{rules, ◌∙◌, ap}
 use Rattle.url.specs.Parts.{serialize}
-use Rattle.tough_load.proofs.load.start.Goals as goal
+use Rattle.tough_load.proofs.load.fetch_file.Goals as goal
 
 pub returns-in-Ok-fetch_whole-clause-started : goal.returns-in-Ok-fetch_whole-clause-started
 returns-in-Ok-fetch_whole-clause-started g c = record {
