@@ -44,11 +44,11 @@ waiting_in t = map (λ id. id.now) t.waiting.items
 abbrev pub threshold_in : Tally → ℕ
 threshold_in t = non_zero_u64_get t.threshold
 
--- no signatures stand under the same identifier
+-- no two signatures stand under the same identifier
 abbrev pub is_once : Tally → Bool
 is_once t = t.once
 
--- as many different keys signed as must, and no identifier stands twice among the signatures
+-- keys under as many different identifiers signed as must, and no identifier stands twice among the signatures
 abbrev pub is_reached : Tally → Bool
 is_reached t = is_once t && nat_le (threshold_in t) (length (signed_in t))
 

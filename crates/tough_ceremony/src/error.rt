@@ -13,7 +13,7 @@ pub enum CeremonyError {
         /// The role.
         role: RoleType,
     },
-    /// The role lists the key already.
+    /// The role lists the key's identifier already, whether or not the root has a key under it.
     #[error("The role lists this key already")]
     AlreadyListed,
     /// The key isn't listed.

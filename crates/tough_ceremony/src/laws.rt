@@ -44,7 +44,7 @@ pub fn signing_counts<S: Sign>()
         → some_twice before ≡ false → some_twice after ≡ false }
 {}
 
-/// The next root of a client (TUF specification 1.0, section 5.3) is the one whose version is one more, and whose signatures are accepted under the root
+/// Of roots that are read, the next one of a client (TUF specification 1.0, section 5.3) is the one whose version is one more, and whose signatures are accepted under the root
 /// before it and under itself, which its tallies under these two tell.
 pub fn complete_is_next()
     ensures accepted { (v : Verifies) (old next : Signed Root)

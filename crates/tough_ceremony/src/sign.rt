@@ -205,8 +205,9 @@ fn signatures_by<S: Sign>(
     Ok(all)
 }
 
-/// Puts one signature of the root under each identifier under which the root, or the one before it, lists the signer's key for roots: in
-/// the place of what stood there, behind all other signatures, which stay as they are, in their order (TUF specification 1.0, sections 4.2 and 6.1).
+/// Puts one signature of the root under each identifier under which the root, or the one before it, lists the signer's key for roots: what
+/// stood there goes, and the new ones stand behind all other signatures, which stay as they are, in their order (TUF specification 1.0,
+/// sections 4.2 and 6.1). No signature is verified here: a tally tells which verify.
 /// The refusals: `Signer` where the signer doesn't tell its key, or fails; `NotListed` where no root lists the key; `Unwritable` where one does, and the
 /// root has no canonical form; `Memory` when out of memory. The document stays as it is then.
 pub fn sign_root<S: Sign>(

@@ -172,7 +172,7 @@ impl<T, K: Keeper, C> Repository<T, K, C> {
         self.loaded.snapshot()
     }
 
-    /// The targets, with the documents of the delegated roles.
+    /// The targets, with the documents of the delegated roles, as far as they were loaded.
     pub fn targets(&self) -> &Signed<Targets>
         ensures { result.now ≡ targets_of (loaded_of self.now) }
     {

@@ -199,7 +199,7 @@ impl<'a, T, V, C, K> RepositoryLoader<'a, T, V, C, K> {
         RepositoryLoader { settings, ..self }
     }
 
-    /// Which documents are loaded: those of the delegated roles too, or the top-level ones alone.
+    /// Which documents are loaded: those of the delegated roles too, or the top-level ones alone, as `Extent` says.
     pub fn extent(self, extent: Extent) -> RepositoryLoader<'a, T, V, C, K>
         ensures settings { settings_of result
             ≡ record (settings_of self.entry) { whole = is_whole extent } }

@@ -77,8 +77,8 @@ fn is_text(bytes: &[u8]) -> bool
     from_utf8(bytes).is_ok()
 }
 
-/// The text of a signed document as an editor writes it: pretty JSON and one newline. Where it nests no deeper than is read, it is read as
-/// the document. `Unwritable` where its role has no JSON, or that holds a float.
+/// The text of a signed document as an editor writes it: pretty JSON and one newline. Where it nests no deeper than is read, and its keys
+/// stand under their own identifiers, it is read as the document. `Unwritable` where its role has no JSON, or that holds a float.
 pub fn pretty_of<T: Role>(alloc: Global, document: &Signed<T>) -> Result<Vec<u8>, WriteError>
     ensures written { Writes (λ t. t.items) result
         (option_and_then pretty_in (document_json T.json document.now)) }

@@ -39,7 +39,7 @@ pub record RolesDoc : Type 0 where
   pub work : WorkDoc
   pub received : List ReceivedDoc
 
--- what an update ends with; the targets have the documents of the delegated roles
+-- what an update ends with; the targets have the documents of the delegated roles, as far as they were loaded
 pub record LoadedDoc : Type 0 where
   pub known : KnownDoc
   pub targets : SignedDoc TreeDoc

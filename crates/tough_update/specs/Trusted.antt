@@ -57,7 +57,7 @@ abbrev pub IsVouched : Verifies → List (List ℕ × MetafileDoc) → Option De
 IsVouched verifies entries None name d = ⊥
 IsVouched verifies entries (Some g) name d = ReachesDelegated verifies g name targets_json d × Lists targets_in entries (name ++ codes ".json") d.role.head.version d
 
--- the targets have the documents of the delegated roles
+-- the targets have the documents of the delegated roles, as far as they were loaded
 pub record Trusted (verifies : Verifies) (bytes : List ℕ) (given : SignedDoc RootDoc → Type 0) (k : KnownDoc) (targets : SignedDoc TreeDoc) : Type 0 where
   pub root : Chain verifies (Begins verifies bytes given) k.root
   pub timestamp : ReachesUnder verifies k.root.role role.Timestamp timestamp_json k.timestamp

@@ -21,7 +21,7 @@ pub fn trusts()
         → Loaded verifies c answers l }
 {}
 
-/// Documents that are served, that fit, are signed and unexpired, and that vouch for one another, are loaded, those of delegated roles
+/// Documents that are served, that fit, are signed and unexpired, and that vouch for one another, are loaded as a whole, those of delegated roles
 /// included, where each role has one and no two have one name: a transport that serves them, a clock, and a store that held nothing, give an
 /// update eleven answers and at most two for each delegated role, and then it has ended with them.
 pub fn loads()
@@ -30,21 +30,22 @@ pub fn loads()
         → AllHonest verifies files l.known.start c answers → IsLoaded verifies c answers l }
 {}
 
-/// Each file that is asked for is one of four: the root after one that ends a chain, the timestamp, the snapshot that the accepted timestamp
-/// lists, or the targets that the accepted snapshot lists; its length and digests are bounded by the limits or that entry.
+/// Each file that is asked for is one of five: the root after one that ends a chain, the timestamp, the snapshot that the accepted timestamp
+/// lists, the targets or a delegated role's document that the accepted snapshot lists; its length and digests are bounded by the limits or
+/// that entry.
 pub fn asks()
     ensures { (verifies : Verifies) (c : CoreDoc) (answers : List AnswerDoc) (r : RequestDoc)
         → IsFresh c → question (run verifies c answers) ≡ Fetch r → AsksFile verifies c answers r }
 {}
 
-/// An update that loads the top-level documents alone asks for no document of a delegated role, and stores none.
+/// An update that loads the top-level documents alone asks for no document of a delegated role, stores none, and ends with a tree that has none.
 pub fn tops_ask_no_role()
     ensures { (verifies : Verifies) (c : CoreDoc) (answers : List AnswerDoc)
         → IsFresh c → c.setting.whole ≡ false → AsksNoRole (run verifies c answers).stage }
 {}
 
 /// In any run, at most as many roots are asked for as the limit allows, one after another from the one after the root that the walk began
-/// with, and then at most three files.
+/// with, then at most three files, and then documents of delegated roles.
 pub fn asks_few()
     ensures { (verifies : Verifies) (c : CoreDoc) (answers : List AnswerDoc) → IsFresh c
         → AsksFew verifies c answers }

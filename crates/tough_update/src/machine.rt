@@ -107,7 +107,7 @@ impl Core {
         }
     }
 
-    /// The update, which loads these documents.
+    /// The update, before its first answer, which loads these documents.
     pub fn to_extent(self, extent: Extent) -> Core
         ensures core { core_doc result ≡ reaching (is_whole extent) (core_doc self) }
         ensures counts { counts_of result ≡ counts_of self }

@@ -181,7 +181,7 @@ impl Loaded {
         &self.known.snapshot
     }
 
-    /// The targets that the snapshot names, with the documents of the delegated roles (TUF 1.0, 5.6).
+    /// The targets that the snapshot names, with the documents of the delegated roles, as far as they were loaded (TUF 1.0, 5.6).
     pub fn targets(&self) -> &Signed<Targets>
         ensures { result.now ≡ targets_of self.now }
     {
