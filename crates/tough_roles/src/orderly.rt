@@ -23,7 +23,8 @@ fn is_word(number: &Number) -> bool
     }
 }
 
-/// Whether the value is read again from its text, as each is.
+/// Whether the value is known to be read again from its text: each number in it is one of 64 bits, and the members of each
+/// object stand in order. `false` says nothing.
 #[cycle(orderly)]
 pub fn is_orderly(value: &Value) -> bool
     ensures { IsTrue result → IsOrderly (view value.now) }

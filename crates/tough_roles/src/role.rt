@@ -73,8 +73,8 @@ pub trait Role {
         Err(PieceError::Refused)
     }
 
-    /// Whether the role's JSON is known to be read as the role, where it has one and the role is kept. No value of the
-    /// whole is made; `false` says nothing.
+    /// Whether the role's JSON, if it has one, is known to be orderly, and to be read as the role where the role is kept.
+    /// No value of the whole is made; `false` says nothing.
     fn reads_back(&self, alloc: Global) -> Result<bool, AllocError>
         ensures { IfOk result (λ known. IsTrue known → (d : Data) → json self.now ≡ Some d
             → IsOrderly d × (is_kept self.now → is_read d self.now)) }

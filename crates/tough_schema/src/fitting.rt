@@ -43,8 +43,8 @@ fn are_fit(targets: &BTreeMap<TargetName, Target>) -> bool
     true
 }
 
-/// Whether the JSON of the targets is known to be read as them: where each states a length and its SHA-256 alone. No value of the listing is
-/// made.
+/// Whether the JSON of the targets, if they have one, is known to be orderly, and the listing to be sorted: where each target states
+/// its length and its SHA-256 alone. No value of the listing is made; `false` says nothing.
 pub(crate) fn targets_read_back(alloc: Global, targets: &Targets) -> Result<bool, AllocError>
     ensures { IfOk result (λ known. IsTrue known → (d : Data)
         → targets_json (targets_doc targets.now) ≡ Some d
