@@ -133,6 +133,7 @@ impl<T, K: Keeper, C> Repository<T, K, C> {
         ensures taken { TakesStep K.keeps (V.verifies verifier.now) (act_of act.now)
             (keeping_of self.old) (step_doc result) (keeping_of self.new) }
         ensures clock { clock_of self.new ≡ clock_of self.old }
+        ensures alloc { alloc_of self.new ≡ alloc_of self.old }
         ensures others { IsKept self.old self.new }
     {
         take_step(
