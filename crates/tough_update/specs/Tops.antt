@@ -1,5 +1,5 @@
 -- An update that loads the top-level documents alone (TUF specification 1.0, section 5.6).
-use Rattle.std.specs.Prelude.{◌≡◌, [], ◌×◌, ⊤, Ok}
+use Rattle.std.specs.Prelude.{◌≡◌, [], ⊤, Ok}
 use Rattle.tough_roles.specs.Signature.{SignedDoc}
 use Rattle.tough_schema.specs.Whole.{TreeDoc}
 use Rattle.tough_trust.specs.delegations.Bare.{bare, top_page}
