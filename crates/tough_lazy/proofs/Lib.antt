@@ -1,0 +1,11 @@
+pub mod Courses
+pub mod Needed
+pub mod Extended
+pub mod Settling
+pub mod Standing
+pub mod Beginning
+pub mod Agreeing
+pub mod Vouching
+pub mod Serving
+pub mod Told
+pub mod Taking
