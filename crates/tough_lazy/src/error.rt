@@ -17,7 +17,7 @@ pub enum FetchRolesError {
         /// The name under which the snapshot would list it.
         file: String,
     },
-    /// What was fetched isn't what the snapshot lists: it is longer, or has another digest.
+    /// The bytes aren't those that the snapshot lists: they are too many, or have another digest.
     #[error("The document of the role '{role}', {file}, isn't the one that the snapshot lists")]
     Unfit {
         /// The role's name.

@@ -129,11 +129,12 @@ pub struct FetchRoles<'a, T: Transport, K: Keeper, C, V> {
 }
 
 /// Fetches the documents of the delegated roles that a search for the name comes to and that aren't there yet (TUF specification 5.6.7), at most
-/// so many: each is verified as its delegations ask, stored by the repository's keeper, and put into the repository's tree, where later searches
-/// find it. Then the repository's own search for the name is that of the standard: `read_target` and `save_target` read what it finds.
+/// so many. Each is verified as its delegations ask, as of the beginning of the load, stored by the repository's keeper unless its file has one of
+/// the vault's own names, and put into the repository's tree, where later searches find it. Then the repository's own search for the name is that
+/// of the standard: `read_target` and `save_target` read what it finds. That is told of each poll, and of the answer only that such documents are.
 ///
-/// The errors: `Unlisted` where the snapshot lists no document of a role, `Unfit` where its file is longer than listed or has another digest,
-/// `Role` with what the transport, a check or the store told, `TooMany` where more documents are needed, `Memory`.
+/// The errors: `Unlisted` where the snapshot lists no document of a role, `Unfit` where its file has another digest than is listed, `Role` with
+/// what the transport, a check or the store told, `TooMany` where more documents are needed, `Memory`.
 pub fn fetch_roles<'a, T: Transport, K: Keeper, C, V: Verify>(
     repository: &'a mut Repository<T, K, C>,
     verifier: &'a V,

@@ -54,7 +54,7 @@ pub fn extends_by()
         → role_along way u ≡ Some (e, Some d) → ExtendsHeld h d → Extends (along way h t) u }
 {}
 
-/// What holds between each document and each of its roles that has one still holds with the document that a search needs, where it holds
+/// A test that each document and each of its roles that has one pass still holds with the document that a search needs, where it holds
 /// between the delegations that the role stands in and that document.
 pub fn below_stays()
     ensures { (fits : Option DelegationsDoc → List ℕ → SignedDoc TargetsDoc → Bool) (name : Named)

@@ -264,9 +264,9 @@ fn accept<T, K: Keeper, C, V: Verify>(
 }
 
 /// Takes the bytes of the document that a search for the name needs next: they must fit the snapshot's entry (`Unfit`), and pass the checks of a
-/// delegated role's document (`Role`, with what refuses; TUF specification 5.6.7). The keeper stores it (`Role`, with what the store told), and it
-/// gets its place in the repository's tree. Where the snapshot doesn't list it, the answer is `Unlisted`. Where the search needs no document,
-/// nothing is done. After an error no document has come to the tree.
+/// delegated role's document, as of the beginning of the load (`Role`, with what refuses; TUF specification 5.6.7). The keeper stores it, unless its
+/// file has one of the vault's own names (`Role`, with what the store told), and it gets its place in the repository's tree. Where the snapshot
+/// doesn't list it, the answer is `Unlisted`. Where the search needs no document, nothing is done. After an error no document has come to the tree.
 pub fn take_role<T, K: Keeper, C, V: Verify>(
     repository: &mut Repository<T, K, C>,
     verifier: &V,

@@ -85,13 +85,13 @@ fn a_broken_role_stops_the_searches_that_reach_it(rt: HostRuntime) -> Result<(),
     let files = fan(rt.alloc(), 10, 1)?;
     let mut vault = Vault::new(rt.alloc(), MemoryStore::new(rt.alloc()));
     let mut repository = open(&rt, &files, ".r5.json", &mut vault)?;
-    match seek(&rt, &mut repository, "r5/target-000000.txt", 32)? {
-        Err(FetchRolesError::Role { role, file, .. }) => {
-            assert!(rt; role.as_str() == "r5");
-            assert!(rt; file.as_str() == "2.r5.json");
-        }
-        _ => assert!(rt; false),
-    }
+    let outcome = seek(&rt, &mut repository, "r5/target-000000.txt", 32)?;
+    let text = match outcome {
+        Ok(()) => String::new(rt.alloc()),
+        Err(error) => format!(in rt.alloc(); "{error}")?,
+    };
+    assert!(rt; text.as_str().starts_with("The document of the role 'r5', "));
+    assert!(rt; text.as_str().contains(".r5.json: "));
     seek(&rt, &mut repository, "r4/target-000000.txt", 32)??;
     assert!(rt; is_found(&rt, &repository, "r4/target-000000.txt")?);
     Ok(())
