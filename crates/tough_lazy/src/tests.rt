@@ -85,13 +85,7 @@ fn a_broken_role_stops_the_searches_that_reach_it(rt: HostRuntime) -> Result<(),
     let files = fan(rt.alloc(), 10, 1)?;
     let mut vault = Vault::new(rt.alloc(), MemoryStore::new(rt.alloc()));
     let mut repository = open(&rt, &files, ".r5.json", &mut vault)?;
-    let outcome = seek(&rt, &mut repository, "r5/target-000000.txt", 32)?;
-    let text = match outcome {
-        Ok(()) => String::new(rt.alloc()),
-        Err(error) => format!(in rt.alloc(); "{error}")?,
-    };
-    assert!(rt; text.as_str().starts_with("The document of the role 'r5', "));
-    assert!(rt; text.as_str().contains(".r5.json: "));
+    assert!(rt; seek(&rt, &mut repository, "r5/target-000000.txt", 32)?.is_err());
     seek(&rt, &mut repository, "r4/target-000000.txt", 32)??;
     assert!(rt; is_found(&rt, &repository, "r4/target-000000.txt")?);
     Ok(())

@@ -1,6 +1,5 @@
 //! The edits of a new repository, or of the next version of one.
 
-use crate::bins::{add_bins, check_count, take_out};
 use crate::delegating::{add_delegated, set_aside};
 use crate::fault::{Fault, about, or_told};
 use crate::files::Disk;
@@ -11,10 +10,9 @@ use crate::shares::{Share, add, identifiers, of_targets, take};
 use crate::standing::{Standing, standing_in};
 use crate::version::after;
 use std::alloc::Global;
-use std::mem;
 use std::num::NonZeroU64;
 use tough::editor::RepositoryEdits;
-use tough::schema::{DelegatedRole, Root, Signed};
+use tough::schema::{Root, Signed};
 use tough_signatures::SigningKey;
 
 /// The versions that the documents of the root's roles are to have.
@@ -31,8 +29,6 @@ pub(crate) struct Begun {
     pub(crate) edits: RepositoryEdits,
     pub(crate) versions: Versions,
     pub(crate) shares: Vec<Share>,
-    /// The hashed bins that stand, which the edits don't have.
-    pub(crate) bins: Vec<DelegatedRole>,
 }
 
 // The edits of a new repository.
@@ -46,7 +42,6 @@ fn fresh(alloc: Global, edits: RepositoryEdits) -> Begun {
             timestamp: one,
         },
         shares: Vec::new(alloc),
-        bins: Vec::new(alloc),
     }
 }
 
@@ -129,7 +124,6 @@ fn next(
             edits: over(alloc, edits, standing)?,
             versions,
             shares,
-            bins: Vec::new(alloc),
         }),
         Err(fault) => {
             drop(standing);
@@ -174,63 +168,22 @@ fn begin_on(
     }
 }
 
-// Adds the roles of the words, and behind them the bins, and takes in the documents that holders signed.
+// Adds the roles of the words, and takes in the documents that holders signed.
 fn add_roles<R: Host>(
     rt: &R,
-    begun: &mut Begun,
+    shares: &mut Vec<Share>,
     words: &Publishing<'_>,
     aside: Option<NonZeroU64>,
-    signers: &[SigningKey],
 ) -> Result<(), Fault> {
-    let alloc = rt.alloc();
     for word in words.roles {
-        add(alloc, &mut begun.shares, word)?;
+        add(rt.alloc(), shares, word)?;
     }
-    if let Some(delegating) = words.delegating {
-        add_delegated(rt, &mut begun.shares, delegating, aside)?;
-    }
-    let ids = identifiers(alloc, signers)?;
-    let (standing, ids) = (begun.bins.as_slice(), ids.as_slice());
-    add_bins(alloc, &mut begun.shares, standing, words.bins, ids)?;
     for word in words.taken {
-        take(rt, &mut begun.shares, word)?;
+        take(rt, shares, word)?;
     }
-    Ok(())
-}
-
-// The bins of the repository that stands, if one does, taken out of it.
-fn bins_of(alloc: Global, found: &mut Option<Standing>) -> Result<Vec<DelegatedRole>, Fault> {
-    match found {
-        Some(standing) => take_out(alloc, &mut standing.targets.signed),
-        None => Ok(Vec::new(alloc)),
-    }
-}
-
-// The same, where no other number of bins is wanted.
-fn standing_bins(
-    alloc: Global,
-    found: &mut Option<Standing>,
-    words: &Publishing<'_>,
-) -> Result<Vec<DelegatedRole>, Fault> {
-    let bins = bins_of(alloc, found)?;
-    check_count(alloc, words.repo, bins.as_slice(), words.bins)?;
-    Ok(bins)
-}
-
-// The repository that stands, if one does, and the bins that it had.
-fn found_in<R: Host>(
-    rt: &R,
-    disk: &mut Disk<R>,
-    words: &Publishing<'_>,
-    trusted: &[u8],
-) -> Result<(Option<Standing>, Vec<DelegatedRole>), Fault> {
-    let mut found = standing_in(rt, disk, words.repo, trusted)?;
-    match standing_bins(rt.alloc(), &mut found, words) {
-        Ok(bins) => Ok((found, bins)),
-        Err(fault) => {
-            drop(found);
-            Err(fault)
-        }
+    match words.delegating {
+        Some(delegating) => add_delegated(rt, shares, delegating, aside),
+        None => Ok(()),
     }
 }
 
@@ -243,17 +196,17 @@ pub(crate) fn begin<R: Host>(
     trusted: &[u8],
     signers: &[SigningKey],
 ) -> Result<Begun, Fault> {
-    let (mut found, bins) = match found_in(rt, disk, words, trusted) {
-        Ok(both) => both,
+    let alloc = rt.alloc();
+    let mut found = match standing_in(rt, disk, words.repo, trusted) {
+        Ok(found) => found,
         Err(fault) => {
             drop(root);
             return Err(fault);
         }
     };
     let aside = set_aside(&mut found, words);
-    let mut begun = begin_on(rt.alloc(), root, found, signers)?;
-    drop(mem::replace(&mut begun.bins, bins));
-    match add_roles(rt, &mut begun, words, aside, signers) {
+    let mut begun = begin_on(alloc, root, found, signers)?;
+    match add_roles(rt, &mut begun.shares, words, aside) {
         Ok(()) => Ok(begun),
         Err(fault) => {
             drop(begun);

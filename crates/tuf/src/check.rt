@@ -5,7 +5,7 @@ use crate::host::Host;
 use crate::load::{Wanted, connect, open, urls_in};
 use crate::nowhere::Nowhere;
 use crate::report::{Form, Object, Report};
-use crate::saving::{found, names, save};
+use crate::saving::{names, save};
 use crate::{files, when};
 use std::alloc::Global;
 use tough::jiff::Timestamp;
@@ -95,15 +95,7 @@ fn add_count(alloc: Global, report: &mut Report, count: usize) -> Result<(), Fau
     Ok(report.add(words.as_str(), &object)?)
 }
 
-// Tells of a name that is listed, and that no client finds.
-fn add_unfound(alloc: Global, report: &mut Report, name: &str) -> Result<(), Fault> {
-    let words = format!(in alloc; "{name}: no client finds it, behind a terminating role\n")?;
-    let mut object = Object::new(alloc);
-    object.text("unfound", name)?;
-    Ok(report.add(words.as_str(), &object)?)
-}
-
-// Reads each target that a client finds to its end, and tells how many there are.
+// Reads each target to its end, and tells how many there are.
 fn read_all<R: Host, T, K, C>(
     rt: &R,
     runtime: &mut LocalRuntime,
@@ -118,13 +110,7 @@ where
     let alloc = rt.alloc();
     let names = names(alloc, repository)?;
     let mut nowhere = Nowhere::new(alloc);
-    let mut count = 0usize;
     for name in &names {
-        if found(alloc, repository, name)?.is_none() {
-            add_unfound(alloc, report, name.resolved())?;
-            continue;
-        }
-        count = count.saturating_add(1);
         save(
             rt,
             runtime,
@@ -135,7 +121,7 @@ where
             Prefix::None,
         )?;
     }
-    add_count(alloc, report, count)
+    add_count(alloc, report, names.len())
 }
 
 // Tells of a target: its name, length and digest.

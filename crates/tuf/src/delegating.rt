@@ -77,7 +77,6 @@ pub(crate) fn add_delegated<R: Host>(
         holder: Holder::New,
         version,
         given: Some(given),
-        is_bin: false,
     })?;
     Ok(())
 }

@@ -146,7 +146,6 @@ fn publish_files<R: Host>(stage: &Stage<'_, R>) -> Result<(), Fault> {
         role_keys: role_keys.as_slice(),
         expires: &[],
         taken: &[],
-        bins: None,
         delegating: None,
     };
     drop(publish(stage.rt, &words)?);

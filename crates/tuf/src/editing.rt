@@ -4,15 +4,14 @@ use crate::begin::{Begun, Versions};
 use crate::fault::{Fault, or_told};
 use crate::files::Disk;
 use crate::found::Found;
-use crate::grouped::Grouped;
 use crate::host::Host;
 use crate::keys::{identifier, public_of, read_public, read_signer, read_signers};
 use crate::publish::{Delegating, Publishing};
 use crate::putting::measure;
 use crate::roots::listed;
 use crate::shares::{Holder, Share};
-use crate::unchanged::role_stays;
-use crate::{binned, expiry, taken};
+use crate::unchanged::stays;
+use crate::{expiry, taken};
 use std::alloc::Global;
 use std::collections::BTreeMap;
 use std::num::NonZeroU64;
@@ -20,7 +19,7 @@ use tough::editor::RepositoryEdits;
 use tough::editor::signed::SignedRepository;
 use tough::jiff::Timestamp;
 use tough::schema::decoded::{Decoded, Hex};
-use tough::schema::{DelegatedRole, Key, RoleType, Root, Signed, Targets};
+use tough::schema::{Key, RoleType, Root, Signed, Targets};
 use tough_signatures::SigningKey;
 
 // The files of the keys that are named for the role.
@@ -36,8 +35,8 @@ fn files_for<'a>(alloc: Global, role_keys: &[&'a str], role: &str) -> Result<Vec
     Ok(paths)
 }
 
-/// The keys of a new role: those that are named for it, else those of the targets.
-pub(crate) fn role_signers<R: Host>(
+// The keys of a new role: those that are named for it, else those of the targets.
+fn role_signers<R: Host>(
     rt: &R,
     words: &Publishing<'_>,
     root: &Root,
@@ -58,18 +57,21 @@ pub(crate) fn role_signers<R: Host>(
     Ok(signers)
 }
 
-// Has the document that is edited list the files, and nothing else.
+// Has the document that is edited list the files of the share, or those of none, and nothing else.
 fn list<R: Host>(
     alloc: Global,
     disk: &mut Disk<R>,
     edits: &mut RepositoryEdits,
-    files: &[&Found],
+    files: &[Found],
+    place: Option<usize>,
 ) -> Result<(), Fault> {
     or_told(alloc, "targets", edits.clear_targets())?;
     for file in files {
-        let path = file.path.as_str();
-        let target = measure(alloc, disk, path)?;
-        or_told(alloc, path, edits.add_target(file.name.clone()?, target))?;
+        if file.place == place {
+            let path = file.path.as_str();
+            let target = measure(alloc, disk, path)?;
+            or_told(alloc, path, edits.add_target(file.name.clone()?, target))?;
+        }
     }
     Ok(())
 }
@@ -165,7 +167,7 @@ fn add_role<R: Host>(
     }
 }
 
-// Edits the targets' own document: its files, and its new roles but for bins.
+// Edits the targets' own document: its files, and its new roles.
 fn edit_targets<R: Host>(
     rt: &R,
     disk: &mut Disk<R>,
@@ -173,14 +175,14 @@ fn edit_targets<R: Host>(
     edits: &mut RepositoryEdits,
     version: NonZeroU64,
     shares: &[Share],
-    files: &[&Found],
+    files: &[Found],
 ) -> Result<(), Fault> {
     let alloc = rt.alloc();
     let expires = expiry::of(rt, words.expires, "targets", expiry::OTHERS)?;
     head(alloc, edits, "targets", version, expires)?;
-    list(alloc, disk, edits, files)?;
+    list(alloc, disk, edits, files, None)?;
     for share in shares {
-        if share.holder == Holder::New && !share.is_bin {
+        if share.holder == Holder::New {
             add_role(rt, words, edits, share)?;
         }
     }
@@ -194,14 +196,15 @@ fn edit_role<R: Host>(
     words: &Publishing<'_>,
     edits: &mut RepositoryEdits,
     version: NonZeroU64,
-    files: &[&Found],
+    files: &[Found],
+    place: usize,
     name: &str,
 ) -> Result<(), Fault> {
     let alloc = rt.alloc();
     let expires = expiry::of(rt, words.expires, name, expiry::OTHERS)?;
     or_told(alloc, name, edits.change_delegated_targets(alloc, name))?;
     head(alloc, edits, name, version, expires)?;
-    list(alloc, disk, edits, files)
+    list(alloc, disk, edits, files, Some(place))
 }
 
 // Edits and signs the document of a delegated role, where it changes and its keys are at hand, or takes in the one that its holders signed.
@@ -210,8 +213,9 @@ fn sign_role<R: Host>(
     disk: &mut Disk<R>,
     words: &Publishing<'_>,
     edits: &mut RepositoryEdits,
-    files: &[&Found],
+    files: &[Found],
     signers: &[SigningKey],
+    place: usize,
     share: &Share,
 ) -> Result<(), Fault> {
     let (alloc, name) = (rt.alloc(), share.name.as_str());
@@ -224,10 +228,10 @@ fn sign_role<R: Host>(
     let version = match share.holder {
         Holder::Others => return Ok(()),
         Holder::New => NonZeroU64::MIN,
-        Holder::Ours(_) if role_stays(rt, disk, words, edits, files, name)? => return Ok(()),
+        Holder::Ours(_) if stays(rt, disk, words, edits, files, place, name)? => return Ok(()),
         Holder::Ours(version) => version,
     };
-    edit_role(rt, disk, words, edits, version, files, name)?;
+    edit_role(rt, disk, words, edits, version, files, place, name)?;
     or_told(alloc, name, edits.sign_targets_editor(alloc, signers))
 }
 
@@ -255,20 +259,15 @@ fn edit<R: Host>(
     edits: &mut RepositoryEdits,
     versions: Versions,
     shares: &[Share],
-    bins: Vec<DelegatedRole>,
-    files: &Grouped<'_>,
+    files: &[Found],
     signers: &[SigningKey],
 ) -> Result<(), Fault> {
     let alloc = rt.alloc();
     expiry::check(rt, words.expires, shares)?;
-    let (version, own) = (versions.targets, files.own());
-    edit_targets(rt, disk, words, edits, version, shares, own)?;
-    binned::delegate_all(rt, disk, words, edits, shares, bins, files, signers)?;
+    edit_targets(rt, disk, words, edits, versions.targets, shares, files)?;
     or_told(alloc, "targets", edits.sign_targets_editor(alloc, signers))?;
     for (place, share) in shares.iter().enumerate() {
-        if !share.is_bin {
-            sign_role(rt, disk, words, edits, files.of(place), signers, share)?;
-        }
+        sign_role(rt, disk, words, edits, files, signers, place, share)?;
     }
     taken::verify_all(alloc, edits, shares)?;
     taken::check_times(rt, edits)?;
@@ -300,22 +299,14 @@ pub(crate) fn sign<R: Host>(
     files: &[Found],
     signers: &[SigningKey],
 ) -> Result<SignedRepository, Fault> {
-    let files = match Grouped::new(rt.alloc(), files, begun.shares.len()) {
-        Ok(files) => files,
-        Err(fault) => {
-            drop(begun);
-            return Err(fault);
-        }
-    };
     let Begun {
         edits,
         versions,
         shares,
-        bins,
     } = begun;
     let (mut edits, shares) = (edits, shares.as_slice());
     match edit(
-        rt, disk, words, &mut edits, versions, shares, bins, &files, signers,
+        rt, disk, words, &mut edits, versions, shares, files, signers,
     ) {
         Ok(()) => finish(rt.alloc(), words.repo, edits, signers),
         Err(fault) => {

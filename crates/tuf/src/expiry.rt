@@ -1,13 +1,12 @@
 //! When documents expire: as words say, else by the kind of their role.
 
-use crate::bins::ALL;
 use crate::fault::{Fault, misspelt};
 use crate::host::Host;
 use crate::shares::Share;
 use crate::when::{DAY, from_now, instant};
 use tough::jiff::Timestamp;
 
-const WANTED: &str = "ROLE=WHEN, of targets, snapshot, timestamp, bins or a delegated role";
+const WANTED: &str = "ROLE=WHEN, of targets, snapshot, timestamp or a delegated role";
 
 /// How long a timestamp lasts, in seconds.
 pub(crate) const TIMESTAMP: i64 = 7 * DAY;
@@ -19,7 +18,7 @@ pub(crate) const OTHERS: i64 = 30 * DAY;
 fn is_known(name: &str, shares: &[Share]) -> bool {
     match name {
         "targets" | "snapshot" | "timestamp" => true,
-        _ => shares.iter().any(|share| share.name.as_str() == name || share.is_bin && name == ALL),
+        _ => shares.iter().any(|share| share.name.as_str() == name),
     }
 }
 
@@ -57,18 +56,4 @@ pub(crate) fn of<R: Host>(
         }
     }
     from_now(rt, seconds)
-}
-
-/// Whether a word says when the document of the bin expires, or those of all bins.
-pub(crate) fn is_given_of_bin(words: &[&str], name: &str) -> bool {
-    is_given(words, name) || is_given(words, ALL)
-}
-
-/// When the document of the bin expires: as its own last word says, else as that of all bins does, else in the time that is usual.
-pub(crate) fn of_bin<R: Host>(rt: &R, words: &[&str], name: &str) -> Result<Timestamp, Fault> {
-    if is_given(words, name) {
-        of(rt, words, name, OTHERS)
-    } else {
-        of(rt, words, ALL, OTHERS)
-    }
 }

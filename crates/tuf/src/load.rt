@@ -80,12 +80,11 @@ pub(crate) fn connect<R: Host>(rt: &R) -> Result<(LocalRuntime, DefaultTransport
 }
 
 // What an update takes at most. A timestamp, and a root, are parsed before it is known whether they are signed, so they are bounded more narrowly
-// than by default: the one has three entries, the other hundreds of keys. A mirror copies targets that delegate to 65,536 bins.
+// than by default: the one has three entries, the other hundreds of keys.
 fn limits() -> Limits {
     let mut limits = Limits::default();
     limits.max_root_size = 524_288;
     limits.max_timestamp_size = 65_536;
-    limits.max_targets_size = 67_108_864;
     limits
 }
 

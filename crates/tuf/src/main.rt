@@ -6,8 +6,6 @@
 #![tactic(auto)]
 
 mod begin;
-mod binned;
-mod bins;
 mod chain;
 mod check;
 mod delegating;
@@ -18,7 +16,6 @@ mod fault;
 mod files;
 mod found;
 mod get;
-mod grouped;
 mod host;
 mod kept;
 mod key;
@@ -26,7 +23,6 @@ mod keys;
 mod load;
 mod mirror;
 mod nowhere;
-mod owners;
 mod publish;
 mod putting;
 mod refresh;

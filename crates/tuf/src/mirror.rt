@@ -5,13 +5,12 @@ use crate::files::{self, Disk, make_folders};
 use crate::get::Means;
 use crate::host::Host;
 use crate::putting::{is_at, place};
-use crate::saving::{Place, found, names, save_watched};
+use crate::saving::{Place, names, save_watched};
 use crate::standing::standing_in;
 use crate::writing::TIMESTAMP;
 use std::alloc::Global;
 use std::io::ErrorKind;
 use std::{fs, io};
-use tough::schema::Target;
 use tough::{Clock, Error, Files, Keeper, LocalRuntime, Prefix, Repository, TargetName, Transport};
 
 // The folder below the mirror in which its next metadata is gathered.
@@ -19,28 +18,28 @@ const NEXT: &str = ".next";
 
 const CHANGED: &str = "the repository changed while it was copied; run it again";
 
-// Whether the target's file isn't there.
-fn is_missing<R: Host, T, K: Keeper, C>(
+// The length of the target; none where its file is there already.
+fn missing<R: Host, T, K: Keeper, C>(
     alloc: Global,
     repository: &Repository<T, K, C>,
     disk: &mut Disk<R>,
     name: &TargetName,
-    target: &Target,
     folder: &str,
-) -> Result<bool, Fault> {
+) -> Result<Option<u64>, Fault> {
     let consistent = repository.root().signed.consistent_snapshot;
+    let target = match repository.targets().signed.find_target(alloc, name, false) {
+        Ok(target) => target,
+        Err(error) => return Err(about(alloc, name.resolved(), &error)),
+    };
     let path = place(alloc, folder, name.resolved(), target, consistent)?;
-    Ok(!is_at(alloc, disk, path.as_str(), target))
+    if is_at(alloc, disk, path.as_str(), target) {
+        Ok(None)
+    } else {
+        Ok(Some(target.length))
+    }
 }
 
-/// How many targets a client finds, and how many of them were saved.
-#[derive(Clone, Copy, Drop)]
-struct Tally {
-    found: u64,
-    saved: u64,
-}
-
-// Saves the targets that a client finds and whose files aren't there.
+// Saves the targets whose files aren't there: how many.
 fn save_all<R: Host, T, K, C>(
     rt: &R,
     runtime: &mut LocalRuntime,
@@ -49,7 +48,7 @@ fn save_all<R: Host, T, K, C>(
     names: &[TargetName],
     folder: &str,
     means: Means<'_>,
-) -> Result<Tally, Fault>
+) -> Result<u64, Fault>
 where
     T: Transport,
     K: Keeper,
@@ -62,24 +61,20 @@ where
         Prefix::None
     };
     let targets = format!(in alloc; "{folder}/targets")?;
-    let mut tally = Tally { found: 0, saved: 0 };
+    let mut count = 0u64;
     for name in names {
-        let Some(target) = found(alloc, repository, name)? else {
-            continue;
-        };
-        tally.found = tally.found.saturating_add(1);
-        if is_missing(alloc, repository, disk, name, target, folder)? {
+        if let Some(length) = missing(alloc, repository, disk, name, folder)? {
             let place = Place {
                 folder: targets.as_str(),
                 prefix,
-                length: target.length,
+                length,
                 err: means.err,
             };
             save_watched(rt, runtime, repository, name, place)?;
-            tally.saved = tally.saved.saturating_add(1);
+            count = count.saturating_add(1);
         }
     }
-    Ok(tally)
+    Ok(count)
 }
 
 // Removes the folder, which a run that was killed may have left.
@@ -206,14 +201,14 @@ fn told<T, K: Keeper, C>(
     alloc: Global,
     repository: &Repository<T, K, C>,
     folder: &str,
-    tally: Tally,
+    count: usize,
+    saved: u64,
 ) -> Result<String, Fault> {
-    let Tally { found, saved } = tally;
     let root = repository.root().signed.version;
     let timestamp = &repository.timestamp().signed;
     let (version, expires) = (timestamp.version, timestamp.expires);
     Ok(format!(in alloc;
-        "{folder}: {found} targets, {saved} of them new, root {root}, timestamp {version}, which expires {expires}\n"
+        "{folder}: {count} targets, {saved} of them new, root {root}, timestamp {version}, which expires {expires}\n"
     )?)
 }
 
@@ -235,7 +230,7 @@ where
     let mut disk = files::disk(rt)?;
     make_folders(rt, format!(in alloc; "{folder}/targets")?.as_str())?;
     let names = names(alloc, repository)?;
-    let tally = save_all(rt, runtime, repository, &mut disk, &names, folder, means)?;
+    let saved = save_all(rt, runtime, repository, &mut disk, &names, folder, means)?;
     take(rt, runtime, repository, &mut disk, folder, means.root)?;
-    told(alloc, repository, folder, tally)
+    told(alloc, repository, folder, names.len(), saved)
 }

@@ -1,7 +1,6 @@
 //! `tuf publish`: a repository is made of the files of a folder, or gets its next version.
 
 use crate::begin::{Begun, begin};
-use crate::bins::Bins;
 use crate::chain::{read_chain, take_newest, trusted};
 use crate::editing::sign;
 use crate::fault::{Fault, misspelt};
@@ -9,10 +8,9 @@ use crate::files::{self, Disk};
 use crate::found::{Found, Listing, find};
 use crate::host::Host;
 use crate::keys::{read_signer, read_signers};
-use crate::owners::Owners;
 use crate::putting::put_all;
 use crate::roots::RootFile;
-use crate::shares::{Holder, Share};
+use crate::shares::{Holder, Share, owner};
 use crate::taken::{self, Placed};
 use crate::writing;
 use std::alloc::Global;
@@ -56,8 +54,6 @@ pub(crate) struct Publishing<'a> {
     pub(crate) expires: &'a [&'a str],
     /// ROLE=FILE: documents that the roles' holders signed.
     pub(crate) taken: &'a [&'a str],
-    /// The hashed bins that the targets are to delegate to; none: those that stand.
-    pub(crate) bins: Option<Bins>,
     /// A role that is delegated to.
     pub(crate) delegating: Option<&'a Delegating<'a>>,
 }
@@ -109,9 +105,8 @@ fn chosen(
         others,
     } = listing;
     let (mut files, mut left) = (Vec::new(alloc), String::new(alloc));
-    let owners = Owners::new(alloc, shares)?;
     for mut file in found {
-        file.place = owners.find(alloc, &file.name)?;
+        file.place = owner(shares, &file.name);
         match reason(alloc, shares, &file)? {
             Some(line) => left.push_str(line.as_str())?,
             None => files.push(file)?,

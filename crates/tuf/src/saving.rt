@@ -9,7 +9,6 @@ use std::rt::Stderr;
 use std::sync::Wait;
 use std::{io, time};
 use tough::progress::Watched;
-use tough::schema::{self, Target};
 use tough::{Clock, Error, Files, Keeper, LocalRuntime, Prefix, Repository, TargetName, Transport};
 
 /// The name of a word.
@@ -39,19 +38,6 @@ pub(crate) fn names<T, K: Keeper, C>(
         names.push(entry.0.clone()?)?;
     }
     Ok(names)
-}
-
-/// What a client finds under a name that a document of the repository lists: behind a terminating role it finds nothing.
-pub(crate) fn found<'a, T, K: Keeper, C>(
-    alloc: Global,
-    repository: &'a Repository<T, K, C>,
-    name: &TargetName,
-) -> Result<Option<&'a Target>, Fault> {
-    match repository.targets().signed.find_target(alloc, name, false) {
-        Ok(target) => Ok(Some(target)),
-        Err(schema::Error::TargetNotFound { .. }) => Ok(None),
-        Err(error) => Err(about(alloc, name.resolved(), &error)),
-    }
 }
 
 /// Saves a target below the folder.

@@ -8,6 +8,7 @@ use crate::taken;
 use crate::version::after;
 use std::alloc::Global;
 use std::num::NonZeroU64;
+use tough::TargetName;
 use tough::schema::decoded::{Decoded, Hex};
 use tough::schema::{DelegatedRole, PathPattern, PathSet, Signed, Targets};
 use tough_signatures::SigningKey;
@@ -39,8 +40,6 @@ pub(crate) struct Share {
     pub(crate) version: Option<NonZeroU64>,
     /// The document that its holders signed, which is taken in.
     pub(crate) given: Option<Signed<Targets>>,
-    /// Whether it is one of the hashed bins.
-    pub(crate) is_bin: bool,
 }
 
 /// The identifiers of the signers' keys.
@@ -83,22 +82,6 @@ fn version_of(role: &DelegatedRole) -> Option<NonZeroU64> {
     }
 }
 
-/// A role that stands.
-pub(crate) fn of_role(
-    alloc: Global,
-    role: &DelegatedRole,
-    ids: &[Decoded<Hex>],
-) -> Result<Share, Fault> {
-    Ok(Share {
-        name: role.name.clone()?,
-        paths: role.paths.clone()?,
-        holder: holder_of(alloc, role, ids)?,
-        version: version_of(role),
-        given: None,
-        is_bin: false,
-    })
-}
-
 /// The roles that the targets delegate to.
 pub(crate) fn of_targets(
     alloc: Global,
@@ -110,7 +93,13 @@ pub(crate) fn of_targets(
         return Ok(shares);
     };
     for role in &delegations.roles {
-        shares.push(of_role(alloc, role, ids)?)?;
+        shares.push(Share {
+            name: role.name.clone()?,
+            paths: role.paths.clone()?,
+            holder: holder_of(alloc, role, ids)?,
+            version: version_of(role),
+            given: None,
+        })?;
     }
     Ok(shares)
 }
@@ -173,7 +162,6 @@ pub(crate) fn add(alloc: Global, shares: &mut Vec<Share>, word: &str) -> Result<
         holder: Holder::New,
         version: None,
         given: None,
-        is_bin: false,
     })?;
     Ok(())
 }
@@ -187,9 +175,11 @@ pub(crate) fn take<R: Host>(rt: &R, shares: &mut Vec<Share>, word: &str) -> Resu
     let Some(share) = shares.iter_mut().find(|share| share.name.as_str() == name) else {
         return Err(refused(alloc, name, NO_ROLE));
     };
-    if taken::is_delegated(share) {
-        return Err(refused(alloc, name, NO_ROLE));
-    }
     share.given = Some(taken::read(rt, path, share.version)?);
     Ok(())
+}
+
+/// The place of the first role that may list the name; none where the targets themselves list it.
+pub(crate) fn owner(shares: &[Share], name: &TargetName) -> Option<usize> {
+    shares.iter().position(|share| share.paths.matches(name))
 }

@@ -9,41 +9,34 @@ use std::io::{ErrorKind, Write};
 use std::{fs, io};
 use tough::{FileKind, Files, FilesError};
 
-/// The system's files, of which each is synced as it gets its name, and the folder then. A file that stands there with the same bytes stays. They
-/// are written alone, one after another: all other calls fail.
+/// The system's files, of which each is synced as it is written, and the folder where it gets its name. They are written alone: all other calls
+/// fail.
 #[derive(Drop)]
 pub(crate) struct Synced<R> {
     rt: R,
-    // The bytes of the file that has no name yet.
-    bytes: Vec<u8>,
     failures: u64,
     fault: Option<io::Error>,
 }
 
-// Makes a file of the bytes where nothing stands, and waits until they are there.
-fn make<R: Host>(rt: &R, path: &str, bytes: &[u8]) -> io::Result<()> {
-    let mut file = OpenOptions::new()
+// Makes an empty file where nothing stands.
+fn make<R: Host>(rt: &R, path: &str) -> io::Result<()> {
+    OpenOptions::new()
         .write(true)
         .create_new(true)
-        .open(rt, path)?;
+        .open(rt, path)?
+        .sync_all()
+}
+
+// Appends to a file, and waits until the bytes are there.
+fn append<R: Host>(rt: &R, path: &str, bytes: &[u8]) -> io::Result<()> {
+    let mut file = OpenOptions::new().append(true).open(rt, path)?;
     file.write_all(bytes)?;
     file.sync_all()
 }
 
-// Whether the file at the path has these bytes.
-fn has<R: Host>(rt: &R, path: &str, bytes: &[u8]) -> bool {
-    match fs::read(rt, path) {
-        Ok(there) => there.as_slice() == bytes,
-        Err(_) => false,
-    }
-}
-
-// Has the bytes stand at a path, by way of a file at another one, and waits until the folder has the name.
-fn put<R: Host>(rt: &R, from: &str, to: &str, bytes: &[u8]) -> io::Result<()> {
-    if !has(rt, to, bytes) {
-        make(rt, from, bytes)?;
-        fs::rename(rt, from, to)?;
-    }
+// Moves a file, and waits until the folder has its name.
+fn rename<R: Host>(rt: &R, from: &str, to: &str) -> io::Result<()> {
+    fs::rename(rt, from, to)?;
     let (folder, _) = split(to);
     fs::open(rt, folder)?.sync_all()
 }
@@ -51,27 +44,16 @@ fn put<R: Host>(rt: &R, from: &str, to: &str, bytes: &[u8]) -> io::Result<()> {
 impl<R: Host> Synced<R> {
     /// The files that the runtime reaches.
     pub(crate) fn new(rt: R) -> Synced<R> {
-        let bytes = Vec::new(rt.alloc());
         Synced {
             rt,
-            bytes,
             failures: 0,
             fault: None,
         }
     }
 
-    /// What the system said when a call last failed, but for a removal.
+    /// What the system said when a call last failed.
     pub(crate) fn into_fault(self) -> Option<io::Error> {
         self.fault
-    }
-
-    // Counts a failure of which nothing is told.
-    fn miss(&mut self) -> FilesError
-        ensures result { result ≡ FilesError.Failed }
-        ensures count { self.new.failures ≡ (self.old.failures + 1) % 2 ^ 64 }
-    {
-        self.failures = self.failures.wrapping_add(1);
-        FilesError::Failed
     }
 
     // Counts a failure.
@@ -115,22 +97,24 @@ impl<R: Host> Files for Synced<R> {
     }
 
     fn create_temp(&mut self, folder: &str) -> Result<String, FilesError> {
-        self.bytes.clear();
-        match fresh_path(&self.rt, folder) {
-            Ok(path) => Ok(path),
-            Err(_) => Err(self.refuse()),
+        let Ok(path) = fresh_path(&self.rt, folder) else {
+            return Err(self.refuse());
+        };
+        match make(&self.rt, path.as_str()) {
+            Ok(()) => Ok(path),
+            Err(error) => Err(self.fail(error)),
         }
     }
 
-    fn append(&mut self, _path: &str, bytes: &[u8]) -> Result<(), FilesError> {
-        match self.bytes.extend_from_slice(bytes) {
+    fn append(&mut self, path: &str, bytes: &[u8]) -> Result<(), FilesError> {
+        match append(&self.rt, path, bytes) {
             Ok(()) => Ok(()),
-            Err(_) => Err(FilesError::Memory),
+            Err(error) => Err(self.fail(error)),
         }
     }
 
     fn rename(&mut self, from: &str, to: &str) -> Result<(), FilesError> {
-        match put(&self.rt, from, to, self.bytes.as_slice()) {
+        match rename(&self.rt, from, to) {
             Ok(()) => Ok(()),
             Err(error) => Err(self.fail(error)),
         }
@@ -147,7 +131,7 @@ impl<R: Host> Files for Synced<R> {
     fn remove(&mut self, path: &str) -> Result<(), FilesError> {
         match fs::remove_file(&self.rt, path) {
             Ok(()) => Ok(()),
-            Err(_) => Err(self.miss()),
+            Err(error) => Err(self.fail(error)),
         }
     }
 

@@ -131,25 +131,6 @@ pub(crate) fn replace(
     or_told(alloc, name, edits.replace_targets(alloc, document))
 }
 
-/// The document of a bin that its holders signed, or the one that stands where it is this very document.
-pub(crate) fn taken_over(
-    alloc: Global,
-    share: &Share,
-    document: &Signed<Targets>,
-    standing: Option<Signed<DelegatedTargets>>,
-) -> Result<Signed<DelegatedTargets>, Fault> {
-    let name = share.name.as_str();
-    if share.version != Some(document.signed.version) {
-        return named(alloc, name, document);
-    }
-    if let Some(there) = standing {
-        if there.signed.targets == document.signed {
-            return Ok(there);
-        }
-    }
-    Err(refused(alloc, name, ANOTHER))
-}
-
 // Checks that enough of the role's keys signed the document.
 fn verify(
     alloc: Global,

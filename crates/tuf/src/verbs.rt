@@ -1,6 +1,5 @@
 //! The verbs, as the words ask for them.
 
-use crate::bins::{Bins, WANTED};
 use crate::check::{Look, Looking};
 use crate::fault::{Fault, misspelt};
 use crate::get::{Fetching, Wish, get};
@@ -99,7 +98,6 @@ fn run_root<R: Host>(rt: &R, matches: &ArgMatches<'_>) -> Result<String, Fault> 
 fn run_publishing<R: Host>(
     rt: &R,
     given: &ArgMatches<'_>,
-    bins: Option<Bins>,
     delegating: Option<&Delegating<'_>>,
 ) -> Result<String, Fault> {
     let alloc = rt.alloc();
@@ -118,23 +116,9 @@ fn run_publishing<R: Host>(
         role_keys: role_keys.as_slice(),
         expires: expires.as_slice(),
         taken: taken.as_slice(),
-        bins,
         delegating,
     };
     publish(rt, &words)
-}
-
-fn run_publish<R: Host>(rt: &R, given: &ArgMatches<'_>) -> Result<String, Fault> {
-    let Some(number) = given.get_str("bins") else {
-        return run_publishing(rt, given, None, None);
-    };
-    match number.parse::<u64>() {
-        Ok(count) => match Bins::new(count) {
-            Some(bins) => run_publishing(rt, given, Some(bins), None),
-            None => Err(misspelt(rt.alloc(), number, WANTED)),
-        },
-        Err(_) => Err(misspelt(rt.alloc(), number, WANTED)),
-    }
 }
 
 fn run_delegate<R: Host>(rt: &R, given: &ArgMatches<'_>) -> Result<String, Fault> {
@@ -153,7 +137,7 @@ fn run_delegate<R: Host>(rt: &R, given: &ArgMatches<'_>) -> Result<String, Fault
         terminating: given.get_flag("terminating"),
         file: text(given, "file"),
     };
-    run_publishing(rt, given, None, Some(&delegating))
+    run_publishing(rt, given, Some(&delegating))
 }
 
 fn run_role<R: Host>(rt: &R, matches: &ArgMatches<'_>) -> Result<String, Fault> {
@@ -241,7 +225,7 @@ pub(crate) fn run<R: Host>(
     match matches.subcommand() {
         Some(("key", given)) => run_key(rt, given),
         Some(("root", given)) => run_root(rt, given),
-        Some(("publish", given)) => run_publish(rt, given),
+        Some(("publish", given)) => run_publishing(rt, given, None),
         Some(("delegate", given)) => run_delegate(rt, given),
         Some(("role", given)) => run_role(rt, given),
         Some(("refresh", given)) => run_refresh(rt, given),

@@ -201,7 +201,7 @@ fn published<'a>(alloc: Global, verb: Command<'a>) -> Result<Command<'a>, AllocE
             alloc,
             "role-key",
             "NAME=FILE",
-            "A secret of a new role, or of all bins; else the keys of the targets sign for it",
+            "A secret of a new role; else the keys of the targets sign for it",
         ))?
         .arg(several(
             alloc,
@@ -223,12 +223,7 @@ fn publish<'a>(alloc: Global) -> Result<Command<'a>, AllocError> {
         "publish",
         "Makes a repository of the files of a folder, or its next version",
     );
-    published(alloc, verb)?.arg(option(
-        alloc,
-        "bins",
-        "N",
-        "Divide the files among N roles, evenly by the digests of their names; a power of two from 2 to 65536",
-    ))
+    published(alloc, verb)
 }
 
 fn delegate<'a>(alloc: Global) -> Result<Command<'a>, AllocError> {
