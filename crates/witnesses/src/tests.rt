@@ -1,8 +1,8 @@
 use super::*;
 use jiff::Timestamp;
 use std::test::Fail;
-use tough_demo::{RepositoryFiles, chain, repository};
-use tough_load::{Extent, FixedClock, MemoryStore, RepositoryLoader, Vault};
+use tough_demo::{RepositoryFiles, repository};
+use tough_load::{FixedClock, MemoryStore, RepositoryLoader, Vault};
 use tough_net::{Limits, MemoryTransport};
 use tough_roles::DemoVerify;
 use url::Url;
@@ -82,32 +82,6 @@ fn a_load_ends_with_documents(rt: HostRuntime) -> Result<(), Fail> {
         .clock(FixedClock(Timestamp::UNIX_EPOCH))
         .keeper(&mut vault);
     drop(load::ended_load(&rt, loader)?);
-    Ok(())
-}
-
-// Loads the documents of this extent from a repository whose delegated role has no file.
-fn ends_without_the_role(rt: &HostRuntime, extent: Extent) -> Result<bool, Fail> {
-    let alloc = rt.alloc();
-    let mut files = chain(alloc, 1, 1)?;
-    files
-        .files
-        .retain(|file| !file.path.as_str().ends_with(".r0.json"));
-    let mut vault = Vault::new(alloc, MemoryStore::new(alloc));
-    let metadata = Url::parse(alloc, "http://localhost/metadata/")?;
-    let targets = Url::parse(alloc, "http://localhost/targets/")?;
-    let loader = RepositoryLoader::new(alloc, files.root.as_slice(), metadata, targets)
-        .transport(serve(rt, &files)?)
-        .verifier(DemoVerify)
-        .clock(FixedClock(Timestamp::UNIX_EPOCH))
-        .keeper(&mut vault)
-        .extent(extent);
-    Ok(load::ended_load(rt, loader).is_ok())
-}
-
-#[test]
-fn the_top_level_needs_no_role(rt: HostRuntime) -> Result<(), Fail> {
-    assert!(rt; ends_without_the_role(&rt, Extent::TopLevel)?);
-    assert!(rt; !ends_without_the_role(&rt, Extent::Whole)?);
     Ok(())
 }
 
